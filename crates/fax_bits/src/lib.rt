@@ -1,0 +1,17 @@
+//! Bits of octets, the most significant bit of an octet first: a reader and a writer.
+//!
+//! This is the order of ITU-T T.30, 5.3.1, in which a page's octets are handed over by ITU-T T.38.
+#![tactic(auto)]
+
+pub mod laws;
+mod memory;
+mod octets;
+mod reader;
+#[cfg(test)]
+mod tests;
+mod writer;
+
+pub use memory::NoMemory;
+pub use octets::Octets;
+pub use reader::BitReader;
+pub use writer::BitWriter;
