@@ -1,0 +1,12 @@
+pub mod ChangesOfRow
+pub mod Fronts
+pub mod PaintedLemmas
+pub mod ReadLemmas
+pub mod RowLaws
+pub mod RunLaws
+pub mod RunLemmas
+pub mod RunsOfRow
+pub mod TableRules
+pub mod WordLaws
+pub mod WriteLemmas
+pub mod WrittenRules

@@ -1,0 +1,11 @@
+pub mod CodeTables
+pub mod Entries
+pub mod FaultNumbers
+pub mod Laws
+pub mod Lookups
+pub mod Painted
+pub mod RowLaws
+pub mod Rows
+pub mod RunFaults
+pub mod Spelling
+pub mod Widths

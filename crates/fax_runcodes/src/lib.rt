@@ -1,0 +1,61 @@
+//! The code words of ITU-T T.4, the runs that they spell, and the rows of a page.
+#![tactic(auto)]
+
+mod fault;
+pub mod laws;
+mod row;
+mod run;
+mod tables;
+
+pub use fault::{RowFault, RunFault};
+pub use row::{Row, RowBuilder, Runs};
+pub use run::{LONGEST_WRITTEN_RUN, read_run, word_at, write_run};
+pub use tables::CodeWord;
+
+/// The colour of an element.
+#[derive(Clone, Copy, PartialEq, Eq, Debug)]
+pub enum Colour {
+    White,
+    Black,
+}
+
+impl Colour {
+    ghost use Rattle.std.specs.Prelude.{◌≡◌};
+    ghost use Rattle.fax_runcodes.specs.Rows.{other};
+
+    /// The other colour.
+    #[inline]
+    pub fn other(self) -> Colour
+        ensures { result ≡ other self }
+    {
+        match self {
+            Colour::White => Colour::Black,
+            Colour::Black => Colour::White,
+        }
+    }
+}
+
+/// The width of a row (ITU-T T.4, 2.1 and 2.2): 1728, 2048 or 2432 elements.
+#[derive(Clone, Copy, PartialEq, Eq, Debug)]
+pub enum Width {
+    W1728,
+    W2048,
+    W2432,
+}
+
+impl Width {
+    ghost use Rattle.std.specs.Prelude.{◌≡◌};
+    ghost use Rattle.fax_runcodes.specs.Widths.{elements_of};
+
+    /// How many elements a row of this width has.
+    #[inline]
+    pub fn elements(self) -> u16
+        ensures { result ≡ elements_of self }
+    {
+        match self {
+            Width::W1728 => 1728,
+            Width::W2048 => 2048,
+            Width::W2432 => 2432,
+        }
+    }
+}

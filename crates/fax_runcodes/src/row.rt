@@ -1,0 +1,263 @@
+//! Rows, kept as their changing places.
+ghost use Rattle.std.specs.Prelude.{◌≡◌, ◌+◌, ◌<◌, ◌≤◌, ◌^◌, ◌++◌, [], ◌⊎◌, length, replicate, drop, sum, All, slice_get, Some, IfOk, IfSome, IsSome, IsNone, IsTrue, ◌↔◌};
+ghost use Rattle.fax_runcodes.specs.Rows.{IsWidth, AreRunsOfRow};
+ghost use Rattle.fax_runcodes.specs.Painted.{painted, changes_between, AreRising, colour_after_changes};
+
+#[cfg(test)]
+mod tests;
+
+use crate::{Colour, RowFault};
+use fax_bits::NoMemory;
+use std::alloc::{AllocError, Global};
+use std::marker::Model;
+
+/// The longest row, in elements.
+pub const MOST_ELEMENTS: u16 = 2432;
+
+/// A row of a page.
+#[derive(Drop)]
+pub struct Row {
+    changes: Vec<u16>,
+    width: u16,
+}
+
+impl Model for Row {
+    ghost use Rattle.fax_runcodes.specs.Rows.{Elements, IsWidth};
+    ghost use Rattle.fax_runcodes.specs.Painted.{painted, AreRising};
+    ghost use Rattle.fax_runcodes.specs.declared.Colour.TheVariants.{White};
+
+    ghost Value = { Elements };
+
+    ghost view = { λ r. painted White 0 r.changes.items r.width };
+
+    ghost invariant = { λ r. AreRising 0 r.changes.items r.width × IsWidth r.width };
+}
+
+/// Run lengths, which contracts see as their list.
+#[derive(Debug, Drop)]
+pub struct Runs {
+    runs: Vec<u16>,
+}
+
+impl Model for Runs {
+    ghost use Rattle.std.specs.Prelude.{List, ℕ};
+
+    ghost Value = { List ℕ };
+
+    ghost view = { λ r. r.runs.items };
+}
+
+impl Runs {
+    /// The lengths in order. It takes no memory.
+    pub fn as_slice(&self) -> &[u16]
+        ensures { result.now ≡ self.now }
+    {
+        self.runs.as_slice()
+    }
+}
+
+impl Row {
+    ghost use Rattle.fax_runcodes.specs.Rows.{AreRuns, AreChanges, stretches};
+    ghost use Rattle.fax_runcodes.specs.declared.Colour.TheVariants.{White};
+
+    /// The row of such run lengths, white first. They are judged before any memory is taken, and the
+    /// row is made in one allocation of just its size.
+    pub fn from_runs(alloc: Global, runs: &[u16]) -> Result<Row, RowFault>
+        ensures ok { IfOk result (λ row. AreRunsOfRow runs.now × (row ≡ stretches White runs.now)) }
+        ensures made { AreRunsOfRow runs.now → (result ≡ Ok (stretches White runs.now)) ⊎ (result ≡ Err RowFault.NoMemory) }
+        ensures refused { (AreRunsOfRow runs.now → ⊥) → result ≡ Err RowFault.BadRuns }
+    {
+        let width = width_of(runs).ok_or(RowFault::BadRuns)?;
+        let changes = changes_of(alloc, runs)?;
+        Ok(Row { changes, width })
+    }
+
+    /// The lengths of its runs, white first: alternating, and none but the first is 0.
+    pub fn runs(&self) -> Result<Runs, NoMemory>
+        ensures { IfOk result (λ runs. AreRuns runs self.now) }
+    {
+        let mut runs = Vec::with_capacity(*self.changes.allocator(), self.changes.len() + 1)?;
+        let mut from = 0;
+        for place in &self.changes {
+            runs.push_reserved(*place - from);
+            from = *place;
+        }
+        runs.push_reserved(self.width - from);
+        Ok(Runs { runs })
+    }
+
+    /// The places at which the colour changes, rising. It takes no memory.
+    pub fn changes(&self) -> &[u16]
+        ensures rising { AreRising 0 result.now (length self.now) }
+        ensures painted { self.now ≡ painted White 0 result.now (length self.now) }
+        ensures changes { AreChanges result.now self.now }
+    {
+        self.changes.as_slice()
+    }
+
+    /// The colour of element i.
+    pub fn colour_at(&self, i: u16) -> Colour
+        requires { i < length self.now }
+        ensures { slice_get self.now i ≡ Some result }
+    {
+        colour_behind(self.changes.as_slice().partition_point(|place| *place <= i))
+    }
+
+    /// An equal row.
+    pub fn copy(&self) -> Result<Row, NoMemory>
+        ensures { IfOk result (λ row. row ≡ self.now) }
+    {
+        Ok(Row {
+            changes: Vec::from_slice(*self.changes.allocator(), self.changes.as_slice())?,
+            width: self.width,
+        })
+    }
+
+    /// How many elements it has.
+    pub fn width(&self) -> u16
+        ensures { result ≡ length self.now }
+    {
+        self.width
+    }
+}
+
+/// A row that is being made, from left to right. It has room for any row from the start on, and one
+/// builder serves row after row.
+#[derive(Drop)]
+pub struct RowBuilder {
+    changes: Vec<u16>,
+    len: u16,
+}
+
+impl Model for RowBuilder {
+    ghost use Rattle.std.specs.Prelude.{◌≤◌, vec_capacity};
+    ghost use Rattle.fax_runcodes.specs.Rows.{Elements};
+    ghost use Rattle.fax_runcodes.specs.Painted.{painted, AreRising};
+    ghost use Rattle.fax_runcodes.specs.declared.Colour.TheVariants.{White};
+
+    ghost Value = { Elements };
+
+    ghost view = { λ r. painted White 0 r.changes.items r.len };
+
+    // There is room for a change at each element.
+    ghost invariant = { λ r. AreRising 0 r.changes.items r.len × (r.len ≤ 2432) × (2432 ≤ vec_capacity r.changes) };
+}
+
+impl RowBuilder {
+    /// A builder of no elements, with room for the longest row.
+    pub fn new(alloc: Global) -> Result<Self, NoMemory>
+        ensures { IfOk result (λ row. row ≡ []) }
+    {
+        Ok(RowBuilder {
+            changes: Vec::with_capacity(alloc, usize::from(MOST_ELEMENTS))?,
+            len: 0,
+        })
+    }
+
+    /// How many elements it has so far.
+    #[inline]
+    pub fn len(&self) -> u16
+        ensures len { result ≡ length self.now }
+        ensures few { result ≤ 2432 }
+    {
+        self.len
+    }
+
+    /// Adds n elements of a colour. It takes no memory.
+    #[inline]
+    pub fn paint(&mut self, colour: Colour, n: u16)
+        requires { length self.old + n ≤ 2432 }
+        ensures { self.new ≡ self.old ++ replicate n colour }
+    {
+        if n == 0 {
+            return;
+        }
+        if colour != colour_behind(self.changes.len()) {
+            self.changes.push_reserved(self.len);
+        }
+        self.len += n;
+    }
+
+    /// Takes away all elements. It takes no memory.
+    #[inline]
+    pub fn clear(&mut self)
+        ensures { self.new ≡ [] }
+    {
+        self.changes.clear();
+        self.len = 0;
+    }
+
+    /// The row so far, in memory of just its size, once it has a width. The builder stays as it is.
+    pub fn row(&self) -> Result<Row, NoMemory>
+        requires { IsWidth (length self.now) }
+        ensures { IfOk result (λ row. row ≡ self.now) }
+    {
+        let changes = Vec::from_slice(*self.changes.allocator(), self.changes.as_slice())?;
+        Ok(Row {
+            changes,
+            width: self.len,
+        })
+    }
+}
+
+/// The width of the row of such run lengths, or `None` where they are no row's.
+fn width_of(runs: &[u16]) -> Option<u16>
+    ensures judged { IsSome result ↔ AreRunsOfRow runs.now }
+    ensures width { IfSome result (λ width. width ≡ sum runs.now) }
+{
+    let width = sum_of(runs)?;
+    (is_width(width) && are_filled(runs)).then_some(width)
+}
+
+/// Whether rows are so wide.
+fn is_width(n: u16) -> bool
+    ensures { IsTrue result ↔ IsWidth n }
+{
+    matches!(n, 1728 | 2048 | 2432)
+}
+
+/// Whether no run but the first is 0.
+fn are_filled(runs: &[u16]) -> bool
+    ensures { IsTrue result ↔ All (λ n. 0 < n) (drop 1 runs.now) }
+{
+    runs.iter().skip(1).all(|run| *run > 0)
+}
+
+/// The sum of run lengths, or `None` where it is more than a `u16` holds.
+fn sum_of(runs: &[u16]) -> Option<u16>
+    ensures some { IfSome result (λ total. total ≡ sum runs.now) }
+    ensures none { IsNone result → 2 ^ 16 ≤ sum runs.now }
+{
+    let mut total: u16 = 0;
+    for run in runs {
+        total = total.checked_add(*run)?;
+    }
+    Some(total)
+}
+
+/// The places at which the colour changes in the row of such run lengths: where each run but the last
+/// ends.
+fn changes_of(alloc: Global, runs: &[u16]) -> Result<Vec<u16>, AllocError>
+    requires { AreRunsOfRow runs.now }
+    ensures { IfOk result (λ changes. changes.items ≡ changes_between 0 runs.now) }
+{
+    let mut changes = Vec::with_capacity(alloc, runs.len() - 1)?;
+    let mut place = 0;
+    for run in &runs[..runs.len() - 1] {
+        place += *run;
+        changes.push_reserved(place);
+    }
+    Ok(changes)
+}
+
+/// The colour behind so many changes, white first.
+#[inline]
+fn colour_behind(changes: usize) -> Colour
+    ensures { result ≡ colour_after_changes changes }
+{
+    if changes % 2 == 0 {
+        Colour::White
+    } else {
+        Colour::Black
+    }
+}

@@ -1,0 +1,99 @@
+//! Rows, made of run lengths and by a builder.
+use super::{Row, RowBuilder};
+use crate::Colour::{Black, White};
+use crate::{Colour, RowFault, Width};
+use std::test::Fail;
+
+#[test]
+fn makes_a_row_of_runs_and_gives_them_back(rt: HostRuntime) -> Result<(), Fail> {
+    let cases: [(&[u16], Colour, Colour); 9] = [
+        (&[1728], White, White),
+        (&[0, 1728], Black, Black),
+        (&[4, 1, 1723], White, White),
+        (&[2, 2, 1724], White, White),
+        (&[0, 3, 1725], Black, White),
+        (&[1000, 728], White, Black),
+        (&[2048], White, White),
+        (&[0, 2432], Black, Black),
+        (&[0, 1, 2431], Black, White),
+    ];
+    for (runs, first, last) in cases {
+        let row = Row::from_runs(rt.alloc(), runs)?;
+        assert_eq!(rt; row.runs()?.as_slice(), runs);
+        assert_eq!(rt; row.copy()?.runs()?.as_slice(), runs);
+        assert_eq!(rt; row.colour_at(0), first);
+        assert_eq!(rt; row.colour_at(row.width() - 1), last);
+    }
+    Ok(())
+}
+
+#[test]
+fn refuses_runs_that_are_no_rows(rt: HostRuntime) -> Result<(), Fail> {
+    let cases: [&[u16]; 8] = [
+        &[],
+        &[1000],
+        &[0],
+        &[5, 0, 1723],
+        &[1728, 0],
+        &[1729],
+        &[65535; 40],
+        &[60000, 7264],
+    ];
+    for runs in cases {
+        let fault = Row::from_runs(rt.alloc(), runs).err();
+        assert_eq!(rt; fault, Some(RowFault::BadRuns));
+    }
+    Ok(())
+}
+
+#[test]
+fn gives_places_and_colours(rt: HostRuntime) -> Result<(), Fail> {
+    let row = Row::from_runs(rt.alloc(), &[4, 1, 1723])?;
+    assert_eq!(rt; row.changes(), [4, 5].as_slice());
+    for (place, colour) in [(3, White), (4, Black), (5, White)] {
+        assert_eq!(rt; row.colour_at(place), colour, "at {place}");
+    }
+    let black = Row::from_runs(rt.alloc(), &[0, 1728])?;
+    assert_eq!(rt; black.changes(), [0].as_slice());
+    Ok(())
+}
+
+#[test]
+fn numbers_colours_and_widths(rt: HostRuntime) -> Result<(), Fail> {
+    assert_eq!(rt; RowFault::BadRuns.number(), 1);
+    assert_eq!(rt; RowFault::NoMemory.number(), 2);
+    assert_eq!(rt; White.other(), Black);
+    assert_eq!(rt; Black.other(), White);
+    let widths = [
+        (Width::W1728, 1728),
+        (Width::W2048, 2048),
+        (Width::W2432, 2432),
+    ];
+    for (width, elements) in widths {
+        assert_eq!(rt; width.elements(), elements);
+    }
+    Ok(())
+}
+
+#[test]
+fn builds_rows(rt: HostRuntime) -> Result<(), Fail> {
+    let mut builder = RowBuilder::new(rt.alloc())?;
+    builder.paint(White, 0);
+    builder.paint(Black, 0);
+    assert_eq!(rt; builder.len(), 0);
+
+    builder.paint(White, 1);
+    builder.paint(Black, 0);
+    builder.paint(White, 1727);
+    assert_eq!(rt; builder.len(), 1728);
+    assert_eq!(rt; builder.row()?.runs()?.as_slice(), [1728].as_slice());
+
+    builder.clear();
+    builder.paint(Black, 2);
+    builder.paint(Black, 1);
+    builder.paint(White, 2045);
+    let row = builder.row()?;
+    assert_eq!(rt; row.width(), 2048);
+    assert_eq!(rt; row.runs()?.as_slice(), [0, 3, 2045].as_slice());
+    Ok(())
+}

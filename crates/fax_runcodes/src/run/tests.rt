@@ -1,0 +1,103 @@
+//! Runs and the bits that spell them, by the tables of ITU-T T.4.
+use super::{read_run, word_at, write_run};
+use crate::Colour;
+use crate::Colour::{Black, White};
+use crate::fault::RunFault;
+use crate::tables::CodeWord;
+use fax_bits::{BitReader, BitWriter, NoMemory, Octets};
+use std::alloc::Global;
+use std::test::Fail;
+
+/// The octets of the bits that a text of the digits 0 and 1 shows.
+fn octets_of(alloc: Global, digits: &str) -> Result<Octets, NoMemory> {
+    let mut writer = BitWriter::new(alloc);
+    for digit in digits.bytes() {
+        writer.put(u32::from(digit == b'1'), 1)?;
+    }
+    Ok(writer.finish())
+}
+
+#[test]
+fn writes_the_words_of_the_tables(rt: HostRuntime) -> Result<(), Fail> {
+    let cases = [
+        (White, 0, "00110101"),
+        (White, 2, "0111"),
+        (White, 63, "00110100"),
+        (White, 64, "1101100110101"),
+        (White, 1728, "01001101100110101"),
+        (White, 2623, "00000001111100110100"),
+        (Black, 0, "0000110111"),
+        (Black, 2, "11"),
+        (Black, 63, "000001100111"),
+        (Black, 572, "0000001101100000000101100"),
+        (Black, 1792, "000000010000000110111"),
+        (Black, 2623, "000000011111000001100111"),
+    ];
+    for (colour, run, digits) in cases {
+        let mut writer = BitWriter::new(rt.alloc());
+        write_run(&mut writer, colour, run)?;
+        assert_eq!(rt; writer.bits(), digits.len() as u128, "at {run}");
+        let want = octets_of(rt.alloc(), digits)?;
+        assert_eq!(rt; writer.finish().as_slice(), want.as_slice(), "at {run}");
+    }
+    Ok(())
+}
+
+#[test]
+fn reads_a_run_or_says_why_not(rt: HostRuntime) -> Result<(), Fail> {
+    let cases = [
+        (White, "01001101100110101", Ok(1728)),
+        // 1728, 704 and 0
+        (White, "01001101101100110000110101", Ok(2432)),
+        // 1728, 704 and 1
+        (White, "010011011011001100000111", Err(RunFault::TooLong)),
+        // 2560
+        (Black, "000000011111", Err(RunFault::TooLong)),
+        (White, "00000000", Err(RunFault::NoWord)),
+        (Black, "0000000000001", Err(RunFault::NoWord)),
+        // 64, and then no word
+        (White, "1101100000000", Err(RunFault::NoWord)),
+        (White, "", Err(RunFault::End)),
+        // inside 1728, and inside 64 behind 64
+        (White, "01001101", Err(RunFault::End)),
+        (Black, "0000001111000000", Err(RunFault::End)),
+    ];
+    for (colour, digits, want) in cases {
+        let octets = octets_of(rt.alloc(), digits)?;
+        let mut reader = BitReader::new(octets.as_slice());
+        assert_eq!(rt; read_run(&mut reader, colour), want, "at {digits}");
+    }
+    Ok(())
+}
+
+#[test]
+fn reads_each_run_that_is_written(rt: HostRuntime) -> Result<(), Fail> {
+    for colour in [White, Black] {
+        let mut writer = BitWriter::new(rt.alloc());
+        for run in 0..=2432 {
+            write_run(&mut writer, colour, run)?;
+        }
+        let octets = writer.finish();
+        let mut reader = BitReader::new(octets.as_slice());
+        for run in 0..=2432 {
+            assert_eq!(rt; read_run(&mut reader, colour), Ok(run));
+        }
+        assert!(rt; reader.left() < 8);
+    }
+    Ok(())
+}
+
+#[test]
+fn looks_up_a_word(rt: HostRuntime) {
+    let window = 0b0111 << 52;
+    assert_eq!(rt; word_at(White, window), CodeWord { run: 2, bits: 4 });
+    assert_eq!(rt; word_at(Black, window), CodeWord { run: 4, bits: 3 });
+    assert!(rt; word_at(Black, 0).is_none());
+}
+
+#[test]
+fn numbers_the_faults(rt: HostRuntime) {
+    assert_eq!(rt; RunFault::NoWord.number(), 1);
+    assert_eq!(rt; RunFault::TooLong.number(), 2);
+    assert_eq!(rt; RunFault::End.number(), 3);
+}

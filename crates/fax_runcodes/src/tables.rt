@@ -1,0 +1,33 @@
+//! The code words of each colour: by the bits that begin with them, and by the runs that they stand for.
+pub(crate) mod black;
+pub(crate) mod white;
+pub(crate) mod written;
+
+/// A code word: the run that it stands for, in elements, and how many bits it has.
+#[derive(Clone, Copy, PartialEq, Eq, Debug)]
+pub struct CodeWord {
+    pub run: u16,
+    pub bits: u16,
+}
+
+/// The run of an answer that there is no word: longer than that of each word.
+pub(crate) const NO_RUN: u16 = 4095;
+
+/// What stands where no word begins the bits.
+pub(crate) const NO_WORD: CodeWord = CodeWord {
+    run: NO_RUN,
+    bits: 0,
+};
+
+impl CodeWord {
+    ghost use Rattle.std.specs.Prelude.{◌≡◌, ◌↔◌, IsTrue};
+    ghost use Rattle.fax_runcodes.specs.Lookups.{no_run};
+
+    /// Whether it is the answer that there is no word.
+    #[inline]
+    pub fn is_none(self) -> bool
+        ensures { IsTrue result ↔ (self.run ≡ no_run) }
+    {
+        self.run == NO_RUN
+    }
+}
