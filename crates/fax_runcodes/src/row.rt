@@ -113,9 +113,10 @@ impl Row {
         })
     }
 
-    /// How many elements it has.
+    /// How many elements it has: 1728, 2048 or 2432.
     pub fn width(&self) -> u16
-        ensures { result ≡ length self.now }
+        ensures len { result ≡ length self.now }
+        ensures is_width { IsWidth result }
     {
         self.width
     }
