@@ -1,0 +1,5 @@
+pub mod LineLaws
+pub mod LineLemmas
+pub mod FaultLaws
+pub mod WriteLemmas
+pub mod WrittenLaws

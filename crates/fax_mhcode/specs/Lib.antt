@@ -1,0 +1,4 @@
+pub mod FaultNumbers
+pub mod Laws
+pub mod LineFaults
+pub mod Lines

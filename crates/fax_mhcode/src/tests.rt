@@ -1,0 +1,173 @@
+//! One-dimensional lines, by the tables of ITU-T T.4.
+use super::{LineFault, read_line_1d, read_line_1d_into, write_line_1d};
+use fax_bits::{BitReader, BitWriter, NoMemory, Octets};
+use fax_runcodes::Colour::{Black, White};
+use fax_runcodes::Width::{W1728, W2048, W2432};
+use fax_runcodes::{Row, RowBuilder, RunFault, Width};
+use std::alloc::Global;
+use std::process::Abort;
+use std::test::Fail;
+
+/// The octets of the bits that a text of the digits 0 and 1 shows.
+fn octets_of(alloc: Global, digits: &str) -> Result<Octets, NoMemory> {
+    let mut writer = BitWriter::new(alloc);
+    for digit in digits.bytes() {
+        writer.put(u32::from(digit == b'1'), 1)?;
+    }
+    Ok(writer.finish())
+}
+
+/// The octets in which a row is written.
+fn octets_of_row(alloc: Global, row: &Row) -> Result<Octets, NoMemory> {
+    let mut writer = BitWriter::new(alloc);
+    write_line_1d(&mut writer, row)?;
+    Ok(writer.finish())
+}
+
+/// The row of these runs, white first, which add to a width.
+fn row_of(rt: &impl Abort, alloc: Global, runs: &[u16]) -> Result<Row, NoMemory> {
+    let mut line = RowBuilder::new(alloc)?;
+    let mut colour = White;
+    for run in runs {
+        assert!(rt; *run <= 2432 - line.len());
+        line.paint(colour, *run);
+        colour = colour.other();
+    }
+    assert!(rt; matches!(line.len(), 1728 | 2048 | 2432));
+    line.row()
+}
+
+/// The row of this width whose elements are white and black in turn.
+fn alternating(rt: &impl Abort, alloc: Global, width: Width) -> Result<Row, NoMemory> {
+    let mut line = RowBuilder::new(alloc)?;
+    for _ in 0..width.elements() / 2 {
+        assert!(rt; line.len() <= 2430);
+        line.paint(White, 1);
+        line.paint(Black, 1);
+    }
+    assert!(rt; line.len() == width.elements());
+    line.row()
+}
+
+#[test]
+fn reads_and_writes_a_white_line(rt: HostRuntime) -> Result<(), Fail> {
+    let mut reader = BitReader::new(&[0x4d, 0x9a, 0x80]);
+    let row = read_line_1d(rt.alloc(), &mut reader, W1728)?;
+    assert_eq!(rt; row.width(), 1728);
+    assert!(rt; row.changes().is_empty());
+    assert_eq!(rt; reader.place(), 17);
+    let octets = octets_of_row(rt.alloc(), &row)?;
+    assert_eq!(rt; octets.as_slice(), [0x4d, 0x9a, 0x80].as_slice());
+    Ok(())
+}
+
+#[test]
+fn reads_line_after_line_into_one_builder(rt: HostRuntime) -> Result<(), Fail> {
+    let cases: [(Width, &str, &[u16]); 6] = [
+        // white 1, black 0 and white 1664 + 63
+        (W1728, "000111000011011101100000110100", &[]),
+        // white 0, black 1728 + 0
+        (W1728, "0011010100000011001010000110111", &[0]),
+        // white 1, black 1984 + 63
+        (W2048, "000111000000010010000001100111", &[1]),
+        // white 1728 + 704 + 0
+        (W2432, "01001101101100110000110101", &[]),
+        // white 2432 + 0
+        (W2432, "00000001110100110101", &[]),
+        // white 2, black 3, white 2368 + 59
+        (W2432, "01111000000001110001001010", &[2, 5]),
+    ];
+    let mut line = RowBuilder::new(rt.alloc())?;
+    for (width, digits, changes) in cases {
+        line.clear();
+        let octets = octets_of(rt.alloc(), digits)?;
+        let mut reader = BitReader::new(octets.as_slice());
+        read_line_1d_into(&mut line, &mut reader, width)?;
+        assert_eq!(rt; reader.place(), digits.len() as u128, "at {digits}");
+        assert!(rt; matches!(line.len(), 1728 | 2048 | 2432));
+        let row = line.row()?;
+        assert_eq!(rt; row.width(), width.elements(), "at {digits}");
+        assert_eq!(rt; row.changes(), changes, "at {digits}");
+    }
+    Ok(())
+}
+
+#[test]
+fn says_why_it_reads_no_line(rt: HostRuntime) -> Result<(), Fail> {
+    let cases = [
+        (W1728, "00000000", LineFault::Run(RunFault::NoWord)),
+        // white 1, and then no word
+        (W1728, "00011100000000", LineFault::Run(RunFault::NoWord)),
+        // white 1728 + 704 + 1
+        (
+            W1728,
+            "010011011011001100000111",
+            LineFault::Run(RunFault::TooLong),
+        ),
+        (W1728, "", LineFault::Run(RunFault::End)),
+        // white 1, and then a part of black 64
+        (W1728, "000111000000111", LineFault::Run(RunFault::End)),
+        // white 1728 + 704 + 0
+        (W1728, "01001101101100110000110101", LineFault::PastWidth),
+        // white 1, black 1728 + 0
+        (W1728, "00011100000011001010000110111", LineFault::PastWidth),
+        // white 2048 + 0
+        (W1728, "00000001001100110101", LineFault::PastWidth),
+    ];
+    let mut line = RowBuilder::new(rt.alloc())?;
+    for (width, digits, fault) in cases {
+        line.clear();
+        let octets = octets_of(rt.alloc(), digits)?;
+        let mut reader = BitReader::new(octets.as_slice());
+        let result = read_line_1d_into(&mut line, &mut reader, width);
+        assert_eq!(rt; result, Err(fault), "at {digits}");
+        assert_eq!(rt; reader.place(), 0, "at {digits}");
+        assert_eq!(rt; line.len(), 0, "at {digits}");
+    }
+    Ok(())
+}
+
+#[test]
+fn writes_rows_of_one_colour(rt: HostRuntime) -> Result<(), Fail> {
+    let cases: [(&[u16], &str); 6] = [
+        (&[1728], "01001101100110101"),
+        (&[2048], "00000001001100110101"),
+        (&[2432], "00000001110100110101"),
+        (&[0, 1728], "0011010100000011001010000110111"),
+        (&[0, 2048], "001101010000000100110000110111"),
+        (&[0, 2432], "001101010000000111010000110111"),
+    ];
+    for (runs, digits) in cases {
+        let row = row_of(&rt, rt.alloc(), runs)?;
+        let mut writer = BitWriter::new(rt.alloc());
+        write_line_1d(&mut writer, &row)?;
+        assert_eq!(rt; writer.bits(), digits.len() as u128, "at {digits}");
+        let want = octets_of(rt.alloc(), digits)?;
+        assert_eq!(rt; writer.finish().as_slice(), want.as_slice(), "at {digits}");
+    }
+    Ok(())
+}
+
+#[test]
+fn reads_each_row_that_is_written(rt: HostRuntime) -> Result<(), Fail> {
+    // Each two elements take the 6 bits of white 1 and the 3 of black 1.
+    for (width, bits) in [(W1728, 7776), (W2048, 9216), (W2432, 10944)] {
+        let row = alternating(&rt, rt.alloc(), width)?;
+        let octets = octets_of_row(rt.alloc(), &row)?;
+        let mut reader = BitReader::new(octets.as_slice());
+        let read = read_line_1d(rt.alloc(), &mut reader, width)?;
+        assert_eq!(rt; reader.place(), bits);
+        assert_eq!(rt; read.width(), width.elements());
+        assert_eq!(rt; read.changes(), row.changes());
+    }
+    Ok(())
+}
+
+#[test]
+fn numbers_the_faults(rt: HostRuntime) {
+    assert_eq!(rt; LineFault::Run(RunFault::End).number(), 1);
+    assert_eq!(rt; LineFault::PastWidth.number(), 2);
+    assert_eq!(rt; LineFault::NoMode.number(), 3);
+    assert_eq!(rt; LineFault::BadPlace.number(), 4);
+    assert_eq!(rt; LineFault::NoMemory.number(), 5);
+}
