@@ -49,6 +49,7 @@ pub fn read_run(reader: &mut BitReader, colour: Colour) -> Result<u16, RunFault>
 
 /// Writes a run of n elements of a colour: from 64 on the make-up word of the largest multiple of 64,
 /// and then the terminating word of the rest (ITU-T T.4, 4.1.1). An `Err` changes nothing.
+#[inline]
 pub fn write_run(writer: &mut BitWriter, colour: Colour, n: u16) -> Result<(), NoMemory>
     requires { n ≤ LONGEST_WRITTEN_RUN }
     ensures ok { OnOk result (writer.new ≡ writer.old ++ written_run colour n) }
