@@ -1,0 +1,93 @@
+-- Lines that tell rows, one after another.
+use Rattle.std.proofs.Common.{◌≡◌, ℕ, suc, ◌+◌, List, [], ◌∷◌, ◌++◌, length, replicate, sum, take, zero, Some, slice_get, add-one, refl, inl, sym, ◌∙◌, ap, ap₂, arith, append_assoc, append-nil, length-append}
+use Rattle.std.proofs.lemmas.Grind.{flat_map-append}
+use Rattle.std.proofs.lemmas.List.Elements.{recursion_from_All, All-from_recursion}
+use Rattle.std.specs.List.{All, AllByRecursion}
+use Rattle.std.proofs.lemmas.List.{length-replicate}
+use Rattle.std.proofs.lemmas.List.Sums.{sum_by-cons}
+use Rattle.fax_runcodes.specs.declared.Colour.{Colour}
+use Rattle.fax_runcodes.specs.declared.Colour.TheVariants.{White}
+use Rattle.fax_runcodes.specs.Rows.{Elements, AreRunsOfRow, other, stretches}
+use Rattle.faxgate.specs.Answers.{ComesBehind}
+use Rattle.faxgate.specs.RowLines.{row_width, TellsRow, TellRows, IsRowLine, line_of, text_of_lines, lines_of}
+
+-- ---- one line
+
+pub length-stretches : (colour : Colour) (runs : List ℕ) → length (stretches colour runs) ≡ sum runs
+length-stretches colour [] = refl
+length-stretches colour (n ∷ runs) =
+    length-append (replicate n colour) (stretches (other colour) runs)
+    ∙ ap₂ (λ a b. a + b) (length-replicate n colour) (length-stretches (other colour) runs)
+    ∙ sym (sum_by-cons (λ x. x) n runs)
+
+-- what a line of a row is made of
+pub runs_of_line : (line : List ℕ) → IsRowLine line → (runs : List ℕ) × (sum runs ≡ row_width) × AreRunsOfRow runs × (line ≡ line_of runs)
+runs_of_line line (row, wide, told) =
+    let total : sum told.runs ≡ 1728 = sym (length-stretches White told.runs) ∙ ap length (sym told.are_runs.row_is) ∙ wide in
+    (told.runs, total, record { width = inl total; not_empty = told.are_runs.not_empty }, told.line_is)
+
+-- the row that is made of the runs of a line
+pub TellsRow-made : (line runs : List ℕ) (row : Elements) → line ≡ line_of runs → AreRunsOfRow runs → row ≡ stretches White runs → TellsRow line row
+TellsRow-made line runs row is are made = record { runs = runs; are_runs = record { row_is = made; not_empty = are.not_empty }; line_is = is }
+
+-- ---- several lines
+
+-- one more
+pub TellRows-push : (lines : List (List ℕ)) (rows : List Elements) (line : List ℕ) (row : Elements) → TellRows lines rows → TellsRow line row
+    → TellRows (lines ++ line ∷ []) (rows ++ row ∷ [])
+TellRows-push [] [] line row so_far more = (more, tt)
+TellRows-push [] (r ∷ rows) line row so_far more = absurd so_far
+TellRows-push (l ∷ lines) [] line row so_far more = absurd so_far
+TellRows-push (l ∷ lines) (r ∷ rows) line row so_far more = (so_far.0, TellRows-push lines rows line row so_far.1 more)
+
+-- as many
+pub length-TellRows : (lines : List (List ℕ)) (rows : List Elements) → TellRows lines rows → length lines ≡ length rows
+length-TellRows [] [] told = refl
+length-TellRows [] (row ∷ rows) told = absurd told
+length-TellRows (line ∷ lines) [] told = absurd told
+length-TellRows (line ∷ lines) (row ∷ rows) told = ap suc (length-TellRows lines rows told.1)
+
+each_tells : (lines : List (List ℕ)) (rows : List Elements) → TellRows lines rows → AllByRecursion (λ row. length row ≡ row_width) rows
+    → AllByRecursion IsRowLine lines
+each_tells [] [] told wide = tt
+each_tells [] (row ∷ rows) told wide = absurd told
+each_tells (line ∷ lines) [] told wide = absurd told
+each_tells (line ∷ lines) (row ∷ rows) told wide = ((row, wide.0, told.0), each_tells lines rows told.1 wide.1)
+
+-- a line behind those that tell rows
+pub ComesBehind-told : (input : List ℕ) (before : List (List ℕ)) (rows : List Elements) (n : ℕ) (line : List ℕ) (rest : List (List ℕ))
+    → lines_of input ≡ before ++ line ∷ rest → TellRows before rows → All (λ row. length row ≡ row_width) rows → length rows ≡ n
+    → ComesBehind input n line
+ComesBehind-told input before rows n line rest lines_are told wide many = record {
+  before = before;
+  rest = rest;
+  lines_are = lines_are;
+  so_many = length-TellRows before rows told ∙ many;
+  each = All-from_recursion IsRowLine before (each_tells before rows told (recursion_from_All _ rows wide));
+}
+
+-- no line tells no row
+pub TellRows-empty : (lines : List (List ℕ)) (rows : List Elements) → TellRows lines rows → length rows ≡ 0 → lines ≡ []
+TellRows-empty [] rows told none = refl
+TellRows-empty (line ∷ lines) [] told none = absurd told
+TellRows-empty (line ∷ lines) (row ∷ rows) told none = absurd (omega arith)
+
+-- ---- their text
+
+text_of_lines-push : (lines : List (List ℕ)) (line : List ℕ) → text_of_lines (lines ++ line ∷ []) ≡ text_of_lines lines ++ (line ++ 10 ∷ [])
+text_of_lines-push lines line =
+    flat_map-append (λ l. l ++ 10 ∷ []) lines (line ∷ []) ∙ ap (λ text. text_of_lines lines ++ text) (append-nil (line ++ 10 ∷ []))
+
+-- a line and its line feed
+pub text_of_lines-more : (lines : List (List ℕ)) (line old mid new : List ℕ) → old ≡ text_of_lines lines → mid ≡ old ++ line → new ≡ mid ++ 10 ∷ []
+    → new ≡ text_of_lines (lines ++ line ∷ [])
+text_of_lines-more lines line old mid new before told ended =
+    ended ∙ ap (λ text. text ++ 10 ∷ []) (told ∙ ap (λ text. text ++ line) before)
+    ∙ append_assoc (text_of_lines lines) line (10 ∷ []) ∙ sym (text_of_lines-push lines line)
+
+-- the rows before a place, and the one there
+pub take_more_at : (rows : List Elements) (i : ℕ) (row : Elements) → slice_get rows i ≡ Some row → take (i + 1) rows ≡ take i rows ++ row ∷ []
+take_more_at [] i row found = cc
+take_more_at (r ∷ rows) zero row found = let same : r ≡ row = cc in ap (λ x. x ∷ []) same
+take_more_at (r ∷ rows) (suc i) row found =
+    ap (λ n. take n (r ∷ rows)) (add-one (suc i)) ∙ ap (λ rest. r ∷ rest) (ap (λ n. take n rows) (sym (add-one i)) ∙ take_more_at rows i row found)

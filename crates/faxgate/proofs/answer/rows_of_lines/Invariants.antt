@@ -1,0 +1,19 @@
+use Rattle.std.proofs.Common.{◌≡◌, ◌≤◌, ℕ, List, ◌++◌, length, All}
+use Rattle.faxgate.specs.PageRows.{most_rows}
+use Rattle.faxgate.specs.RowLines.{row_width, TellRows, lines_of}
+use Rattle.faxgate.proofs.answer.rows_of_lines.Given as goal
+
+-- the rows so far are told by the lines before the rest
+abbrev pub invariant-loop-line : goal.invariant-loop-line
+invariant-loop-line g l =
+    let rows = g.S.RowStore.rows l.rows in
+    record {
+      before : List (List ℕ);
+      lines_are : lines_of l.input ≡ before ++ lines_of l.rest;
+      told : TellRows before rows;
+      few : length rows ≤ most_rows;
+      each : All (λ row. length row ≡ row_width) rows;
+    }
+
+abbrev pub decreases-loop-line : goal.decreases-loop-line
+decreases-loop-line g l = length l.rest

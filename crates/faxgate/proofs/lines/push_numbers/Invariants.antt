@@ -1,0 +1,7 @@
+use Rattle.std.proofs.Common.{◌≡◌, ◌++◌, take}
+use Rattle.faxgate.specs.RowLines.{line_of}
+use Rattle.faxgate.proofs.lines.push_numbers.Given as goal
+
+-- the numbers so far are printed
+abbrev pub invariant-loop-index : goal.invariant-loop-index
+invariant-loop-index l = l.text.items ≡ l.fn.text.items ++ line_of (take l.index l.numbers)

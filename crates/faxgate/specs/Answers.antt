@@ -1,0 +1,120 @@
+-- What `faxgate page` answers to an input (this project's profile).
+use Rattle.std.specs.Prelude.{◌≡◌, ℕ, ◌<◌, ◌⊎◌, Bool, true, false, not, List, [], ◌∷◌, ◌++◌, length, filter, All, codes, decimal, Result, Ok, Err}
+use Rattle.std.specs.Char.{is_ascii_whitespace}
+use Rattle.fax_bits.specs.Laws.{AreOctets}
+use Rattle.fax_bits.specs.Writing.{IsPadded}
+use Rattle.fax_runcodes.specs.Rows.{Elements}
+use Rattle.hex.specs.Hex.{decode_of, encode_lower}
+use Rattle.hex.specs.declared.error.FromHexError.{FromHexError}
+use Rattle.faxgate.specs.declared.page.Coding.TheVariants.{Mh}
+use Rattle.faxgate.specs.declared.page.fault.PageFault.{PageFault}
+use Rattle.faxgate.specs.declared.page.fault.PageFault.TheVariants as page
+use Rattle.faxgate.specs.declared.input_fault.InputFault.{InputFault}
+use Rattle.faxgate.specs.declared.input_fault.InputFault.TheVariants.{Hex, Page, Row, NoMemory}
+use Rattle.faxgate.specs.PageRows.{AreRows, most_rows}
+use Rattle.faxgate.specs.PageTexts.{MeansRows}
+use Rattle.faxgate.specs.PageFaults.{FailsPage}
+use Rattle.faxgate.specs.WrittenPages.{WritesPage}
+use Rattle.faxgate.specs.RowLines.{row_width, TellRows, IsRowLine, text_of_lines, lines_of}
+
+-- a text, or what is wrong with the input
+abbrev pub Outcome : Type 0
+Outcome = Result (List ℕ) InputFault
+
+-- ---- what is printed
+
+abbrev pub page_fault_line : PageFault → List ℕ
+page_fault_line page.NoEol = codes "fault 1 NoEol\n"
+page_fault_line (page.BadLine n) = codes "fault 2 BadLine " ++ (decimal n ++ codes "\n")
+page_fault_line page.NoRtc = codes "fault 3 NoRtc\n"
+page_fault_line page.Empty = codes "fault 4 Empty\n"
+page_fault_line page.TooManyRows = codes "fault 5 TooManyRows\n"
+page_fault_line page.NoMemory = codes "fault memory\n"
+
+abbrev pub fault_line : InputFault → List ℕ
+fault_line Hex = codes "fault hex\n"
+fault_line (Page fault) = page_fault_line fault
+fault_line (Row n) = codes "fault row " ++ (decimal n ++ codes "\n")
+fault_line NoMemory = codes "fault memory\n"
+
+abbrev pub fault_status : InputFault → ℕ
+fault_status Hex = 1
+fault_status (Page fault) = 1
+fault_status (Row n) = 1
+fault_status NoMemory = 3
+
+abbrev pub text_of : Outcome → List ℕ
+text_of (Ok text) = text
+text_of (Err fault) = fault_line fault
+
+abbrev pub status_of : Outcome → ℕ
+status_of (Ok text) = 0
+status_of (Err fault) = fault_status fault
+
+-- ---- from a page to its rows
+
+abbrev pub without_white_space : List ℕ → List ℕ
+without_white_space input = filter (λ octet. not (is_ascii_whitespace octet)) input
+
+-- the input is hex text of these octets
+abbrev pub IsHexOf : List ℕ → List ℕ → Type 0
+IsHexOf input octets = decode_of (without_white_space input) ≡ Ok octets
+
+-- What is wrong with hex text: it is none, or its octets meet a fault. Memory may be wanting at any input.
+abbrev pub RefusesPage : List ℕ → InputFault → Type 0
+RefusesPage input Hex = (error : FromHexError) × (decode_of (without_white_space input) ≡ Err error)
+RefusesPage input (Page fault) = (octets : List ℕ) × IsHexOf input octets × FailsPage row_width Mh octets fault
+RefusesPage input (Row n) = ⊥
+RefusesPage input NoMemory = Unit {0}
+
+-- the outcome for hex text: the lines of the rows that its octets mean, or what is wrong
+abbrev pub AnswersPage : List ℕ → Outcome → Type 0
+AnswersPage input (Ok text) = (octets : List ℕ) × (rows : List Elements) × (lines : List (List ℕ))
+    × IsHexOf input octets × MeansRows row_width Mh octets rows × TellRows lines rows × (text ≡ text_of_lines lines)
+AnswersPage input (Err fault) = RefusesPage input fault
+
+-- ---- from rows to their page
+
+-- This line comes behind so many lines that tell rows.
+pub record ComesBehind (input : List ℕ) (n : ℕ) (line : List ℕ) : Type 0 where
+  pub before : List (List ℕ)
+  pub rest : List (List ℕ)
+  pub lines_are : lines_of input ≡ before ++ line ∷ rest
+  pub so_many : length before ≡ n
+  pub each : All IsRowLine before
+
+-- The octets hold the text in which the page of these rows is written.
+pub record HoldPage (octets : List ℕ) (rows : List Elements) : Type 0 where
+  pub bits : List Bool
+  pub written : WritesPage Mh 0 rows bits
+  pub padded : IsPadded octets bits
+  pub are_octets : AreOctets octets
+
+-- What is wrong with lines: there is none, or the first that tells no row, or that comes behind as many
+-- rows as a page may have. Memory may be wanting at any input.
+abbrev pub RefusesLines : List ℕ → InputFault → Type 0
+RefusesLines input Hex = ⊥
+RefusesLines input (Page fault) =
+    ((fault ≡ page.Empty) × (lines_of input ≡ []))
+    ⊎ ((fault ≡ page.TooManyRows) × (line : List ℕ) × ComesBehind input most_rows line)
+RefusesLines input (Row n) = (n < most_rows) × (line : List ℕ) × ComesBehind input n line × (IsRowLine line → ⊥)
+RefusesLines input NoMemory = Unit {0}
+
+-- the outcome for lines: the hex text of the page of the rows that they tell, or what is wrong
+abbrev pub AnswersRows : List ℕ → Outcome → Type 0
+AnswersRows input (Ok text) = (rows : List Elements) × (octets : List ℕ)
+    × AreRows row_width rows × TellRows (lines_of input) rows × HoldPage octets rows × (text ≡ encode_lower octets ++ 10 ∷ [])
+AnswersRows input (Err fault) = RefusesLines input fault
+
+-- ---- either
+
+abbrev pub Allows : Bool → List ℕ → Outcome → Type 0
+Allows false input outcome = AnswersPage input outcome
+Allows true input outcome = AnswersRows input outcome
+
+-- The exit status and the text that a run may answer to an input, with `--back` or without.
+pub record Answers (back : Bool) (input : List ℕ) (status : ℕ) (text : List ℕ) : Type 0 where
+  pub outcome : Outcome
+  pub allowed : Allows back input outcome
+  pub status_is : status ≡ status_of outcome
+  pub text_is : text ≡ text_of outcome

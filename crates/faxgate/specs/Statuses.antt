@@ -1,0 +1,11 @@
+-- The exit statuses (this project's profile).
+use Rattle.std.specs.Prelude.{ℕ}
+use Rattle.faxgate.specs.declared.status.Status.{Status}
+use Rattle.faxgate.specs.declared.status.Status.TheVariants.{Done, Fault, Usage, NoMemory, Stream}
+
+abbrev pub status_code : Status → ℕ
+status_code Done = 0
+status_code Fault = 1
+status_code Usage = 2
+status_code NoMemory = 3
+status_code Stream = 4

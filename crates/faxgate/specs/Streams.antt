@@ -1,0 +1,20 @@
+-- What a read and a write leave of the streams (this project's profile).
+use Rattle.std.specs.Prelude.{ℕ, ◌+◌, Bool, true, Result, Ok, Err}
+use Rattle.faxgate.specs.declared.stream.ReadFault.{ReadFault}
+use Rattle.faxgate.specs.declared.stream.ReadFault.TheVariants.{Interrupted, Failed}
+
+-- whether a read has failed, once one more gave this
+abbrev pub failed_after_read : Bool → Result ℕ ReadFault → Bool
+failed_after_read failed (Ok n) = failed
+failed_after_read failed (Err Interrupted) = failed
+failed_after_read failed (Err Failed) = true
+
+-- how many octets reads have given, once one more gave this
+abbrev pub given_after_read : ℕ → Result ℕ ReadFault → ℕ
+given_after_read given (Ok n) = given + n
+given_after_read given (Err fault) = given
+
+-- whether a write has failed, once one more ended so
+abbrev pub failed_after_write : {E : Type 0} → Bool → Result Unit E → Bool
+failed_after_write failed (Ok done) = failed
+failed_after_write failed (Err fault) = true

@@ -1,0 +1,79 @@
+//! `faxgate page` prints the rows of a page of one-dimensional coding (ITU-T T.4), or the page of rows.
+#![tactic(auto)]
+
+mod answer;
+mod command_line;
+mod input;
+mod input_fault;
+mod lines;
+mod page;
+mod run;
+mod status;
+mod stream;
+#[cfg(test)]
+mod tests;
+
+use clap::error::ErrorKind;
+use command_line::page_options;
+use run::run_page;
+use status::Status;
+use std::process::ExitCode;
+use std::rt::Env;
+use std::{env, io};
+use stream::{StdSink, StdSource};
+
+fn main(rt: HostRuntime) -> ExitCode {
+    ExitCode::from(run_words(&rt))
+}
+
+/// Does what the words of the command line ask for, and says with which exit status the process ends.
+fn run_words<R: Print + Eprint + Input + Env + AllocGlobal>(rt: &R) -> u8 {
+    let words = match words_of(rt) {
+        Ok(words) => words,
+        Err(error) => return tell_unread_words(rt, error).code(),
+    };
+    match page_options(rt.alloc(), words.as_slice()) {
+        Ok(options) => {
+            let mut source = StdSource::new(rt.reader());
+            let mut sink = StdSink::new(io::writer(rt));
+            run_page(rt.alloc(), &mut source, &mut sink, options)
+        }
+        Err(error) => tell_refusal(rt, &error).code(),
+    }
+}
+
+/// The words of the command line.
+fn words_of<R: Env + AllocGlobal>(rt: &R) -> io::Result<Vec<String>> {
+    Ok(env::args(rt)?.collect(rt.alloc())?)
+}
+
+/// Prints the help that was asked for, or why the command line is refused.
+fn tell_refusal<R: Print + Eprint>(rt: &R, error: &clap::Error) -> Status {
+    if error.kind() == ErrorKind::OutOfMemory {
+        return tell_no_memory(rt);
+    }
+    match error.print(rt) {
+        Ok(()) if error.use_stderr() => Status::Usage,
+        Ok(()) => Status::Done,
+        Err(_) => Status::Stream,
+    }
+}
+
+/// Prints why the words could not be read.
+fn tell_unread_words<R: Print + Eprint>(rt: &R, error: io::Error) -> Status {
+    if error.kind() == io::ErrorKind::OutOfMemory {
+        return tell_no_memory(rt);
+    }
+    match rt.eprintln(error) {
+        Ok(()) => Status::Usage,
+        Err(_) => Status::Stream,
+    }
+}
+
+/// Prints that memory was wanted and refused.
+fn tell_no_memory<R: Print>(rt: &R) -> Status {
+    match rt.print("fault memory\n") {
+        Ok(()) => Status::NoMemory,
+        Err(_) => Status::Stream,
+    }
+}

@@ -1,0 +1,59 @@
+//! A run of `faxgate page`, over any streams.
+ghost use Rattle.std.specs.Prelude.{ℕ, List, ◌≡◌, ◌≢◌, ◌<◌, ◌⊎◌, true, false, length, IfSome, OnOk};
+ghost use Rattle.std.specs.Io.KnownBytes.{Appends, Keeps};
+ghost use Rattle.faxgate.specs.Answers.{Answers};
+ghost use Rattle.faxgate.specs.Streams.{failed_after_write};
+
+use crate::answer::{Answer, PageOptions, answer_to};
+use crate::input::{InputError, read_input};
+use crate::status::Status;
+use crate::stream::{MOST_OCTETS, MOST_READS, Sink, Source, WriteFault};
+use std::alloc::Global;
+
+/// Reads the input whole, writes the answer to it and nothing else, and says with which exit status the
+/// process ends.
+pub fn run_page<I: Source, O: Sink>(
+    alloc: Global,
+    source: &mut I,
+    sink: &mut O,
+    options: PageOptions,
+) -> u8
+    requires unread { (I.reads source.old ≡ 0) × (I.given source.old ≡ 0) }
+    requires unfailed { (I.failed source.old ≡ false) × (O.failed sink.old ≡ false) }
+
+    // Where the input is known, what is written is the answer to it, unless a read or a write failed or
+    // the input went past its bound.
+    ensures answers { result ≢ 4 → IfSome (I.remaining source.old) (λ input. (text : List ℕ)
+        × Answers options.back input result text × Appends (O.contents sink.old) (O.contents sink.new) text) }
+    ensures stream { result ≡ 4 → (I.failed source.new ≡ true) ⊎ (O.failed sink.new ≡ true)
+        ⊎ (MOST_OCTETS < I.given source.new) ⊎ (I.reads source.new ≡ MOST_READS) }
+
+    // Where a read failed, or the source gave more than an input may have, nothing is written; nor
+    // elsewhere, unless it was a write that failed.
+    ensures unread { (I.failed source.new ≡ true) ⊎ (MOST_OCTETS < I.given source.new)
+        → (result ≡ 4) × Keeps (O.contents sink.old) (O.contents sink.new) }
+    ensures unwritten { result ≡ 4 → O.failed sink.new ≡ false → Keeps (O.contents sink.old) (O.contents sink.new) }
+    ensures failed_write { O.failed sink.new ≡ true → result ≡ 4 }
+
+    // A known input past the bound is not answered; memory may be wanting before its end.
+    ensures too_long { IfSome (I.remaining source.old) (λ input. MOST_OCTETS < length input → (result ≡ 4) ⊎ (result ≡ 3)) }
+{
+    let answer = match read_input(alloc, source) {
+        Ok(input) => answer_to(alloc, input, options),
+        Err(InputError::NoMemory) => Answer::NoMemory,
+        Err(InputError::Failed | InputError::TooLong) => return Status::Stream.code(),
+    };
+    match write_text(sink, answer.text()) {
+        Ok(()) => answer.status().code(),
+        Err(WriteFault) => Status::Stream.code(),
+    }
+}
+
+/// Writes a text, and hands it on.
+fn write_text<O: Sink>(sink: &mut O, text: &[u8]) -> Result<(), WriteFault>
+    ensures text { OnOk result (Appends (O.contents sink.old) (O.contents sink.new) text.now) }
+    ensures failed { O.failed sink.new ≡ failed_after_write (O.failed sink.old) result }
+{
+    sink.write_all(text)?;
+    sink.flush()
+}

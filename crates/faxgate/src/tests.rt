@@ -1,0 +1,267 @@
+//! Runs over streams in memory.
+use crate::answer::PageOptions;
+use crate::command_line::page_options;
+use crate::run::run_page;
+use crate::stream::{StdSink, StdSource};
+use clap::error::ErrorKind;
+use fax_bits::BitWriter;
+use fax_mhcode::write_line_1d;
+use fax_runcodes::Row;
+use std::alloc::Global;
+use std::io;
+use std::io::{Read, Write};
+use std::process::Abort;
+use std::test::Fail;
+
+/// A reader that gives a few octets at a time, each read behind one that is interrupted, and fails once
+/// it gave so many.
+#[derive(Drop)]
+struct Halting<'a> {
+    octets: &'a [u8],
+    at_once: usize,
+    reads_left: u32,
+    interrupted: bool,
+}
+
+impl Read for Halting<'_> {
+    fn read(&mut self, buf: &mut [u8]) -> io::Result<usize> {
+        if !self.interrupted {
+            self.interrupted = true;
+            return Err(io::Error::from(io::ErrorKind::Interrupted));
+        }
+        self.interrupted = false;
+        if self.reads_left == 0 {
+            return Err(io::Error::from(io::ErrorKind::Other));
+        }
+        self.reads_left -= 1;
+        let most = buf.len().min(self.at_once);
+        self.octets.read(&mut buf[..most])
+    }
+}
+
+/// A reader of so many spaces.
+#[derive(Drop)]
+struct Spaces(usize);
+
+impl Read for Spaces {
+    fn read(&mut self, buf: &mut [u8]) -> io::Result<usize> {
+        let count = buf.len().min(self.0);
+        self.0 -= count;
+        buf[..count].fill(b' ');
+        Ok(count)
+    }
+}
+
+/// A writer that fails at a write or at a flush.
+#[derive(Drop)]
+struct Broken {
+    writes: bool,
+}
+
+impl Write for Broken {
+    fn write(&mut self, buf: &[u8]) -> io::Result<usize> {
+        if self.writes {
+            Ok(buf.len())
+        } else {
+            Err(io::Error::from(io::ErrorKind::BrokenPipe))
+        }
+    }
+
+    fn flush(&mut self) -> io::Result<()> {
+        Err(io::Error::from(io::ErrorKind::BrokenPipe))
+    }
+}
+
+/// The exit status and the text of a run over a reader.
+fn run_over<R: Read + Drop>(alloc: Global, reader: R, back: bool) -> (u8, Vec<u8>) {
+    let mut text = Vec::new(alloc);
+    let mut source = StdSource::new(reader);
+    let mut sink = StdSink::new(&mut text);
+    let status = run_page(alloc, &mut source, &mut sink, PageOptions { back });
+    (status, text)
+}
+
+/// That a run over an input ends with a status and writes a text.
+fn expect_run(rt: &(impl Abort + AllocGlobal), back: bool, input: &[u8], status: u8, text: &[u8]) {
+    let (found_status, found_text) = run_over(rt.alloc(), input, back);
+    assert_eq!(rt; found_status, status, "at {input:?}");
+    assert_eq!(rt; found_text.as_slice(), text, "at {input:?}");
+}
+
+/// Text, so many times.
+fn repeated(alloc: Global, text: &[u8], times: u32) -> Result<Vec<u8>, Fail> {
+    let mut all = Vec::new(alloc);
+    for _ in 0..times {
+        all.extend_from_slice(text)?;
+    }
+    Ok(all)
+}
+
+/// The hex text of a page of so many white rows.
+fn white_page(alloc: Global, rows: u32) -> Result<Vec<u8>, Fail> {
+    let row = Row::from_runs(alloc, &[1728])?;
+    let mut writer = BitWriter::new(alloc);
+    writer.put(1, 12)?;
+    for _ in 0..rows {
+        write_line_1d(&mut writer, &row)?;
+        writer.put(1, 12)?;
+    }
+    for _ in 0..5 {
+        writer.put(1, 12)?;
+    }
+    let octets = writer.finish();
+    Ok(hex::encode(alloc, octets.as_slice())?.into_bytes())
+}
+
+#[test]
+fn pages_give_rows(rt: HostRuntime) {
+    for (input, text) in [
+        ("0014d9a8008008008008008008", "1728\n"),
+        ("0013503286e0020020020020020020", "0 1728\n"),
+        ("a50014d9a80000001001001001001001", "1728\n"),
+        ("0014D9A8008008008008008008", "1728\n"),
+        ("0 0\t1\n4\x0cd\r9a8008008008008008008\n", "1728\n"),
+    ] {
+        expect_run(&rt, false, input.as_bytes(), 0, text.as_bytes());
+    }
+}
+
+#[test]
+fn octets_meet_faults(rt: HostRuntime) {
+    for (input, text) in [
+        ("", "fault 1 NoEol\n"),
+        ("ff", "fault 1 NoEol\n"),
+        ("00143f", "fault 2 BadLine 0\n"),
+        ("0014d9ac", "fault 2 BadLine 0\n"),
+        ("0014d9a80080080080080080", "fault 3 NoRtc\n"),
+        ("001001001001001001", "fault 4 Empty\n"),
+        ("0", "fault hex\n"),
+        ("0g", "fault hex\n"),
+    ] {
+        expect_run(&rt, false, input.as_bytes(), 1, text.as_bytes());
+    }
+}
+
+#[test]
+fn rows_are_counted(rt: HostRuntime) -> Result<(), Fail> {
+    let most = white_page(rt.alloc(), 20_000)?;
+    let text = repeated(rt.alloc(), b"1728\n", 20_000)?;
+    expect_run(&rt, false, most.as_slice(), 0, text.as_slice());
+    let more = white_page(rt.alloc(), 20_001)?;
+    expect_run(&rt, false, more.as_slice(), 1, b"fault 5 TooManyRows\n");
+    Ok(())
+}
+
+#[test]
+fn rows_give_pages(rt: HostRuntime) -> Result<(), Fail> {
+    for (input, text) in [
+        ("1728\n", "0014d9a8008008008008008008\n"),
+        ("1728", "0014d9a8008008008008008008\n"),
+        ("0 1728\n", "0013503286e0020020020020020020\n"),
+    ] {
+        expect_run(&rt, true, input.as_bytes(), 0, text.as_bytes());
+    }
+    let rows = repeated(rt.alloc(), b"1728\n", 20_000)?;
+    let mut page = white_page(rt.alloc(), 20_000)?;
+    page.push(b'\n')?;
+    expect_run(&rt, true, rows.as_slice(), 0, page.as_slice());
+    Ok(())
+}
+
+#[test]
+fn lines_have_faults(rt: HostRuntime) -> Result<(), Fail> {
+    for line in [
+        "\n", "01728", " 1728", "1728 ", "+1728", "1728\r", "1727", "1728 0", "5 0 1723", "0 ",
+        "1  1727", "65536", "2048", "1727 a", "-1728",
+    ] {
+        expect_run(&rt, true, line.as_bytes(), 1, b"fault row 0\n");
+    }
+    expect_run(&rt, true, b"", 1, b"fault 4 Empty\n");
+    expect_run(&rt, true, b"1728\n1729\nx\n", 1, b"fault row 1\n");
+    expect_run(&rt, true, b"1728\n\n", 1, b"fault row 1\n");
+    let mut rows = repeated(rt.alloc(), b"1728\n", 20_000)?;
+    rows.extend_from_slice(b"x")?;
+    expect_run(&rt, true, rows.as_slice(), 1, b"fault 5 TooManyRows\n");
+    Ok(())
+}
+
+#[test]
+fn reads_may_fail(rt: HostRuntime) {
+    let octets = b"0014d9a8008008008008008008\n";
+    for reads in 0..30 {
+        let reader = Halting {
+            octets,
+            at_once: 1,
+            reads_left: reads,
+            interrupted: false,
+        };
+        let (status, text) = run_over(rt.alloc(), reader, false);
+        if reads < 28 {
+            assert_eq!(rt; status, 4, "after {reads} reads");
+            assert!(rt; text.is_empty());
+        } else {
+            assert_eq!(rt; status, 0, "after {reads} reads");
+            assert_eq!(rt; text.as_slice(), b"1728\n".as_slice());
+        }
+    }
+}
+
+#[test]
+fn writes_may_fail(rt: HostRuntime) {
+    for writes in [false, true] {
+        let octets: &[u8] = b"0014d9a8008008008008008008\n";
+        let mut source = StdSource::new(octets);
+        let mut sink = StdSink::new(Broken { writes });
+        let status = run_page(
+            rt.alloc(),
+            &mut source,
+            &mut sink,
+            PageOptions { back: false },
+        );
+        assert_eq!(rt; status, 4);
+    }
+}
+
+#[test]
+fn inputs_are_bounded(rt: HostRuntime) {
+    let (status, text) = run_over(rt.alloc(), Spaces(16_777_216), false);
+    assert_eq!(rt; status, 1);
+    assert_eq!(rt; text.as_slice(), b"fault 1 NoEol\n".as_slice());
+    let (status, text) = run_over(rt.alloc(), Spaces(16_777_217), false);
+    assert_eq!(rt; status, 4);
+    assert!(rt; text.is_empty());
+}
+
+#[test]
+fn words_are_read(rt: HostRuntime) {
+    for (words, back) in [
+        (["faxgate", "page"].as_slice(), false),
+        (["faxgate", "page", "--back"].as_slice(), true),
+    ] {
+        match page_options(rt.alloc(), words) {
+            Ok(options) => assert_eq!(rt; options.back, back),
+            Err(error) => panic!(rt; "{error}"),
+        }
+    }
+    for (words, kind) in [
+        (["faxgate"].as_slice(), ErrorKind::MissingSubcommand),
+        (["faxgate", "--help"].as_slice(), ErrorKind::DisplayHelp),
+        (
+            ["faxgate", "page", "--help"].as_slice(),
+            ErrorKind::DisplayHelp,
+        ),
+        (
+            ["faxgate", "page", "--forth"].as_slice(),
+            ErrorKind::UnknownArgument,
+        ),
+        (
+            ["faxgate", "pages"].as_slice(),
+            ErrorKind::InvalidSubcommand,
+        ),
+    ] {
+        match page_options(rt.alloc(), words) {
+            Ok(options) => panic!(rt; "{options:?}"),
+            Err(error) => assert_eq!(rt; error.kind(), kind),
+        }
+    }
+}
