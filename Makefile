@@ -13,7 +13,7 @@ all:
 test:
 	$(RT) ci
 
-# Refuses each allocation of a run in turn, both ways: each run ends with status 3 and `fault memory`.
-memory:
-	cd crates/faxgate && $(RT) try --fail-alloc 1.. -- page < ../../samples/hello.hex
-	cd crates/faxgate && $(RT) try --fail-alloc 1.. -- page --back < ../../samples/hello.runs
+# Refuses each allocation of a run in turn, both ways. It wants a C compiler, and a minute at most.
+memory: all
+	tools/refuse-memory $(PROGRAM) samples/hello.hex page
+	tools/refuse-memory $(PROGRAM) samples/hello.runs page --back
