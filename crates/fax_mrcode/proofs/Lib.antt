@@ -1,0 +1,10 @@
+pub mod ChangingPlaces
+pub mod CursorLemmas
+pub mod Examples
+pub mod FaultLaws
+pub mod LineLaws
+pub mod ModeTable
+pub mod PlaceLemmas
+pub mod StepLemmas
+pub mod WriteLemmas
+pub mod WrittenLaws

@@ -1,0 +1,15 @@
+use Rattle.std.proofs.Common.{◌-◌, ◌+◌}
+use Rattle.fax_runcodes.specs.declared.Colour.TheVariants.{White}
+use Rattle.fax_runcodes.specs.Painted.{painted}
+use Rattle.fax_mrcode.specs.Starts.{IsStart}
+use Rattle.fax_mrcode.proofs.StepLemmas.{StepsSoFar}
+use Rattle.fax_mrcode.proofs.reading.read_steps.Given as goal
+
+abbrev pub invariant-loop-start : goal.invariant-loop-start
+invariant-loop-start l = record {
+  so_far : StepsSoFar (painted White 0 l.changes l.width) l.width l.fn.reader l.reader l.line l.start;
+  is_start : IsStart l.changes l.width l.line l.start;
+}
+
+abbrev pub decreases-loop-start : goal.decreases-loop-start
+decreases-loop-start l = l.width + 1 - l.start.from

@@ -1,0 +1,22 @@
+-- Laws of two-dimensional lines, as statements.
+use Rattle.std.specs.Prelude.{◌≡◌, ◌≤◌, Bool, List, ◌++◌, length}
+use Rattle.fax_runcodes.specs.Rows.{Elements}
+use Rattle.fax_mhcode.specs.declared.fault.LineFault.{LineFault}
+use Rattle.fax_mrcode.specs.Lines.{SpellsLine}
+use Rattle.fax_mrcode.specs.LineFaults.{FailsLine}
+
+-- Against one reference a text spells at most one row, and is no proper front of another row's text.
+abbrev pub TextsAreUnique : Type 0
+TextsAreUnique = (reference : Elements) (text other : List Bool) (row other_row : Elements) (rest other_rest : List Bool)
+    → SpellsLine reference text row → SpellsLine reference other other_row
+    → text ++ rest ≡ other ++ other_rest → (text ≡ other) × (row ≡ other_row)
+
+-- Reading what begins with a line meets no fault.
+abbrev pub LinesDontFail : Type 0
+LinesDontFail = (reference : Elements) (bits text rest : List Bool) (row : Elements) (fault : LineFault)
+    → length reference ≤ 2432 → SpellsLine reference text row → bits ≡ text ++ rest → FailsLine reference bits fault → ⊥
+
+-- Reading a line meets at most one fault.
+abbrev pub FaultsAreUnique : Type 0
+FaultsAreUnique = (reference : Elements) (bits : List Bool) (f g : LineFault)
+    → length reference ≤ 2432 → FailsLine reference bits f → FailsLine reference bits g → f ≡ g

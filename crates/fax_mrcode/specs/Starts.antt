@@ -1,0 +1,44 @@
+-- What is known of a line that is being read, between two of its steps. Not part of any public clause.
+use Rattle.std.specs.Prelude.{◌≡◌, ℕ, ◌+◌, ◌<◌, ◌≤◌, Bool, List, length, slice_index}
+use Rattle.fax_runcodes.specs.declared.Colour.{Colour}
+use Rattle.fax_runcodes.specs.declared.Colour.TheVariants.{White}
+use Rattle.fax_runcodes.specs.Rows.{Elements, colour_at, colour_before}
+use Rattle.fax_runcodes.specs.Painted.{colour_after_changes}
+use Rattle.fax_mrcode.specs.declared.mode.Mode.{Mode}
+use Rattle.fax_mrcode.specs.declared.reading.Start.{Start}
+use Rattle.fax_mrcode.specs.Places.{run_start}
+use Rattle.fax_mrcode.specs.Lines.{Step}
+
+-- A changing place of the reference changes its colour from this one exactly where it has an index
+-- like this one. Those before the index lie no further right than a0 (`from` is a0 + 1).
+pub record IsCursor (changes : List ℕ) (colour : Colour) (from index : ℕ) : Type 0 where
+  pub parity : colour_after_changes index ≡ colour
+  pub passed : (k : ℕ) → k < index → k < length changes → colour_after_changes k ≡ colour → slice_index changes k < from
+  pub few : index ≤ length changes + 1
+
+-- It is the index of b1, or past the end where b1 is the width.
+pub record IsIndexOfB1 (changes : List ℕ) (colour : Colour) (from index : ℕ) : Type 0 where
+  pub cursor : IsCursor changes colour from index
+  pub right : index < length changes → from ≤ slice_index changes index
+
+-- A step may start here: the elements left of a0 are painted, and the colour at a0 = -1 is white.
+pub record IsStart (changes : List ℕ) (width : ℕ) (line : Elements) (start : Start) : Type 0 where
+  pub size : length line ≡ run_start start.from
+  pub within : start.from ≤ width + 1
+  pub first : start.from ≡ 0 → start.colour ≡ White
+  pub cursor : start.from ≤ width → IsCursor changes start.colour start.from start.index
+
+-- a row that a line may become: its elements so far, and then at a0 this colour
+pub record Completes (width : ℕ) (line : Elements) (from : ℕ) (colour : Colour) (row : Elements) : Type 0 where
+  pub same_width : length row ≡ width
+  pub front : (k : ℕ) → k < length line → colour_at row k ≡ colour_at line k
+  pub here : from ≤ width → colour_before row from ≡ colour
+
+-- A step in this mode was taken from one start to the next: each row that the line may become behind
+-- it is one that it might become before it, and has this step.
+pub record TakesStep (reference : Elements) (width : ℕ) (mode : Mode) (text : List Bool) (before : Elements) (start : Start) (after : Elements) (next : Start) : Type 0 where
+  pub place : ℕ
+  pub from_is : next.from ≡ place + 1
+  pub right : start.from ≤ place
+  pub completes : (row : Elements) → Completes width after next.from next.colour row → Completes width before start.from start.colour row
+  pub step : (row : Elements) → Completes width after next.from next.colour row → Step reference row start.from mode text place

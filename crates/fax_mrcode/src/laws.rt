@@ -1,0 +1,23 @@
+//! Laws of two-dimensional lines: functions that do nothing, each of whose contracts is a theorem.
+ghost use Rattle.fax_mrcode.specs.Laws.{TextsAreUnique, LinesDontFail, FaultsAreUnique};
+ghost use Rattle.fax_mrcode.specs.WrittenLaws.{WrittenLinesAreSpelt};
+
+/// Against one reference a text spells at most one row, and is no proper front of another row's text.
+pub fn texts_are_unique()
+    ensures { TextsAreUnique }
+{}
+
+/// Reading what begins with a line meets no fault.
+pub fn lines_dont_fail()
+    ensures { LinesDontFail }
+{}
+
+/// Reading a line meets at most one fault.
+pub fn faults_are_unique()
+    ensures { FaultsAreUnique }
+{}
+
+/// The bits in which a row is written spell it.
+pub fn written_lines_are_spelt()
+    ensures { WrittenLinesAreSpelt }
+{}

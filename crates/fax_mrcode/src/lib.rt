@@ -1,0 +1,12 @@
+//! Two-dimensional lines (ITU-T T.4, 4.2).
+#![tactic(auto)]
+
+pub mod laws;
+mod mode;
+mod places;
+mod reading;
+mod writing;
+
+pub use mode::{Mode, Offset};
+pub use reading::{read_line_2d, read_line_2d_into};
+pub use writing::write_line_2d;

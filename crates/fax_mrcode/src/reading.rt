@@ -1,0 +1,283 @@
+//! Two-dimensional lines, read (ITU-T T.4, 4.2).
+ghost use Rattle.std.specs.Prelude.{List, Bool, ℕ, Ok, Err, ◌⊎◌, ◌++◌, ◌+◌, ◌<◌, ◌≤◌, ◌≡◌, ◌≢◌, [], length, replicate, IfOk, IfErr, OnOk, OnErr, IsOk, IsTrue};
+ghost use Rattle.fax_bits.specs.Reading.{Passes};
+ghost use Rattle.fax_runcodes.specs.Rows.{Elements};
+ghost use Rattle.fax_runcodes.specs.Painted.{painted, AreRising};
+ghost use Rattle.fax_runcodes.specs.Spelling.{SpellsRun};
+ghost use Rattle.fax_runcodes.specs.declared.Colour.{Colour};
+ghost use Rattle.fax_mhcode.specs.declared.fault.LineFault.{LineFault};
+ghost use Rattle.fax_mrcode.specs.declared.mode.Mode.{Mode};
+ghost use Rattle.fax_mrcode.specs.Modes.{mode_word};
+ghost use Rattle.fax_mrcode.specs.Lines.{SpellsLine};
+ghost use Rattle.fax_mrcode.specs.LineFaults.{FailsLine, Stops, StopsIn, StopsAtRun};
+ghost use Rattle.fax_mrcode.specs.Starts.{IsCursor, IsIndexOfB1, IsStart, Completes, TakesStep};
+
+#[cfg(test)]
+mod tests;
+mod words;
+
+use crate::places::place_at;
+use crate::{Mode, Offset};
+use fax_bits::BitReader;
+use fax_mhcode::LineFault;
+use fax_runcodes::{Colour, Row, RowBuilder, read_run};
+use std::alloc::Global;
+use words::read_mode;
+
+/// Reads a two-dimensional line against the row before it. An `Err` leaves the reader where it stood.
+pub fn read_line_2d(
+    alloc: Global,
+    reader: &mut BitReader,
+    reference: &Row,
+) -> Result<Row, LineFault>
+    ensures ok { IfOk result (λ row. (text : List Bool) × SpellsLine reference.now text row × Passes reader.old reader.new text) }
+    ensures fault { IfErr result (λ fault. fault ≢ LineFault.NoMemory → FailsLine reference.now reader.old.left fault) }
+    ensures err { OnErr result (reader.new ≡ reader.old) }
+
+    // Memory aside, a line that begins the bits is read, and a fault comes only where it is met.
+    ensures reads { (row : Elements) (text rest : List Bool) → SpellsLine reference.now text row
+        → reader.old.left ≡ text ++ rest → (result ≡ Ok row) ⊎ (result ≡ Err LineFault.NoMemory) }
+    ensures fails { (fault : LineFault) → FailsLine reference.now reader.old.left fault
+        → (result ≡ Err fault) ⊎ (result ≡ Err LineFault.NoMemory) }
+{
+    let mut line = RowBuilder::new(alloc)?;
+    let mut ahead = reader.copy();
+    read_line_2d_into(&mut line, &mut ahead, reference)?;
+    prove!(line.len() == reference.width());
+    let row = line.row()?;
+    *reader = ahead;
+    Ok(row)
+}
+
+/// Reads a two-dimensional line into a builder that is empty, whose room is used again from line to
+/// line. It takes no memory. An `Err` leaves the reader where it stood, and the builder empty.
+pub fn read_line_2d_into(
+    line: &mut RowBuilder,
+    reader: &mut BitReader,
+    reference: &Row,
+) -> Result<(), LineFault>
+    requires { line.old ≡ [] }
+    ensures ok { OnOk result ((text : List Bool) × SpellsLine reference.now text line.new × Passes reader.old reader.new text) }
+    ensures fault { IfErr result (λ fault. fault ≢ LineFault.NoMemory → FailsLine reference.now reader.old.left fault) }
+    ensures err { OnErr result (reader.new ≡ reader.old) }
+    ensures empty { OnErr result (line.new ≡ []) }
+    ensures memory { result ≢ Err LineFault.NoMemory }
+
+    // A line that begins the bits is read, and a fault comes only where it is met.
+    ensures reads { (row : Elements) (text rest : List Bool) → SpellsLine reference.now text row
+        → reader.old.left ≡ text ++ rest → (IsOk result × (line.new ≡ row)) ⊎ (result ≡ Err LineFault.NoMemory) }
+    ensures fails { (fault : LineFault) → FailsLine reference.now reader.old.left fault
+        → (result ≡ Err fault) ⊎ (result ≡ Err LineFault.NoMemory) }
+{
+    let mut ahead = reader.copy();
+    let result = read_steps(line, &mut ahead, reference.changes(), reference.width());
+    if result.is_ok() {
+        *reader = ahead;
+    } else {
+        line.clear();
+    }
+    result
+}
+
+/// Where a coding step starts.
+#[derive(Clone, Copy)]
+struct Start {
+    /// The place right of a0: 0 for a0 = -1.
+    from: u16,
+    /// The colour at a0.
+    colour: Colour,
+    /// From where on b1 is looked for in the changing places of the reference. Those of an even index
+    /// change from white to black, the others from black to white.
+    index: usize,
+}
+
+/// Reads the steps of a line into a builder that is empty. After an `Err` the reader stands anywhere,
+/// and the builder has any elements.
+fn read_steps(
+    line: &mut RowBuilder,
+    reader: &mut BitReader,
+    changes: &[u16],
+    width: u16,
+) -> Result<(), LineFault>
+    requires empty { line.old ≡ [] }
+    requires rising { AreRising 0 changes.now width }
+    requires few { width ≤ 2432 }
+    ensures ok { OnOk result ((text : List Bool) × SpellsLine (painted Colour.White 0 changes.now width) text line.new × Passes reader.old reader.new text) }
+    ensures fault { IfErr result (λ fault. FailsLine (painted Colour.White 0 changes.now width) reader.old.left fault) }
+{
+    let mut start = Start {
+        from: 0,
+        colour: Colour::White,
+        index: 0,
+    };
+    while start.from <= width {
+        start = read_step(line, reader, changes, width, start)?;
+    }
+    Ok(())
+}
+
+/// Reads one step, and answers where the next one starts. After an `Err` the reader stands anywhere,
+/// and the builder has any elements.
+#[inline]
+fn read_step(
+    line: &mut RowBuilder,
+    reader: &mut BitReader,
+    changes: &[u16],
+    width: u16,
+    start: Start,
+) -> Result<Start, LineFault>
+    requires start { IsStart changes.now width line.old start }
+    requires within { start.from ≤ width }
+    requires rising { AreRising 0 changes.now width }
+    requires few { width ≤ 2432 }
+    ensures next { IfOk result (λ next. IsStart changes.now width line.new next) }
+    ensures ok { IfOk result (λ next. (mode : Mode) × (text : List Bool) × Passes reader.old reader.new (mode_word mode ++ text)
+        × TakesStep (painted Colour.White 0 changes.now width) width mode text line.old start line.new next) }
+    ensures fault { IfErr result (λ fault. (row : Elements) → Completes width line.old start.from start.colour row
+        → Stops (painted Colour.White 0 changes.now width) row start.from reader.old.left fault) }
+{
+    let mode = read_mode(reader)?;
+    let start = Start {
+        index: index_of_b1(changes, start),
+        ..start
+    };
+    match mode {
+        Mode::Pass => pass(line, changes, width, start),
+        Mode::Horizontal => horizontal(line, reader, changes, width, start),
+        Mode::Vertical(offset) => vertical(line, changes, width, start, offset),
+    }
+}
+
+/// Pass mode: a0 moves to b2.
+#[inline]
+fn pass(
+    line: &mut RowBuilder,
+    changes: &[u16],
+    width: u16,
+    start: Start,
+) -> Result<Start, LineFault>
+    requires start { IsStart changes.now width line.old start }
+    requires b1 { IsIndexOfB1 changes.now start.colour start.from start.index }
+    requires within { start.from ≤ width }
+    requires rising { AreRising 0 changes.now width }
+    requires few { width ≤ 2432 }
+    ensures next { IfOk result (λ next. IsStart changes.now width line.new next) }
+    ensures ok { IfOk result (λ next. TakesStep (painted Colour.White 0 changes.now width) width Mode.Pass [] line.old start line.new next) }
+    ensures fault { IfErr result (λ fault. (row : Elements) (bits : List Bool) → Completes width line.old start.from start.colour row
+        → StopsIn (painted Colour.White 0 changes.now width) row Mode.Pass start.from bits fault) }
+{
+    let b2 = place_at(changes, start.index + 1, width);
+    if b2 == width {
+        return Err(LineFault::BadPlace);
+    }
+    line.paint(start.colour, b2 - line.len());
+    Ok(Start {
+        from: b2 + 1,
+        ..start
+    })
+}
+
+/// Vertical mode: a1 lies so far from b1, and a0 moves to it.
+#[inline]
+fn vertical(
+    line: &mut RowBuilder,
+    changes: &[u16],
+    width: u16,
+    start: Start,
+    offset: Offset,
+) -> Result<Start, LineFault>
+    requires start { IsStart changes.now width line.old start }
+    requires b1 { IsIndexOfB1 changes.now start.colour start.from start.index }
+    requires within { start.from ≤ width }
+    requires rising { AreRising 0 changes.now width }
+    requires few { width ≤ 2432 }
+    ensures next { IfOk result (λ next. IsStart changes.now width line.new next) }
+    ensures ok { IfOk result (λ next. TakesStep (painted Colour.White 0 changes.now width) width (Mode.Vertical offset) [] line.old start line.new next) }
+    ensures fault { IfErr result (λ fault. (row : Elements) (bits : List Bool) → Completes width line.old start.from start.colour row
+        → StopsIn (painted Colour.White 0 changes.now width) row (Mode.Vertical offset) start.from bits fault) }
+{
+    let b1 = place_at(changes, start.index, width);
+    let past_a1 = b1 + offset.right_of_left3();
+    if past_a1 < start.from + 3 || past_a1 > width + 3 {
+        return Err(LineFault::BadPlace);
+    }
+    let a1 = past_a1 - 3;
+    line.paint(start.colour, a1 - line.len());
+    Ok(Start {
+        from: a1 + 1,
+        colour: start.colour.other(),
+        // Left of b1 the changing place before it may be right of a1.
+        index: if a1 < b1 && start.index > 0 {
+            start.index - 1
+        } else {
+            start.index + 1
+        },
+    })
+}
+
+/// Horizontal mode: the runs from a0 to a1 and from a1 to a2 follow, and a0 moves to a2.
+#[inline]
+fn horizontal(
+    line: &mut RowBuilder,
+    reader: &mut BitReader,
+    changes: &[u16],
+    width: u16,
+    start: Start,
+) -> Result<Start, LineFault>
+    requires start { IsStart changes.now width line.old start }
+    requires within { start.from ≤ width }
+    requires rising { AreRising 0 changes.now width }
+    requires few { width ≤ 2432 }
+    ensures next { IfOk result (λ next. IsStart changes.now width line.new next) }
+    ensures ok { IfOk result (λ next. (text : List Bool) × Passes reader.old reader.new text
+        × TakesStep (painted Colour.White 0 changes.now width) width Mode.Horizontal text line.old start line.new next) }
+    ensures fault { IfErr result (λ fault. (row : Elements) → Completes width line.old start.from start.colour row
+        → StopsIn (painted Colour.White 0 changes.now width) row Mode.Horizontal start.from reader.old.left fault) }
+{
+    read_stretch(line, reader, width, start.colour, start.from == 0)?;
+    let at_width = line.len() == width;
+    read_stretch(line, reader, width, start.colour.other(), at_width)?;
+    Ok(Start {
+        from: line.len() + 1,
+        ..start
+    })
+}
+
+/// Reads a run of horizontal mode and paints it. After an `Err` the reader stands anywhere.
+#[inline]
+fn read_stretch(
+    line: &mut RowBuilder,
+    reader: &mut BitReader,
+    width: u16,
+    colour: Colour,
+    may_be_empty: bool,
+) -> Result<(), LineFault>
+    requires within { length line.old ≤ width }
+    requires few { width ≤ 2432 }
+    ensures ok { OnOk result ((run : ℕ) × (text : List Bool) × SpellsRun colour text run × Passes reader.old reader.new text × (line.new ≡ line.old ++ replicate run colour)
+        × (length line.old + run ≤ width) × ((0 < run) ⊎ IsTrue may_be_empty)) }
+    ensures fault { IfErr result (λ fault. StopsAtRun width colour (length line.old) (IsTrue may_be_empty) reader.old.left fault) }
+{
+    let run = read_run(reader, colour)?;
+    if run == 0 && !may_be_empty {
+        return Err(LineFault::BadPlace);
+    }
+    if run > width - line.len() {
+        return Err(LineFault::PastWidth);
+    }
+    line.paint(colour, run);
+    Ok(())
+}
+
+/// The index of b1 in the changing places of the reference, or past their end where b1 is the width.
+#[inline]
+fn index_of_b1(changes: &[u16], start: Start) -> usize
+    requires { IsCursor changes.now start.colour start.from start.index }
+    ensures { IsIndexOfB1 changes.now start.colour start.from result }
+{
+    let mut index = start.index;
+    while index < changes.len() && changes[index] < start.from {
+        index += 2;
+    }
+    index
+}

@@ -1,0 +1,138 @@
+//! Two-dimensional lines, written.
+ghost use Rattle.std.specs.Prelude.{List, Bool, ℕ, ◌++◌, ◌+◌, ◌≡◌, ◌<◌, ◌≤◌, length, max, slice_index_or, IfSome, IsNone, OnOk, OnErr};
+ghost use Rattle.fax_bits.specs.Bits.{word_bits};
+ghost use Rattle.fax_runcodes.specs.Painted.{colour_after_changes};
+ghost use Rattle.fax_mrcode.specs.declared.mode.Offset.{Offset};
+ghost use Rattle.fax_mrcode.specs.Modes.{IsAt, mode_word};
+ghost use Rattle.fax_mrcode.specs.Written.{WritesLine};
+
+#[cfg(test)]
+mod tests;
+
+use crate::places::place_at;
+use crate::{Mode, Offset};
+use fax_bits::{BitWriter, NoMemory};
+use fax_runcodes::{Colour, Row, write_run};
+
+/// Writes the line of a row against the row before it: pass wherever b2 lies left of a1, else vertical
+/// wherever a1 lies at most three elements from b1, else horizontal (ITU-T T.4, 4.2.1.3.3). An `Err`
+/// changes nothing.
+pub fn write_line_2d(writer: &mut BitWriter, reference: &Row, row: &Row) -> Result<(), NoMemory>
+    requires { length row.now ≡ length reference.now }
+    ensures ok { OnOk result ((text : List Bool) × WritesLine reference.now row.now text × (writer.new ≡ writer.old ++ text)) }
+    ensures err { OnErr result (writer.new ≡ writer.old) }
+{
+    let before = writer.bits();
+    let result = write_steps(writer, reference, row);
+    if result.is_err() {
+        writer.cut(before);
+    }
+    result
+}
+
+/// Writes the coding steps of a line. The changing places of both rows are walked from left to right,
+/// those of the reference with one step back where a1 lies left of b1. An `Err` leaves what was written
+/// behind the bits before.
+fn write_steps(writer: &mut BitWriter, reference: &Row, row: &Row) -> Result<(), NoMemory>
+    requires { length row.now ≡ length reference.now }
+    ensures ok { OnOk result ((text : List Bool) × WritesLine reference.now row.now text × (writer.new ≡ writer.old ++ text)) }
+    ensures err { OnErr result ((text : List Bool) × (writer.new ≡ writer.old ++ text)) }
+{
+    let width = row.width();
+    let (changes, above) = (row.changes(), reference.changes());
+    // a0 + 1 and the colour at a0, and where a1 and b1 stand among the changing places
+    let (mut from, mut colour) = (0, Colour::White);
+    let (mut index, mut index_above) = (0, 0);
+    while from <= width {
+        index_above = first_from(above, index_above, from);
+        let a1 = place_at(changes, index, width);
+        let b1 = place_at(above, index_above, width);
+        let b2 = place_at(above, index_above + 1, width);
+        if b2 < a1 {
+            put_mode(writer, Mode::Pass)?;
+            from = b2 + 1;
+        } else if let Some(offset) = offset_of(a1, b1) {
+            put_mode(writer, Mode::Vertical(offset))?;
+            index_above = if a1 < b1 && index_above > 0 {
+                index_above - 1
+            } else {
+                index_above + 1
+            };
+            from = a1 + 1;
+            index += 1;
+            colour = colour.other();
+        } else {
+            let a2 = place_at(changes, index + 1, width);
+            put_mode(writer, Mode::Horizontal)?;
+            write_run(writer, colour, a1 - from.saturating_sub(1))?;
+            write_run(writer, colour.other(), a2 - a1)?;
+            from = a2 + 1;
+            index += 2;
+        }
+    }
+    Ok(())
+}
+
+/// The index of the first changing place, from an index on, that changes to the same colour as the one
+/// there and doesn't lie left of a place. Every other index changes to the same colour.
+#[inline]
+fn first_from(changes: &[u16], mut index: usize, from: u16) -> usize
+    ensures later { index ≤ result }
+    ensures near { result ≤ max index (length changes.now + 1) }
+    ensures turns { colour_after_changes result ≡ colour_after_changes index }
+    ensures passed { (k : ℕ) → index ≤ k → k < result → colour_after_changes k ≡ colour_after_changes index → slice_index_or changes.now k from < from }
+    ensures found { from ≤ slice_index_or changes.now result from }
+{
+    while index < changes.len() && changes[index] < from {
+        index += 2;
+    }
+    index
+}
+
+/// How far a1 lies from b1, where it is no more than three elements.
+#[inline]
+fn offset_of(a1: u16, b1: u16) -> Option<Offset>
+    ensures some { IfSome result (λ offset. IsAt offset a1 b1) }
+    ensures none { IsNone result → (offset : Offset) → IsAt offset a1 b1 → ⊥ }
+{
+    match i32::from(a1) - i32::from(b1) {
+        -3 => Some(Offset::Left3),
+        -2 => Some(Offset::Left2),
+        -1 => Some(Offset::Left1),
+        0 => Some(Offset::Zero),
+        1 => Some(Offset::Right1),
+        2 => Some(Offset::Right2),
+        3 => Some(Offset::Right3),
+        _ => None,
+    }
+}
+
+/// Writes the word of a mode. An `Err` changes nothing.
+#[inline]
+fn put_mode(writer: &mut BitWriter, mode: Mode) -> Result<(), NoMemory>
+    ensures ok { OnOk result (writer.new ≡ writer.old ++ mode_word mode) }
+    ensures err { OnErr result (writer.new ≡ writer.old) }
+{
+    let (word, bits) = word_of(mode);
+    writer.put(word, bits)
+}
+
+/// The word of a mode (ITU-T T.4, table 4/T.4), and how many bits it has.
+#[inline]
+#[tactic(auto, unfolding(fax_bits::specs::Bits::word_bits, fax_bits::specs::Bits::bit))]
+fn word_of(mode: Mode) -> (u32, u32)
+    ensures bits { word_bits result.1 result.0 ≡ mode_word mode }
+    ensures few { result.1 ≤ 7 }
+{
+    match mode {
+        Mode::Pass => (0b0001, 4),
+        Mode::Horizontal => (0b001, 3),
+        Mode::Vertical(Offset::Zero) => (0b1, 1),
+        Mode::Vertical(Offset::Right1) => (0b011, 3),
+        Mode::Vertical(Offset::Right2) => (0b000011, 6),
+        Mode::Vertical(Offset::Right3) => (0b0000011, 7),
+        Mode::Vertical(Offset::Left1) => (0b010, 3),
+        Mode::Vertical(Offset::Left2) => (0b000010, 6),
+        Mode::Vertical(Offset::Left3) => (0b0000010, 7),
+    }
+}
