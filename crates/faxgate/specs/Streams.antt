@@ -1,5 +1,5 @@
 -- What a read and a write leave of the streams (this project's profile).
-use Rattle.std.specs.Prelude.{ℕ, ◌+◌, Bool, true, Result, Ok, Err}
+use Rattle.std.specs.Prelude.{ℕ, ◌+◌, ◌-◌, ◌^◌, min, Bool, true, Result, Ok, Err}
 use Rattle.faxgate.specs.declared.stream.ReadFault.{ReadFault}
 use Rattle.faxgate.specs.declared.stream.ReadFault.TheVariants.{Interrupted, Failed}
 
@@ -9,9 +9,13 @@ failed_after_read failed (Ok n) = failed
 failed_after_read failed (Err Interrupted) = failed
 failed_after_read failed (Err Failed) = true
 
+-- where counts stop
+abbrev pub greatest_count : ℕ
+greatest_count = 2 ^ 64 - 1
+
 -- how many octets reads have given, once one more gave this
 abbrev pub given_after_read : ℕ → Result ℕ ReadFault → ℕ
-given_after_read given (Ok n) = given + n
+given_after_read given (Ok n) = min (given + n) greatest_count
 given_after_read given (Err fault) = given
 
 -- whether a write has failed, once one more ended so

@@ -1,5 +1,5 @@
 //! A run of `faxgate page`, over any streams.
-ghost use Rattle.std.specs.Prelude.{ℕ, List, ◌≡◌, ◌≢◌, ◌<◌, ◌⊎◌, true, false, length, IfSome, OnOk};
+ghost use Rattle.std.specs.Prelude.{ℕ, List, ◌≡◌, ◌≢◌, ◌+◌, ◌<◌, ◌≤◌, ◌⊎◌, true, false, length, IfSome, OnOk};
 ghost use Rattle.std.specs.Io.KnownBytes.{Appends, Keeps};
 ghost use Rattle.faxgate.specs.Answers.{Answers};
 ghost use Rattle.faxgate.specs.Streams.{failed_after_write};
@@ -7,7 +7,7 @@ ghost use Rattle.faxgate.specs.Streams.{failed_after_write};
 use crate::answer::{Answer, PageOptions, answer_to};
 use crate::input::{InputError, read_input};
 use crate::status::Status;
-use crate::stream::{MOST_OCTETS, MOST_READS, Sink, Source, WriteFault};
+use crate::stream::{MOST_AT_ONCE, MOST_OCTETS, MOST_READS, Sink, Source, WriteFault};
 use std::alloc::Global;
 
 /// Reads the input whole, writes the answer to it and nothing else, and says with which exit status the
@@ -18,25 +18,28 @@ pub fn run_page<I: Source, O: Sink>(
     sink: &mut O,
     options: PageOptions,
 ) -> u8
-    requires unread { (I.reads source.old ≡ 0) × (I.given source.old ≡ 0) }
-    requires unfailed { (I.failed source.old ≡ false) × (O.failed sink.old ≡ false) }
-
     // Where the input is known, what is written is the answer to it, unless a read or a write failed or
     // the input went past its bound.
     ensures answers { result ≢ 4 → IfSome (I.remaining source.old) (λ input. (text : List ℕ)
         × Answers options.back input result text × Appends (O.contents sink.old) (O.contents sink.new) text) }
-    ensures stream { result ≡ 4 → (I.failed source.new ≡ true) ⊎ (O.failed sink.new ≡ true)
-        ⊎ (MOST_OCTETS < I.given source.new) ⊎ (I.reads source.new ≡ MOST_READS) }
-
-    // Where a read failed, or the source gave more than an input may have, nothing is written; nor
-    // elsewhere, unless it was a write that failed.
-    ensures unread { (I.failed source.new ≡ true) ⊎ (MOST_OCTETS < I.given source.new)
-        → (result ≡ 4) × Keeps (O.contents sink.old) (O.contents sink.new) }
+    ensures handed_on { result ≢ 4 → O.held_back sink.new ≡ false }
     ensures unwritten { result ≡ 4 → O.failed sink.new ≡ false → Keeps (O.contents sink.old) (O.contents sink.new) }
-    ensures failed_write { O.failed sink.new ≡ true → result ≡ 4 }
 
     // A known input past the bound is not answered; memory may be wanting before its end.
     ensures too_long { IfSome (I.remaining source.old) (λ input. MOST_OCTETS < length input → (result ≡ 4) ⊎ (result ≡ 3)) }
+
+    // The source is read no further than its bounds.
+    ensures reads { I.reads source.new ≤ I.reads source.old + MOST_READS }
+    ensures given { I.given source.new ≤ I.given source.old + MOST_OCTETS + MOST_AT_ONCE }
+
+    // A source that was not read is fresh: its counts are 0, and it has not failed.
+    ensures stream { I.reads source.old ≡ 0 → I.given source.old ≡ 0 → result ≡ 4 → (I.failed source.new ≡ true)
+        ⊎ (O.failed sink.new ≡ true) ⊎ (MOST_OCTETS < I.given source.new) ⊎ (I.reads source.new ≡ MOST_READS) }
+    ensures failed_read { I.failed source.old ≡ false → I.failed source.new ≡ true
+        → (result ≡ 4) × Keeps (O.contents sink.old) (O.contents sink.new) }
+    ensures too_much { I.given source.old ≡ 0 → MOST_OCTETS < I.given source.new
+        → (result ≡ 4) × Keeps (O.contents sink.old) (O.contents sink.new) }
+    ensures failed_write { O.failed sink.old ≡ false → O.failed sink.new ≡ true → result ≡ 4 }
 {
     let answer = match read_input(alloc, source) {
         Ok(input) => answer_to(alloc, input, options),
@@ -53,6 +56,7 @@ pub fn run_page<I: Source, O: Sink>(
 fn write_text<O: Sink>(sink: &mut O, text: &[u8]) -> Result<(), WriteFault>
     ensures text { OnOk result (Appends (O.contents sink.old) (O.contents sink.new) text.now) }
     ensures failed { O.failed sink.new ≡ failed_after_write (O.failed sink.old) result }
+    ensures handed_on { OnOk result (O.held_back sink.new ≡ false) }
 {
     sink.write_all(text)?;
     sink.flush()

@@ -1,8 +1,8 @@
-//! Streams of octets that keep count: how much a source gave, in how many reads, and whether a read or a
-//! write failed.
-ghost use Rattle.std.specs.Prelude.{ℕ, ◌≡◌, ◌+◌, ◌<◌, ◌≤◌, ◌↔◌, Bool, false, List, Option, length, IfOk, OnOk, IsOk};
+//! Streams of octets that keep count: how much a source gave, in how many reads, whether a read or a write
+//! failed, and whether what was written was handed on.
+ghost use Rattle.std.specs.Prelude.{ℕ, ◌≡◌, ◌+◌, ◌≤◌, ◌↔◌, Bool, true, false, List, Option, length, min, IfOk, OnOk, IsOk};
 ghost use Rattle.std.specs.Io.KnownBytes.{Appends, Keeps, ReadConsumes};
-ghost use Rattle.faxgate.specs.Streams.{failed_after_read, failed_after_write, given_after_read};
+ghost use Rattle.faxgate.specs.Streams.{failed_after_read, failed_after_write, given_after_read, greatest_count};
 
 use std::io;
 use std::io::{ErrorKind, Read, Write};
@@ -33,10 +33,10 @@ pub trait Source {
     /// The octets that it will give, where they are known.
     ghost remaining: { Self → Option (List ℕ) };
 
-    /// How many reads were made.
+    /// How many reads were made. The count stops at the greatest `u64`.
     ghost reads: { Self → ℕ };
 
-    /// How many octets they gave.
+    /// How many octets they gave. The count stops there too.
     ghost given: { Self → ℕ };
 
     /// Whether one of them failed.
@@ -44,12 +44,9 @@ pub trait Source {
 
     /// Reads some octets into the front of the buffer, and says how many. None are left at 0.
     fn read(&mut self, buffer: &mut [u8]) -> Result<usize, ReadFault>
-        requires reads_left { reads self.old < MOST_READS }
-        requires within { given self.old ≤ MOST_OCTETS }
-        requires at_once { length buffer.old ≤ MOST_AT_ONCE }
         ensures bound { IfOk result (λ n. n ≤ length buffer.new) }
         ensures octets { ReadConsumes (remaining self.old) (remaining self.new) result buffer.new }
-        ensures counted { reads self.new ≡ reads self.old + 1 }
+        ensures counted { reads self.new ≡ min (reads self.old + 1) greatest_count }
         ensures given { given self.new ≡ given_after_read (given self.old) result }
         ensures failed { failed self.new ≡ failed_after_read (failed self.old) result };
 }
@@ -62,23 +59,28 @@ pub trait Sink {
     /// Whether a write failed.
     ghost failed: { Self → Bool };
 
+    /// Whether what was written may be held back.
+    ghost held_back: { Self → Bool };
+
     /// Writes all octets.
     fn write_all(&mut self, octets: &[u8]) -> Result<(), WriteFault>
         ensures octets { OnOk result (Appends (contents self.old) (contents self.new) octets.now) }
-        ensures failed { failed self.new ≡ failed_after_write (failed self.old) result };
+        ensures failed { failed self.new ≡ failed_after_write (failed self.old) result }
+        ensures held_back { held_back self.new ≡ true };
 
     /// Hands on what is held back.
     fn flush(&mut self) -> Result<(), WriteFault>
         ensures octets { OnOk result (Keeps (contents self.old) (contents self.new)) }
-        ensures failed { failed self.new ≡ failed_after_write (failed self.old) result };
+        ensures failed { failed self.new ≡ failed_after_write (failed self.old) result }
+        ensures handed_on { OnOk result (held_back self.new ≡ false) };
 }
 
-/// A source of std's.
+/// A source of std's. Its counts stop at the greatest `u64`.
 #[derive(Drop)]
 pub struct StdSource<R> {
     reader: R,
-    reads: u32,
-    given: u32,
+    reads: u64,
+    given: u64,
     failed: bool,
 }
 
@@ -108,10 +110,10 @@ impl<R: Read> Source for StdSource<R> {
     ghost failed = { λ source. source.failed };
 
     fn read(&mut self, buffer: &mut [u8]) -> Result<usize, ReadFault> {
-        self.reads += 1;
+        self.reads = self.reads.saturating_add(1);
         match self.reader.read(buffer) {
             Ok(count) => {
-                self.given += count as u32;
+                self.given = self.given.saturating_add(count as u64);
                 Ok(count)
             }
             Err(error) if error.kind() == ErrorKind::Interrupted => Err(ReadFault::Interrupted),
@@ -128,23 +130,26 @@ impl<R: Read> Source for StdSource<R> {
 pub struct StdSink<W> {
     writer: W,
     failed: bool,
+    held_back: bool,
 }
 
 impl<W: Write> StdSink<W> {
-    /// A sink to which no write failed.
+    /// A sink to which nothing was written.
     pub fn new(writer: W) -> Self
         ensures same { ⟦<StdSink<W> as Sink>⟧.contents result ≡ W.contents writer }
         ensures unfailed { ⟦<StdSink<W> as Sink>⟧.failed result ≡ false }
+        ensures unwritten { ⟦<StdSink<W> as Sink>⟧.held_back result ≡ false }
     {
         StdSink {
             writer,
             failed: false,
+            held_back: false,
         }
     }
 
     /// Keeps in mind whether a write failed.
     fn noted(&mut self, written: io::Result<()>) -> Result<(), WriteFault>
-        ensures same { self.new.writer ≡ self.old.writer }
+        ensures same { (self.new.writer ≡ self.old.writer) × (self.new.held_back ≡ self.old.held_back) }
         ensures failed { self.new.failed ≡ failed_after_write self.old.failed result }
         ensures ok { IsOk result ↔ IsOk written }
     {
@@ -163,13 +168,19 @@ impl<W: Write> Sink for StdSink<W> {
 
     ghost failed = { λ sink. sink.failed };
 
+    ghost held_back = { λ sink. sink.held_back };
+
     fn write_all(&mut self, octets: &[u8]) -> Result<(), WriteFault> {
+        self.held_back = true;
         let written = self.writer.write_all(octets);
         self.noted(written)
     }
 
     fn flush(&mut self) -> Result<(), WriteFault> {
         let written = self.writer.flush();
+        if written.is_ok() {
+            self.held_back = false;
+        }
         self.noted(written)
     }
 }

@@ -1,4 +1,6 @@
 //! Runs over streams in memory.
+mod samples;
+
 use crate::answer::PageOptions;
 use crate::command_line::page_options;
 use crate::run::run_page;
@@ -7,6 +9,7 @@ use clap::error::ErrorKind;
 use fax_bits::BitWriter;
 use fax_mhcode::write_line_1d;
 use fax_runcodes::Row;
+use samples::{HELLO_HEX, HELLO_RUNS};
 use std::alloc::Global;
 use std::io;
 use std::io::{Read, Write};
@@ -233,6 +236,24 @@ fn inputs_are_bounded(rt: HostRuntime) {
 }
 
 #[test]
+fn a_source_is_read_again(rt: HostRuntime) {
+    let octets: &[u8] = b"0014d9a8008008008008008008\n";
+    let mut text = Vec::new(rt.alloc());
+    let mut source = StdSource::new(octets);
+    let mut sink = StdSink::new(&mut text);
+    for status in [0, 1] {
+        let found = run_page(
+            rt.alloc(),
+            &mut source,
+            &mut sink,
+            PageOptions { back: false },
+        );
+        assert_eq!(rt; found, status);
+    }
+    assert_eq!(rt; text.as_slice(), b"1728\nfault 1 NoEol\n".as_slice());
+}
+
+#[test]
 fn words_are_read(rt: HostRuntime) {
     for (words, back) in [
         (["faxgate", "page"].as_slice(), false),
@@ -264,4 +285,9 @@ fn words_are_read(rt: HostRuntime) {
             Err(error) => assert_eq!(rt; error.kind(), kind),
         }
     }
+}
+
+#[test]
+fn reads_a_page_of_another_encoder(rt: HostRuntime) {
+    expect_run(&rt, false, HELLO_HEX.as_bytes(), 0, HELLO_RUNS.as_bytes());
 }

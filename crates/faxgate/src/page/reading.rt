@@ -12,7 +12,7 @@ ghost use Rattle.faxgate.specs.PageFaults.{AreZeros, LineBegins, WantsLine, Stop
 
 use super::{Coding, Format, Page, PageFault, RowStore};
 use fax_bits::BitReader;
-use fax_mhcode::{LineFault, read_line_1d_into};
+use fax_mhcode::read_line_1d_into;
 use fax_runcodes::{RowBuilder, Width};
 use std::alloc::Global;
 
@@ -126,7 +126,6 @@ fn read_row(
     line.clear();
     match read_line_1d_into(line, reader, width) {
         Ok(()) => {}
-        Err(LineFault::NoMemory) => return Err(PageFault::NoMemory),
         Err(_) => return Err(PageFault::BadLine(n)),
     }
     match pass_separator(reader)? {
