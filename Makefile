@@ -13,7 +13,9 @@ all:
 test:
 	$(RT) ci
 
-# Refuses each allocation of a run in turn, both ways. It wants a C compiler, and a minute at most.
+# Refuses each allocation of a run in turn, both ways and in both codings. It wants a C compiler, and a minute at most.
 memory: all
 	tools/refuse-memory $(PROGRAM) samples/hello.hex page
 	tools/refuse-memory $(PROGRAM) samples/hello.runs page --back
+	tools/refuse-memory $(PROGRAM) samples/text-mr.hex page --coding mr
+	tools/refuse-memory $(PROGRAM) samples/text-mr.runs page --back --coding mr --fine --least 96

@@ -1,10 +1,3 @@
 pub mod AnswerLemmas
-pub mod FrontLemmas
-pub mod PageLaws
-pub mod PageReading
-pub mod ReadLemmas
 pub mod RowLineLemmas
 pub mod TellLemmas
-pub mod TextLemmas
-pub mod WritingLemmas
-pub mod WrittenLemmas

@@ -1,5 +1,5 @@
 -- Lines that tell rows, one after another.
-use Rattle.std.proofs.Common.{◌≡◌, ℕ, suc, ◌+◌, List, [], ◌∷◌, ◌++◌, length, replicate, sum, take, zero, Some, slice_get, add-one, refl, inl, sym, ◌∙◌, ap, ap₂, arith, append_assoc, append-nil, length-append}
+use Rattle.std.proofs.Common.{◌≡◌, ℕ, suc, ◌+◌, List, [], ◌∷◌, ◌++◌, length, replicate, sum, take, zero, Some, slice_get, add-one, refl, sym, ◌∙◌, ap, ap₂, subst, ◌<◌, ◌^◌, arith, append_assoc, append-nil, length-append}
 use Rattle.std.proofs.lemmas.Grind.{flat_map-append}
 use Rattle.std.proofs.lemmas.List.Elements.{recursion_from_All, All-from_recursion}
 use Rattle.std.specs.List.{All, AllByRecursion}
@@ -7,9 +7,13 @@ use Rattle.std.proofs.lemmas.List.{length-replicate}
 use Rattle.std.proofs.lemmas.List.Sums.{sum_by-cons}
 use Rattle.fax_runcodes.specs.declared.Colour.{Colour}
 use Rattle.fax_runcodes.specs.declared.Colour.TheVariants.{White}
-use Rattle.fax_runcodes.specs.Rows.{Elements, AreRunsOfRow, other, stretches}
+use Rattle.fax_runcodes.specs.declared.Width.{Width}
+use Rattle.fax_runcodes.specs.declared.Width.TheVariants.{W1728, W2048, W2432}
+use Rattle.fax_runcodes.specs.Rows.{Elements, AreRunsOfRow, IsWidth, other, stretches}
+use Rattle.fax_runcodes.specs.Widths.{elements_of}
+use Rattle.fax_mhcode.proofs.LineLaws.{IsWidth-elements}
 use Rattle.faxgate.specs.Answers.{ComesBehind}
-use Rattle.faxgate.specs.RowLines.{row_width, TellsRow, TellRows, IsRowLine, line_of, text_of_lines, lines_of}
+use Rattle.faxgate.specs.RowLines.{TellsRow, TellRows, IsRowLine, line_of, text_of_lines, lines_of}
 
 -- ---- one line
 
@@ -21,10 +25,16 @@ length-stretches colour (n ∷ runs) =
     ∙ sym (sum_by-cons (λ x. x) n runs)
 
 -- what a line of a row is made of
-pub runs_of_line : (line : List ℕ) → IsRowLine line → (runs : List ℕ) × (sum runs ≡ row_width) × AreRunsOfRow runs × (line ≡ line_of runs)
-runs_of_line line (row, wide, told) =
-    let total : sum told.runs ≡ 1728 = sym (length-stretches White told.runs) ∙ ap length (sym told.are_runs.row_is) ∙ wide in
-    (told.runs, total, record { width = inl total; not_empty = told.are_runs.not_empty }, told.line_is)
+pub runs_of_line : (width : Width) (line : List ℕ) → IsRowLine (elements_of width) line → (runs : List ℕ) × (sum runs ≡ elements_of width) × AreRunsOfRow runs × (line ≡ line_of runs)
+runs_of_line width line (row, wide, told) =
+    let total : sum told.runs ≡ elements_of width = sym (length-stretches White told.runs) ∙ ap length (sym told.are_runs.row_is) ∙ wide in
+    (told.runs, total, record { width = subst IsWidth (sym total) (IsWidth-elements width); not_empty = told.are_runs.not_empty }, told.line_is)
+
+-- the runs of a row have elements, and fewer than 16 bits can count
+pub sum_of_runs : (width : Width) (runs : List ℕ) → sum runs ≡ elements_of width → (0 < sum runs) × (sum runs < 2 ^ 16)
+sum_of_runs W1728 runs total = (omega (arith, total), omega (arith, total))
+sum_of_runs W2048 runs total = (omega (arith, total), omega (arith, total))
+sum_of_runs W2432 runs total = (omega (arith, total), omega (arith, total))
 
 -- the row that is made of the runs of a line
 pub TellsRow-made : (line runs : List ℕ) (row : Elements) → line ≡ line_of runs → AreRunsOfRow runs → row ≡ stretches White runs → TellsRow line row
@@ -47,23 +57,23 @@ length-TellRows [] (row ∷ rows) told = absurd told
 length-TellRows (line ∷ lines) [] told = absurd told
 length-TellRows (line ∷ lines) (row ∷ rows) told = ap suc (length-TellRows lines rows told.1)
 
-each_tells : (lines : List (List ℕ)) (rows : List Elements) → TellRows lines rows → AllByRecursion (λ row. length row ≡ row_width) rows
-    → AllByRecursion IsRowLine lines
-each_tells [] [] told wide = tt
-each_tells [] (row ∷ rows) told wide = absurd told
-each_tells (line ∷ lines) [] told wide = absurd told
-each_tells (line ∷ lines) (row ∷ rows) told wide = ((row, wide.0, told.0), each_tells lines rows told.1 wide.1)
+each_tells : (width : ℕ) (lines : List (List ℕ)) (rows : List Elements) → TellRows lines rows → AllByRecursion (λ row. length row ≡ width) rows
+    → AllByRecursion (IsRowLine width) lines
+each_tells width [] [] told wide = tt
+each_tells width [] (row ∷ rows) told wide = absurd told
+each_tells width (line ∷ lines) [] told wide = absurd told
+each_tells width (line ∷ lines) (row ∷ rows) told wide = ((row, wide.0, told.0), each_tells width lines rows told.1 wide.1)
 
 -- a line behind those that tell rows
-pub ComesBehind-told : (input : List ℕ) (before : List (List ℕ)) (rows : List Elements) (n : ℕ) (line : List ℕ) (rest : List (List ℕ))
-    → lines_of input ≡ before ++ line ∷ rest → TellRows before rows → All (λ row. length row ≡ row_width) rows → length rows ≡ n
-    → ComesBehind input n line
-ComesBehind-told input before rows n line rest lines_are told wide many = record {
+pub ComesBehind-told : (width : ℕ) (input : List ℕ) (before : List (List ℕ)) (rows : List Elements) (n : ℕ) (line : List ℕ) (rest : List (List ℕ))
+    → lines_of input ≡ before ++ line ∷ rest → TellRows before rows → All (λ row. length row ≡ width) rows → length rows ≡ n
+    → ComesBehind width input n line
+ComesBehind-told width input before rows n line rest lines_are told wide many = record {
   before = before;
   rest = rest;
   lines_are = lines_are;
   so_many = length-TellRows before rows told ∙ many;
-  each = All-from_recursion IsRowLine before (each_tells before rows told (recursion_from_All _ rows wide));
+  each = All-from_recursion (IsRowLine width) before (each_tells width before rows told (recursion_from_All _ rows wide));
 }
 
 -- no line tells no row

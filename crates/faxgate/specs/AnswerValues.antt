@@ -5,8 +5,8 @@ use Rattle.faxgate.specs.declared.answer.Answer.{Answer}
 use Rattle.faxgate.specs.declared.answer.Answer.TheVariants as answer
 use Rattle.faxgate.specs.declared.input_fault.InputFault.{InputFault}
 use Rattle.faxgate.specs.declared.input_fault.InputFault.TheVariants.{Page, NoMemory}
-use Rattle.faxgate.specs.declared.page.fault.PageFault.{PageFault}
-use Rattle.faxgate.specs.declared.page.fault.PageFault.TheVariants as page
+use Rattle.fax_pagestore.specs.declared.fault.PageFault.{PageFault}
+use Rattle.fax_pagestore.specs.declared.fault.PageFault.TheVariants as page
 use Rattle.faxgate.specs.Answers.{Outcome}
 
 -- the exit status of an answer

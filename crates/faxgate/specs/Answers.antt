@@ -4,22 +4,27 @@ use Rattle.std.specs.Char.{is_ascii_whitespace}
 use Rattle.fax_bits.specs.Laws.{AreOctets}
 use Rattle.fax_bits.specs.Writing.{IsPadded}
 use Rattle.fax_runcodes.specs.Rows.{Elements}
+use Rattle.fax_runcodes.specs.Widths.{elements_of}
 use Rattle.hex.specs.Hex.{decode_of, encode_lower}
 use Rattle.hex.specs.declared.error.FromHexError.{FromHexError}
-use Rattle.faxgate.specs.declared.page.Coding.TheVariants.{Mh}
-use Rattle.faxgate.specs.declared.page.fault.PageFault.{PageFault}
-use Rattle.faxgate.specs.declared.page.fault.PageFault.TheVariants as page
+use Rattle.fax_pagestore.specs.declared.fault.PageFault.{PageFault}
+use Rattle.fax_pagestore.specs.declared.fault.PageFault.TheVariants as page
+use Rattle.faxgate.specs.declared.answer.PageOptions.{PageOptions}
 use Rattle.faxgate.specs.declared.input_fault.InputFault.{InputFault}
 use Rattle.faxgate.specs.declared.input_fault.InputFault.TheVariants.{Hex, Page, Row, NoMemory}
-use Rattle.faxgate.specs.PageRows.{AreRows, most_rows}
-use Rattle.faxgate.specs.PageTexts.{MeansRows}
-use Rattle.faxgate.specs.PageFaults.{FailsPage}
-use Rattle.faxgate.specs.WrittenPages.{WritesPage}
-use Rattle.faxgate.specs.RowLines.{row_width, TellRows, IsRowLine, text_of_lines, lines_of}
+use Rattle.fax_pagestore.specs.PageRows.{AreRows, most_rows}
+use Rattle.fax_pagestore.specs.PageTexts.{MeansRows}
+use Rattle.fax_pagestore.specs.PageFaults.{FailsPage}
+use Rattle.fax_pagestore.specs.WrittenPages.{WritesPage}
+use Rattle.faxgate.specs.RowLines.{TellRows, IsRowLine, text_of_lines, lines_of}
 
 -- a text, or what is wrong with the input
 abbrev pub Outcome : Type 0
 Outcome = Result (List ℕ) InputFault
+
+-- the elements of each row
+abbrev pub row_width : PageOptions → ℕ
+row_width options = elements_of options.format.width
 
 -- ---- what is printed
 
@@ -61,60 +66,65 @@ abbrev pub IsHexOf : List ℕ → List ℕ → Type 0
 IsHexOf input octets = decode_of (without_white_space input) ≡ Ok octets
 
 -- What is wrong with hex text: it is none, or its octets meet a fault. Memory may be wanting at any input.
-abbrev pub RefusesPage : List ℕ → InputFault → Type 0
-RefusesPage input Hex = (error : FromHexError) × (decode_of (without_white_space input) ≡ Err error)
-RefusesPage input (Page fault) = (octets : List ℕ) × IsHexOf input octets × FailsPage row_width Mh octets fault
-RefusesPage input (Row n) = ⊥
-RefusesPage input NoMemory = Unit {0}
+abbrev pub RefusesPage : PageOptions → List ℕ → InputFault → Type 0
+RefusesPage options input Hex = (error : FromHexError) × (decode_of (without_white_space input) ≡ Err error)
+RefusesPage options input (Page fault) = (octets : List ℕ) × IsHexOf input octets × FailsPage (row_width options) options.coding octets fault
+RefusesPage options input (Row n) = ⊥
+RefusesPage options input NoMemory = Unit {0}
 
 -- the outcome for hex text: the lines of the rows that its octets mean, or what is wrong
-abbrev pub AnswersPage : List ℕ → Outcome → Type 0
-AnswersPage input (Ok text) = (octets : List ℕ) × (rows : List Elements) × (lines : List (List ℕ))
-    × IsHexOf input octets × MeansRows row_width Mh octets rows × TellRows lines rows × (text ≡ text_of_lines lines)
-AnswersPage input (Err fault) = RefusesPage input fault
+abbrev pub AnswersPage : PageOptions → List ℕ → Outcome → Type 0
+AnswersPage options input (Ok text) = (octets : List ℕ) × (rows : List Elements) × (lines : List (List ℕ))
+    × IsHexOf input octets × MeansRows (row_width options) options.coding octets rows × TellRows lines rows × (text ≡ text_of_lines lines)
+AnswersPage options input (Err fault) = RefusesPage options input fault
 
 -- ---- from rows to their page
 
--- This line comes behind so many lines that tell rows.
-pub record ComesBehind (input : List ℕ) (n : ℕ) (line : List ℕ) : Type 0 where
+-- This line comes behind so many lines that tell rows of the width.
+pub record ComesBehind (width : ℕ) (input : List ℕ) (n : ℕ) (line : List ℕ) : Type 0 where
   pub before : List (List ℕ)
   pub rest : List (List ℕ)
   pub lines_are : lines_of input ≡ before ++ line ∷ rest
   pub so_many : length before ≡ n
-  pub each : All IsRowLine before
+  pub each : All (IsRowLine width) before
 
 -- The octets hold the text in which the page of these rows is written.
-pub record HoldPage (octets : List ℕ) (rows : List Elements) : Type 0 where
+pub record HoldPage (options : PageOptions) (octets : List ℕ) (rows : List Elements) : Type 0 where
   pub bits : List Bool
-  pub written : WritesPage Mh 0 rows bits
+  pub written : WritesPage options.coding options.format.fine options.least_bits rows bits
   pub padded : IsPadded octets bits
   pub are_octets : AreOctets octets
 
 -- What is wrong with lines: there is none, or the first that tells no row, or that comes behind as many
 -- rows as a page may have. Memory may be wanting at any input.
-abbrev pub RefusesLines : List ℕ → InputFault → Type 0
-RefusesLines input Hex = ⊥
-RefusesLines input (Page fault) =
+abbrev pub RefusesLines : ℕ → List ℕ → InputFault → Type 0
+RefusesLines width input Hex = ⊥
+RefusesLines width input (Page fault) =
     ((fault ≡ page.Empty) × (lines_of input ≡ []))
-    ⊎ ((fault ≡ page.TooManyRows) × (line : List ℕ) × ComesBehind input most_rows line)
-RefusesLines input (Row n) = (n < most_rows) × (line : List ℕ) × ComesBehind input n line × (IsRowLine line → ⊥)
-RefusesLines input NoMemory = Unit {0}
+    ⊎ ((fault ≡ page.TooManyRows) × (line : List ℕ) × ComesBehind width input most_rows line)
+RefusesLines width input (Row n) = (n < most_rows) × (line : List ℕ) × ComesBehind width input n line × (IsRowLine width line → ⊥)
+RefusesLines width input NoMemory = Unit {0}
 
 -- the outcome for lines: the hex text of the page of the rows that they tell, or what is wrong
-abbrev pub AnswersRows : List ℕ → Outcome → Type 0
-AnswersRows input (Ok text) = (rows : List Elements) × (octets : List ℕ)
-    × AreRows row_width rows × TellRows (lines_of input) rows × HoldPage octets rows × (text ≡ encode_lower octets ++ 10 ∷ [])
-AnswersRows input (Err fault) = RefusesLines input fault
+abbrev pub AnswersRows : PageOptions → List ℕ → Outcome → Type 0
+AnswersRows options input (Ok text) = (rows : List Elements) × (octets : List ℕ)
+    × AreRows (row_width options) rows × TellRows (lines_of input) rows × HoldPage options octets rows × (text ≡ encode_lower octets ++ 10 ∷ [])
+AnswersRows options input (Err fault) = RefusesLines (row_width options) input fault
 
 -- ---- either
 
-abbrev pub Allows : Bool → List ℕ → Outcome → Type 0
-Allows false input outcome = AnswersPage input outcome
-Allows true input outcome = AnswersRows input outcome
+-- what a run may come to, with `--back` (true) or without it
+abbrev pub AllowsWay : Bool → PageOptions → List ℕ → Outcome → Type 0
+AllowsWay false options input outcome = AnswersPage options input outcome
+AllowsWay true options input outcome = AnswersRows options input outcome
 
--- The exit status and the text that a run may answer to an input, with `--back` or without.
-pub record Answers (back : Bool) (input : List ℕ) (status : ℕ) (text : List ℕ) : Type 0 where
+-- what a run with these options may come to
+abbrev pub Allows : PageOptions → List ℕ → Outcome → Type 0
+Allows options input outcome = AllowsWay options.back options input outcome
+
+-- The exit status and the text that a run may answer to an input, under its options.
+pub record Answers (options : PageOptions) (input : List ℕ) (status : ℕ) (text : List ℕ) : Type 0 where
   pub outcome : Outcome
-  pub allowed : Allows back input outcome
+  pub allowed : Allows options input outcome
   pub status_is : status ≡ status_of outcome
   pub text_is : text ≡ text_of outcome

@@ -1,12 +1,5 @@
 pub mod AnswerValues
 pub mod Answers
-pub mod FaultNumbers
-pub mod PageFaults
-pub mod PageLaws
-pub mod PageRows
-pub mod PageTexts
-pub mod Pages
 pub mod RowLines
 pub mod Statuses
 pub mod Streams
-pub mod WrittenPages

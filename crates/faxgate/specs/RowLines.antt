@@ -3,10 +3,6 @@ use Rattle.std.specs.Prelude.{◌≡◌, ℕ, ◌==◌, if◌then◌else◌, Lis
 use Rattle.std.specs.List.{join_with_byte, onto_first}
 use Rattle.fax_runcodes.specs.Rows.{Elements, AreRuns}
 
--- the elements of each row
-abbrev pub row_width : ℕ
-row_width = 1728
-
 -- numbers in decimal, with one space between
 abbrev pub line_of : List ℕ → List ℕ
 line_of numbers = join_with_byte 32 (map decimal numbers)
@@ -25,8 +21,8 @@ TellRows [] (row ∷ rows) = ⊥
 TellRows (line ∷ lines) [] = ⊥
 
 -- a line tells some row of the width
-abbrev pub IsRowLine : List ℕ → Type 0
-IsRowLine line = (row : Elements) × (length row ≡ row_width) × TellsRow line row
+abbrev pub IsRowLine : ℕ → List ℕ → Type 0
+IsRowLine width line = (row : Elements) × (length row ≡ width) × TellsRow line row
 
 -- lines, with a line feed behind each
 abbrev pub text_of_lines : List (List ℕ) → List ℕ

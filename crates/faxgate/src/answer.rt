@@ -2,26 +2,21 @@
 ghost use Rattle.std.specs.Prelude.{ℕ, ◌≡◌, ◌++◌, ◌∷◌, [], List, length, IfOk, IfErr};
 ghost use Rattle.hex.specs.Hex.{encode_lower};
 ghost use Rattle.fax_bits.specs.Laws.{AreOctets};
-ghost use Rattle.faxgate.specs.PageRows.{AreRows};
-ghost use Rattle.faxgate.specs.RowLines.{row_width, TellRows, text_of_lines, lines_of};
+ghost use Rattle.fax_pagestore.specs.PageRows.{AreRows};
+ghost use Rattle.fax_runcodes.specs.Widths.{elements_of};
+ghost use Rattle.faxgate.specs.RowLines.{TellRows, text_of_lines, lines_of};
 ghost use Rattle.faxgate.specs.Answers.{IsHexOf, without_white_space, RefusesPage, RefusesLines, HoldPage, AnswersPage, AnswersRows, Allows, Answers};
 ghost use Rattle.faxgate.specs.AnswerValues.{status_of_answer, text_of_answer, outcome_of};
 ghost use Rattle.faxgate.specs.Statuses.{status_code};
 
 use crate::input_fault::InputFault;
 use crate::lines::{first_line, push_numbers, row_of_line};
-use crate::page::{Coding, Format, Page, PageFault, PlainRows, RowStore, read_page, write_page};
 use crate::status::Status;
 use fax_bits::NoMemory;
+use fax_pagestore::{Coding, Format, Page, PageFault, PlainRows, RowStore, read_page, write_page};
 use fax_runcodes::Width;
 use hex::FromHexError;
 use std::alloc::Global;
-
-/// The format of each page: rows of 1728 elements, in the standard resolution.
-const FORMAT: Format = Format {
-    width: Width::W1728,
-    fine: false,
-};
 
 /// The most rows of a page.
 const MOST_ROWS: u32 = 20_000;
@@ -32,6 +27,12 @@ const MEMORY_LINE: &[u8] = b"fault memory\n";
 /// What a run is told to do.
 #[derive(Clone, Copy, PartialEq, Eq, Debug)]
 pub struct PageOptions {
+    /// The width of the page's rows, and its resolution.
+    pub format: Format,
+    /// How its lines are coded.
+    pub coding: Coding,
+    /// The least number of bits that a line is written with, fill and EOL included.
+    pub least_bits: u32,
     /// Reads rows and writes their page, in place of the other way round.
     pub back: bool,
 }
@@ -71,7 +72,7 @@ impl Answer {
 
 /// The answer to an input.
 pub fn answer_to(alloc: Global, input: Vec<u8>, options: PageOptions) -> Answer
-    ensures { Answers options.back input.items (status_of_answer result) (text_of_answer result) }
+    ensures { Answers options input.items (status_of_answer result) (text_of_answer result) }
 {
     match outcome_for(alloc, input, options) {
         Ok(text) => Answer::Done(text),
@@ -85,28 +86,28 @@ pub fn answer_to(alloc: Global, input: Vec<u8>, options: PageOptions) -> Answer
 
 /// The text for an input, or what is wrong with it.
 fn outcome_for(alloc: Global, input: Vec<u8>, options: PageOptions) -> Result<Vec<u8>, InputFault>
-    ensures { Allows options.back input.items (outcome_of result) }
+    ensures { Allows options input.items (outcome_of result) }
 {
     if options.back {
-        page_of_lines(alloc, input.as_slice())
+        page_of_lines(alloc, input.as_slice(), options)
     } else {
-        lines_of_page(alloc, input)
+        lines_of_page(alloc, input, options)
     }
 }
 
 /// The lines of the rows of a page, whose octets are given as hex text.
-fn lines_of_page(alloc: Global, input: Vec<u8>) -> Result<Vec<u8>, InputFault>
-    ensures { AnswersPage input.items (outcome_of result) }
+fn lines_of_page(alloc: Global, input: Vec<u8>, options: PageOptions) -> Result<Vec<u8>, InputFault>
+    ensures { AnswersPage options input.items (outcome_of result) }
 {
     let octets = octets_of_hex(alloc, input)?;
-    let page = read_page::<PlainRows>(alloc, octets.as_slice(), FORMAT, Coding::Mh)?;
+    let page = read_page::<PlainRows>(alloc, octets.as_slice(), options.format, options.coding)?;
     Ok(lines_of_rows(alloc, page.rows())?)
 }
 
 /// The octets of hex text, in which white space is passed over.
 fn octets_of_hex(alloc: Global, mut input: Vec<u8>) -> Result<Vec<u8>, InputFault>
     ensures ok { IfOk result (λ octets. IsHexOf input.items octets.items) }
-    ensures fault { IfErr result (λ fault. RefusesPage input.items fault) }
+    ensures fault { IfErr result (λ fault. (options : PageOptions) → RefusesPage options input.items fault) }
 {
     drop_white_space(&mut input);
     match hex::decode(alloc, input.as_slice()) {
@@ -137,20 +138,20 @@ fn lines_of_rows<S: RowStore>(alloc: Global, rows: &S) -> Result<Vec<u8>, NoMemo
 }
 
 /// The hex text, with a line feed behind it, of the page of the rows that lines tell.
-fn page_of_lines(alloc: Global, input: &[u8]) -> Result<Vec<u8>, InputFault>
-    ensures { AnswersRows input.now (outcome_of result) }
+fn page_of_lines(alloc: Global, input: &[u8], options: PageOptions) -> Result<Vec<u8>, InputFault>
+    ensures { AnswersRows options input.now (outcome_of result) }
 {
-    let rows: PlainRows = rows_of_lines(alloc, input)?;
-    let page = Page::new(FORMAT, rows);
-    let octets = write_page(alloc, &page, Coding::Mh, 0)?;
+    let rows: PlainRows = rows_of_lines(alloc, input, options.format.width)?;
+    let page = Page::new(options.format, rows);
+    let octets = write_page(alloc, &page, options.coding, options.least_bits)?;
     Ok(hex_line(alloc, octets.as_slice())?)
 }
 
-/// The rows that lines tell.
-fn rows_of_lines<S: RowStore>(alloc: Global, input: &[u8]) -> Result<S, InputFault>
-    ensures rows { IfOk result (λ rows. AreRows row_width (S.rows rows)) }
+/// The rows of a width that lines tell.
+fn rows_of_lines<S: RowStore>(alloc: Global, input: &[u8], width: Width) -> Result<S, InputFault>
+    ensures rows { IfOk result (λ rows. AreRows (elements_of width) (S.rows rows)) }
     ensures told { IfOk result (λ rows. TellRows (lines_of input.now) (S.rows rows)) }
-    ensures fault { IfErr result (λ fault. RefusesLines input.now fault) }
+    ensures fault { IfErr result (λ fault. RefusesLines (elements_of width) input.now fault) }
 {
     let mut rows = S::empty(alloc);
     let mut rest = input;
@@ -159,7 +160,7 @@ fn rows_of_lines<S: RowStore>(alloc: Global, input: &[u8]) -> Result<S, InputFau
         if number >= MOST_ROWS {
             return Err(InputFault::Page(PageFault::TooManyRows));
         }
-        let Some(row) = row_of_line(alloc, line)? else {
+        let Some(row) = row_of_line(alloc, line, width)? else {
             return Err(InputFault::Row(number));
         };
         if rows.push(row).is_err() {

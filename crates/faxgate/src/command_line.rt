@@ -1,6 +1,9 @@
 //! The command line.
 use crate::answer::PageOptions;
-use clap::{Arg, ArgAction, Command, Error};
+use clap::builder::ValueParser;
+use clap::{Arg, ArgAction, ArgMatches, Command, Error};
+use fax_pagestore::{Coding, Format};
+use fax_runcodes::Width;
 use std::alloc::{AllocError, Global};
 use std::convert::AsStr;
 
@@ -8,11 +11,30 @@ use std::convert::AsStr;
 /// help that was asked for, or what is wrong.
 pub fn page_options<'a, S: AsStr>(alloc: Global, words: &'a [S]) -> Result<PageOptions, Error> {
     let matches = faxgate_command(alloc)?.try_get_matches_from(words)?;
-    let back = match matches.subcommand_matches("page") {
-        Some(page) => page.get_flag("back"),
-        None => false,
+    Ok(options_of(matches.subcommand_matches("page")))
+}
+
+/// The options that were given to `faxgate page`, and the defaults of those that were not.
+fn options_of(page: Option<&ArgMatches<'_>>) -> PageOptions {
+    let format = Format {
+        width: match page.and_then(|page| page.get_one::<u16>("width")) {
+            Some(2432) => Width::W2432,
+            Some(2048) => Width::W2048,
+            _ => Width::W1728,
+        },
+        fine: page.is_some_and(|page| page.get_flag("fine")),
     };
-    Ok(PageOptions { back })
+    PageOptions {
+        format,
+        coding: match page.and_then(|page| page.get_str("coding")) {
+            Some("mr") => Coding::Mr,
+            _ => Coding::Mh,
+        },
+        least_bits: page
+            .and_then(|page| page.get_one::<u32>("least"))
+            .unwrap_or(0),
+        back: page.is_some_and(|page| page.get_flag("back")),
+    }
 }
 
 /// The command line of the program.
@@ -26,6 +48,28 @@ fn faxgate_command<'a>(alloc: Global) -> Result<Command<'a>, AllocError> {
 
 /// The command line of `faxgate page`.
 fn page_command<'a>(alloc: Global) -> Result<Command<'a>, AllocError> {
+    let width = Arg::new(alloc, "width")
+        .long("width")
+        .value_parser(ValueParser::Names(&["1728", "2048", "2432"]))
+        .default_value("1728")
+        .help("The elements of each row");
+    let coding = Arg::new(alloc, "coding")
+        .long("coding")
+        .value_parser(ValueParser::Names(&["mh", "mr"]))
+        .default_value("mh")
+        .help("One-dimensional lines (mh), or two-dimensional ones among them (mr)");
+    let fine = Arg::new(alloc, "fine")
+        .long("fine")
+        .action(ArgAction::SetTrue)
+        .help(
+            "The fine resolution: with --back and mr, one line of 4 is one-dimensional, in place of one of 2",
+        );
+    let least = Arg::new(alloc, "least")
+        .long("least")
+        .value_name("BITS")
+        .value_parser(ValueParser::Unsigned(0, 65_535))
+        .default_value("0")
+        .help("With --back, the least bits of a line, its fill and EOL included");
     let back = Arg::new(alloc, "back")
         .long("back")
         .action(ArgAction::SetTrue)
@@ -34,5 +78,9 @@ fn page_command<'a>(alloc: Global) -> Result<Command<'a>, AllocError> {
         .about(
             "Read the octets of a page as hex text, and print each row as a line of run lengths, white first",
         )
+        .arg(width)?
+        .arg(coding)?
+        .arg(fine)?
+        .arg(least)?
         .arg(back)
 }

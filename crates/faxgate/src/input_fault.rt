@@ -2,8 +2,8 @@
 ghost use Rattle.std.specs.Prelude.{ℕ, ◌≡◌, ◌++◌, ◌∷◌, [], IfOk, decimal};
 ghost use Rattle.faxgate.specs.Answers.{fault_line, page_fault_line};
 
-use crate::page::PageFault;
 use fax_bits::NoMemory;
+use fax_pagestore::PageFault;
 use itoa::Buffer;
 use std::alloc::Global;
 

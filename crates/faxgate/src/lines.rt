@@ -1,7 +1,8 @@
 //! Lines of a text, and the lines that tell rows.
 ghost use Rattle.std.specs.Prelude.{ℕ, ◌≡◌, ◌≢◌, ◌<◌, ◌^◌, ◌++◌, ◌∷◌, [], List, length, sum, map, decimal, IfOk, IfSome, IfNone, IsNone, IsSomeAnd, OnOk, slice_index};
 ghost use Rattle.fax_runcodes.specs.Rows.{AreRuns};
-ghost use Rattle.faxgate.specs.RowLines.{row_width, line_of, lines_of, TellsRow, IsRowLine};
+ghost use Rattle.fax_runcodes.specs.Widths.{elements_of};
+ghost use Rattle.faxgate.specs.RowLines.{line_of, lines_of, TellsRow, IsRowLine};
 
 use fax_bits::NoMemory;
 use fax_runcodes::{Row, RowFault, Width};
@@ -68,7 +69,7 @@ fn number_of(text: &[u8]) -> Option<u16>
 /// The numbers of which a line is made, with one space between.
 fn numbers_of(alloc: Global, line: &[u8]) -> Result<Option<Vec<u16>>, NoMemory>
     ensures some { IfOk result (λ found. IfSome found (λ numbers. line.now ≡ line_of numbers.items)) }
-    ensures only { (numbers : List ℕ) → sum numbers ≡ row_width → line.now ≡ line_of numbers
+    ensures only { (numbers : List ℕ) → 0 < sum numbers → sum numbers < 2 ^ 16 → line.now ≡ line_of numbers
         → IfOk result (λ found. IsSomeAnd found (λ v. v.items ≡ numbers)) }
 {
     let mut numbers = Vec::new(alloc);
@@ -81,10 +82,10 @@ fn numbers_of(alloc: Global, line: &[u8]) -> Result<Option<Vec<u16>>, NoMemory>
     Ok(Some(numbers))
 }
 
-/// The row of the width that a line tells.
-pub fn row_of_line(alloc: Global, line: &[u8]) -> Result<Option<Row>, NoMemory>
-    ensures some { IfOk result (λ found. IfSome found (λ row. (length row ≡ row_width) × TellsRow line.now row)) }
-    ensures none { IfOk result (λ found. IfNone found (IsRowLine line.now → ⊥)) }
+/// The row of a width that a line tells.
+pub fn row_of_line(alloc: Global, line: &[u8], width: Width) -> Result<Option<Row>, NoMemory>
+    ensures some { IfOk result (λ found. IfSome found (λ row. (length row ≡ elements_of width) × TellsRow line.now row)) }
+    ensures none { IfOk result (λ found. IfNone found (IsRowLine (elements_of width) line.now → ⊥)) }
 {
     let Some(runs) = numbers_of(alloc, line)? else {
         return Ok(None);
@@ -94,7 +95,7 @@ pub fn row_of_line(alloc: Global, line: &[u8]) -> Result<Option<Row>, NoMemory>
         Err(RowFault::BadRuns) => return Ok(None),
         Err(RowFault::NoMemory) => return Err(NoMemory),
     };
-    if row.width() == Width::W1728.elements() {
+    if row.width() == width.elements() {
         Ok(Some(row))
     } else {
         Ok(None)

@@ -1,4 +1,4 @@
-//! `faxgate page` prints the rows of a page of one-dimensional coding (ITU-T T.4), or the page of rows.
+//! `faxgate page` prints the rows of a page (ITU-T T.4), or the page of rows.
 #![tactic(auto)]
 
 mod answer;
@@ -6,7 +6,6 @@ mod command_line;
 mod input;
 mod input_fault;
 mod lines;
-mod page;
 mod run;
 mod status;
 mod stream;

@@ -21,7 +21,7 @@ pub fn run_page<I: Source, O: Sink>(
     // Where the input is known, what is written is the answer to it, unless a read or a write failed or
     // the input went past its bound.
     ensures answers { result ≢ 4 → IfSome (I.remaining source.old) (λ input. (text : List ℕ)
-        × Answers options.back input result text × Appends (O.contents sink.old) (O.contents sink.new) text) }
+        × Answers options input result text × Appends (O.contents sink.old) (O.contents sink.new) text) }
     ensures handed_on { result ≢ 4 → O.held_back sink.new ≡ false }
     ensures unwritten { result ≡ 4 → O.failed sink.new ≡ false → Keeps (O.contents sink.old) (O.contents sink.new) }
 

@@ -8,13 +8,43 @@ use crate::stream::{StdSink, StdSource};
 use clap::error::ErrorKind;
 use fax_bits::BitWriter;
 use fax_mhcode::write_line_1d;
-use fax_runcodes::Row;
-use samples::{HELLO_HEX, HELLO_RUNS};
+use fax_pagestore::{Coding, Format};
+use fax_runcodes::{Row, Width};
+use samples::{
+    HELLO_HEX, HELLO_RUNS, ONE_DIMENSIONAL_2432_HEX, ONE_DIMENSIONAL_2432_RUNS,
+    TWO_DIMENSIONAL_1728_HEX, TWO_DIMENSIONAL_1728_RUNS, TWO_DIMENSIONAL_2048_HEX,
+    TWO_DIMENSIONAL_2048_RUNS, TWO_DIMENSIONAL_2432_HEX, TWO_DIMENSIONAL_2432_RUNS,
+};
 use std::alloc::Global;
 use std::io;
 use std::io::{Read, Write};
 use std::process::Abort;
 use std::test::Fail;
+
+/// Reads a page, with no option given.
+const READ: PageOptions = PageOptions {
+    format: Format {
+        width: Width::W1728,
+        fine: false,
+    },
+    coding: Coding::Mh,
+    least_bits: 0,
+    back: false,
+};
+
+/// Writes a page, with no other option given.
+const BACK: PageOptions = PageOptions { back: true, ..READ };
+
+/// A page of a width and a coding, in the standard resolution.
+fn options(width: Width, coding: Coding, least_bits: u32, back: bool) -> PageOptions {
+    let format = Format { width, fine: false };
+    PageOptions {
+        format,
+        coding,
+        least_bits,
+        back,
+    }
+}
 
 /// A reader that gives a few octets at a time, each read behind one that is interrupted, and fails once
 /// it gave so many.
@@ -76,17 +106,23 @@ impl Write for Broken {
 }
 
 /// The exit status and the text of a run over a reader.
-fn run_over<R: Read + Drop>(alloc: Global, reader: R, back: bool) -> (u8, Vec<u8>) {
+fn run_over<R: Read + Drop>(alloc: Global, reader: R, options: PageOptions) -> (u8, Vec<u8>) {
     let mut text = Vec::new(alloc);
     let mut source = StdSource::new(reader);
     let mut sink = StdSink::new(&mut text);
-    let status = run_page(alloc, &mut source, &mut sink, PageOptions { back });
+    let status = run_page(alloc, &mut source, &mut sink, options);
     (status, text)
 }
 
 /// That a run over an input ends with a status and writes a text.
-fn expect_run(rt: &(impl Abort + AllocGlobal), back: bool, input: &[u8], status: u8, text: &[u8]) {
-    let (found_status, found_text) = run_over(rt.alloc(), input, back);
+fn expect_run(
+    rt: &(impl Abort + AllocGlobal),
+    options: PageOptions,
+    input: &[u8],
+    status: u8,
+    text: &[u8],
+) {
+    let (found_status, found_text) = run_over(rt.alloc(), input, options);
     assert_eq!(rt; found_status, status, "at {input:?}");
     assert_eq!(rt; found_text.as_slice(), text, "at {input:?}");
 }
@@ -125,7 +161,7 @@ fn pages_give_rows(rt: HostRuntime) {
         ("0014D9A8008008008008008008", "1728\n"),
         ("0 0\t1\n4\x0cd\r9a8008008008008008008\n", "1728\n"),
     ] {
-        expect_run(&rt, false, input.as_bytes(), 0, text.as_bytes());
+        expect_run(&rt, READ, input.as_bytes(), 0, text.as_bytes());
     }
 }
 
@@ -141,7 +177,7 @@ fn octets_meet_faults(rt: HostRuntime) {
         ("0", "fault hex\n"),
         ("0g", "fault hex\n"),
     ] {
-        expect_run(&rt, false, input.as_bytes(), 1, text.as_bytes());
+        expect_run(&rt, READ, input.as_bytes(), 1, text.as_bytes());
     }
 }
 
@@ -149,9 +185,9 @@ fn octets_meet_faults(rt: HostRuntime) {
 fn rows_are_counted(rt: HostRuntime) -> Result<(), Fail> {
     let most = white_page(rt.alloc(), 20_000)?;
     let text = repeated(rt.alloc(), b"1728\n", 20_000)?;
-    expect_run(&rt, false, most.as_slice(), 0, text.as_slice());
+    expect_run(&rt, READ, most.as_slice(), 0, text.as_slice());
     let more = white_page(rt.alloc(), 20_001)?;
-    expect_run(&rt, false, more.as_slice(), 1, b"fault 5 TooManyRows\n");
+    expect_run(&rt, READ, more.as_slice(), 1, b"fault 5 TooManyRows\n");
     Ok(())
 }
 
@@ -162,12 +198,12 @@ fn rows_give_pages(rt: HostRuntime) -> Result<(), Fail> {
         ("1728", "0014d9a8008008008008008008\n"),
         ("0 1728\n", "0013503286e0020020020020020020\n"),
     ] {
-        expect_run(&rt, true, input.as_bytes(), 0, text.as_bytes());
+        expect_run(&rt, BACK, input.as_bytes(), 0, text.as_bytes());
     }
     let rows = repeated(rt.alloc(), b"1728\n", 20_000)?;
     let mut page = white_page(rt.alloc(), 20_000)?;
     page.push(b'\n')?;
-    expect_run(&rt, true, rows.as_slice(), 0, page.as_slice());
+    expect_run(&rt, BACK, rows.as_slice(), 0, page.as_slice());
     Ok(())
 }
 
@@ -177,14 +213,14 @@ fn lines_have_faults(rt: HostRuntime) -> Result<(), Fail> {
         "\n", "01728", " 1728", "1728 ", "+1728", "1728\r", "1727", "1728 0", "5 0 1723", "0 ",
         "1  1727", "65536", "2048", "1727 a", "-1728",
     ] {
-        expect_run(&rt, true, line.as_bytes(), 1, b"fault row 0\n");
+        expect_run(&rt, BACK, line.as_bytes(), 1, b"fault row 0\n");
     }
-    expect_run(&rt, true, b"", 1, b"fault 4 Empty\n");
-    expect_run(&rt, true, b"1728\n1729\nx\n", 1, b"fault row 1\n");
-    expect_run(&rt, true, b"1728\n\n", 1, b"fault row 1\n");
+    expect_run(&rt, BACK, b"", 1, b"fault 4 Empty\n");
+    expect_run(&rt, BACK, b"1728\n1729\nx\n", 1, b"fault row 1\n");
+    expect_run(&rt, BACK, b"1728\n\n", 1, b"fault row 1\n");
     let mut rows = repeated(rt.alloc(), b"1728\n", 20_000)?;
     rows.extend_from_slice(b"x")?;
-    expect_run(&rt, true, rows.as_slice(), 1, b"fault 5 TooManyRows\n");
+    expect_run(&rt, BACK, rows.as_slice(), 1, b"fault 5 TooManyRows\n");
     Ok(())
 }
 
@@ -198,7 +234,7 @@ fn reads_may_fail(rt: HostRuntime) {
             reads_left: reads,
             interrupted: false,
         };
-        let (status, text) = run_over(rt.alloc(), reader, false);
+        let (status, text) = run_over(rt.alloc(), reader, READ);
         if reads < 28 {
             assert_eq!(rt; status, 4, "after {reads} reads");
             assert!(rt; text.is_empty());
@@ -215,22 +251,17 @@ fn writes_may_fail(rt: HostRuntime) {
         let octets: &[u8] = b"0014d9a8008008008008008008\n";
         let mut source = StdSource::new(octets);
         let mut sink = StdSink::new(Broken { writes });
-        let status = run_page(
-            rt.alloc(),
-            &mut source,
-            &mut sink,
-            PageOptions { back: false },
-        );
+        let status = run_page(rt.alloc(), &mut source, &mut sink, READ);
         assert_eq!(rt; status, 4);
     }
 }
 
 #[test]
 fn inputs_are_bounded(rt: HostRuntime) {
-    let (status, text) = run_over(rt.alloc(), Spaces(16_777_216), false);
+    let (status, text) = run_over(rt.alloc(), Spaces(16_777_216), READ);
     assert_eq!(rt; status, 1);
     assert_eq!(rt; text.as_slice(), b"fault 1 NoEol\n".as_slice());
-    let (status, text) = run_over(rt.alloc(), Spaces(16_777_217), false);
+    let (status, text) = run_over(rt.alloc(), Spaces(16_777_217), READ);
     assert_eq!(rt; status, 4);
     assert!(rt; text.is_empty());
 }
@@ -242,12 +273,7 @@ fn a_source_is_read_again(rt: HostRuntime) {
     let mut source = StdSource::new(octets);
     let mut sink = StdSink::new(&mut text);
     for status in [0, 1] {
-        let found = run_page(
-            rt.alloc(),
-            &mut source,
-            &mut sink,
-            PageOptions { back: false },
-        );
+        let found = run_page(rt.alloc(), &mut source, &mut sink, READ);
         assert_eq!(rt; found, status);
     }
     assert_eq!(rt; text.as_slice(), b"1728\nfault 1 NoEol\n".as_slice());
@@ -255,18 +281,44 @@ fn a_source_is_read_again(rt: HostRuntime) {
 
 #[test]
 fn words_are_read(rt: HostRuntime) {
-    for (words, back) in [
-        (["faxgate", "page"].as_slice(), false),
-        (["faxgate", "page", "--back"].as_slice(), true),
+    for (words, wanted) in [
+        (["faxgate", "page"].as_slice(), READ),
+        (["faxgate", "page", "--back"].as_slice(), BACK),
+        (
+            ["faxgate", "page", "--width", "2048", "--coding", "mr"].as_slice(),
+            options(Width::W2048, Coding::Mr, 0, false),
+        ),
+        (
+            [
+                "faxgate",
+                "page",
+                "--width=2432",
+                "--coding=mh",
+                "--least=65535",
+                "--back",
+            ]
+            .as_slice(),
+            options(Width::W2432, Coding::Mh, 65_535, true),
+        ),
+        (
+            ["faxgate", "page", "--width", "1728", "--least", "0"].as_slice(),
+            READ,
+        ),
     ] {
         match page_options(rt.alloc(), words) {
-            Ok(options) => assert_eq!(rt; options.back, back),
-            Err(error) => panic!(rt; "{error}"),
+            Ok(found) => assert_eq!(rt; found, wanted, "at {words:?}"),
+            Err(_) => assert!(rt; false, "at {words:?}"),
         }
     }
+    match page_options(rt.alloc(), &["faxgate", "page", "--fine"]) {
+        Ok(found) => assert!(rt; found.format.fine),
+        Err(_) => assert!(rt; false),
+    }
+}
+
+#[test]
+fn wrong_words_are_refused(rt: HostRuntime) {
     for (words, kind) in [
-        (["faxgate"].as_slice(), ErrorKind::MissingSubcommand),
-        (["faxgate", "--help"].as_slice(), ErrorKind::DisplayHelp),
         (
             ["faxgate", "page", "--help"].as_slice(),
             ErrorKind::DisplayHelp,
@@ -279,15 +331,112 @@ fn words_are_read(rt: HostRuntime) {
             ["faxgate", "pages"].as_slice(),
             ErrorKind::InvalidSubcommand,
         ),
+        (
+            ["faxgate", "page", "--width", "1729"].as_slice(),
+            ErrorKind::InvalidValue,
+        ),
+        (
+            ["faxgate", "page", "--coding", "mmr"].as_slice(),
+            ErrorKind::InvalidValue,
+        ),
+        (
+            ["faxgate", "page", "--least", "65536"].as_slice(),
+            ErrorKind::ValueValidation,
+        ),
     ] {
         match page_options(rt.alloc(), words) {
-            Ok(options) => panic!(rt; "{options:?}"),
-            Err(error) => assert_eq!(rt; error.kind(), kind),
+            Ok(_) => assert!(rt; false, "at {words:?}"),
+            Err(error) => assert_eq!(rt; error.kind(), kind, "at {words:?}"),
         }
     }
 }
 
 #[test]
-fn reads_a_page_of_another_encoder(rt: HostRuntime) {
-    expect_run(&rt, false, HELLO_HEX.as_bytes(), 0, HELLO_RUNS.as_bytes());
+fn pages_of_each_width_and_coding(rt: HostRuntime) {
+    for (width, coding, page, rows) in [
+        (
+            Width::W1728,
+            Coding::Mr,
+            "001a6cd4005001800c006003001800c0\n",
+            "1728\n1728\n",
+        ),
+        (
+            Width::W1728,
+            Coding::Mr,
+            "001a6cd40044d6800c006003001800c006\n",
+            "1728\n0 3 1725\n",
+        ),
+        (
+            Width::W2432,
+            Coding::Mh,
+            "00101d35001001001001001001\n",
+            "2432\n",
+        ),
+    ] {
+        let read = options(width, coding, 0, false);
+        expect_run(&rt, read, page.as_bytes(), 0, rows.as_bytes());
+        let back = options(width, coding, 0, true);
+        expect_run(&rt, back, rows.as_bytes(), 0, page.as_bytes());
+    }
+    let two_make_up_words = b"0014db30d4004004004004004004";
+    let wide = options(Width::W2432, Coding::Mh, 0, false);
+    expect_run(&rt, wide, two_make_up_words, 0, b"2432\n");
+    let no_black = b"0011c3760d00040040040040040040";
+    expect_run(&rt, READ, no_black, 0, b"1728\n");
+}
+
+#[test]
+fn lines_are_filled(rt: HostRuntime) {
+    let filled = options(Width::W1728, Coding::Mh, 48, true);
+    let page = b"0014d9a80000001001001001001001\n";
+    expect_run(&rt, filled, b"1728\n", 0, page);
+    expect_run(&rt, READ, page, 0, b"1728\n");
+}
+
+#[test]
+fn a_width_wants_its_rows(rt: HostRuntime) {
+    let wide = options(Width::W2048, Coding::Mr, 0, true);
+    expect_run(&rt, wide, b"2048\n1728\n", 1, b"fault row 1\n");
+    let read = options(Width::W2048, Coding::Mh, 0, false);
+    expect_run(
+        &rt,
+        read,
+        b"0014d9a8008008008008008008",
+        1,
+        b"fault 2 BadLine 0\n",
+    );
+}
+
+#[test]
+fn reads_pages_of_other_encoders(rt: HostRuntime) {
+    for (width, coding, page, rows) in [
+        (Width::W1728, Coding::Mh, HELLO_HEX, HELLO_RUNS),
+        (
+            Width::W1728,
+            Coding::Mr,
+            TWO_DIMENSIONAL_1728_HEX,
+            TWO_DIMENSIONAL_1728_RUNS,
+        ),
+        (
+            Width::W2048,
+            Coding::Mr,
+            TWO_DIMENSIONAL_2048_HEX,
+            TWO_DIMENSIONAL_2048_RUNS,
+        ),
+        (
+            Width::W2432,
+            Coding::Mh,
+            ONE_DIMENSIONAL_2432_HEX,
+            ONE_DIMENSIONAL_2432_RUNS,
+        ),
+        (
+            Width::W2432,
+            Coding::Mr,
+            TWO_DIMENSIONAL_2432_HEX,
+            TWO_DIMENSIONAL_2432_RUNS,
+        ),
+    ] {
+        let read = options(width, coding, 0, false);
+        expect_run(&rt, read, page.as_bytes(), 0, rows.as_bytes());
+    }
 }

@@ -1,6 +1,7 @@
 use Rattle.std.proofs.Common.{◌≡◌, [], ◌∷◌, ◌++◌, length, refl, rules, arith, inl, inr, sym, ◌∙◌, ap, append_assoc, append-nil, length-append}
 use Rattle.std.proofs.lemmas.List.Elements.{All-push}
-use Rattle.faxgate.specs.RowLines.{row_width, lines_of}
+use Rattle.fax_runcodes.specs.Widths.{elements_of}
+use Rattle.faxgate.specs.RowLines.{lines_of}
 use Rattle.faxgate.proofs.TellLemmas.{TellRows-push, TellRows-empty, ComesBehind-told}
 use Rattle.faxgate.proofs.answer.rows_of_lines.Goals as goal
 
@@ -9,7 +10,7 @@ returns-then-number-ge-MOST_ROWS-clause-fault g c =
     let so_far = c.loop-line.invariant in
     let rows = g.S.RowStore.rows c.loop-line.rows in
     let lines_are = so_far.lines_are ∙ ap (λ rest. so_far.before ++ rest) c.in-Some.ensures.lines in
-    inr (refl, c.in-Some.line.now, ComesBehind-told c.args.input.now so_far.before rows 20000 c.in-Some.line.now (lines_of c.in-Some.behind.now) lines_are so_far.told so_far.each (omega (arith, so_far.few)))
+    inr (refl, c.in-Some.line.now, ComesBehind-told (elements_of c.args.width) c.args.input.now so_far.before rows 20000 c.in-Some.line.now (lines_of c.in-Some.behind.now) lines_are so_far.told so_far.each (omega (arith, so_far.few)))
 
 pub returns-in_default-2-clause-fault : goal.returns-in_default-2-clause-fault
 returns-in_default-2-clause-fault g c =
@@ -18,7 +19,7 @@ returns-in_default-2-clause-fault g c =
     let lines_are = so_far.lines_are ∙ ap (λ rest. so_far.before ++ rest) c.in-Some.ensures.lines in (
       omega arith,
       c.in-Some.line.now,
-      ComesBehind-told c.args.input.now so_far.before rows c.len-number.result c.in-Some.line.now (lines_of c.in-Some.behind.now) lines_are so_far.told so_far.each (sym c.len-number.ensures),
+      ComesBehind-told (elements_of c.args.width) c.args.input.now so_far.before rows c.len-number.result c.in-Some.line.now (lines_of c.in-Some.behind.now) lines_are so_far.told so_far.each (sym c.len-number.ensures),
       rw c.in_default-2.is at c.in_ok-row.ensures.none,
     )
 
@@ -33,7 +34,7 @@ loop-line-preserved g c =
       lines_are = so_far.lines_are ∙ ap (λ rest. so_far.before ++ rest) c.in-Some.ensures.lines ∙ sym (append_assoc so_far.before (line ∷ []) (lines_of c.in-Some.behind.now));
       told = rw pushed (TellRows-push so_far.before _ line _ so_far.told told.1);
       few = omega (arith, simp length-append at (ap length pushed));
-      each = rw pushed (All-push (λ row. length row ≡ row_width) _ _ so_far.each told.0);
+      each = rw pushed (All-push (λ row. length row ≡ elements_of c.args.width) _ _ so_far.each told.0);
     }
 
 pub returns-then-len-eq0-clause-fault : goal.returns-then-len-eq0-clause-fault

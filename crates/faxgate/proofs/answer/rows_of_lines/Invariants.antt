@@ -1,6 +1,7 @@
 use Rattle.std.proofs.Common.{◌≡◌, ◌≤◌, ℕ, List, ◌++◌, length, All}
-use Rattle.faxgate.specs.PageRows.{most_rows}
-use Rattle.faxgate.specs.RowLines.{row_width, TellRows, lines_of}
+use Rattle.fax_pagestore.specs.PageRows.{most_rows}
+use Rattle.fax_runcodes.specs.Widths.{elements_of}
+use Rattle.faxgate.specs.RowLines.{TellRows, lines_of}
 use Rattle.faxgate.proofs.answer.rows_of_lines.Given as goal
 
 -- the rows so far are told by the lines before the rest
@@ -12,7 +13,7 @@ invariant-loop-line g l =
       lines_are : lines_of l.input ≡ before ++ lines_of l.rest;
       told : TellRows before rows;
       few : length rows ≤ most_rows;
-      each : All (λ row. length row ≡ row_width) rows;
+      each : All (λ row. length row ≡ elements_of l.width) rows;
     }
 
 abbrev pub decreases-loop-line : goal.decreases-loop-line

@@ -15,7 +15,7 @@ returns-clause-some c =
     line_of_parts c.args.line.now c.loop-part.numbers.items (c.loop-part.invariant.2 ∙ seen.0)
 
 pub returns-clause-only : goal.returns-clause-only
-returns-clause-only c = λ numbers total is.
+returns-clause-only c = λ numbers some few is.
     let seen = YieldsList-end
     (YieldsList-at c.into_iter-part-iterator.ensures.into_iter_gives
     (YieldsList-from_slice_split _ (λ b. eqb b 32) c.args.line.now c.split-part-items.ensures.rest c.split-part-items.ensures.done c.split-part-items.ensures.closure (λ x r q k. search (rules, tests))))
@@ -24,7 +24,7 @@ returns-clause-only c = λ numbers total is.
     (c.loop-part.invariant.2 ∙ seen.0 ∙ parts_of_line c.args.line.now numbers (omega arith) (omega arith) is)
 
 pub returns-in_default-clause-only : goal.returns-in_default-clause-only
-returns-in_default-clause-only c = λ numbers total is.
+returns-in_default-clause-only c = λ numbers some few is.
     let here = YieldsList-turn
     (YieldsList-at c.into_iter-part-iterator.ensures.into_iter_gives
     (YieldsList-from_slice_split _ (λ b. eqb b 32) c.args.line.now c.split-part-items.ensures.rest c.split-part-items.ensures.done c.split-part-items.ensures.closure (λ x r q k. search (rules, tests))))

@@ -12,9 +12,9 @@ returns-in-Ok-write_text-clause-answers g c = λ other.
     let new = g.O.Sink.contents c.write_text.new.sink in
     elim c.match-read_input.branch [
       | in-Ok w ↦
-          Answers-read told c.args.options.back _ _ _ _ _ old new w.in-Ok.ensures.whole w.answer_to-answer.ensures
+          Answers-read told c.args.options _ _ _ _ _ old new w.in-Ok.ensures.whole w.answer_to-answer.ensures
           (status ∙ ap status_of_answer w.answer-is) (c.text.ensures ∙ ap text_of_answer w.answer-is) c.in-Ok-write_text.ensures.text
       | in-Err-NoMemory w ↦
-          Answers-unread told c.args.options.back _ _ old new
+          Answers-unread told c.args.options _ _ old new
           (status ∙ ap status_of_answer w.answer-is) (c.text.ensures ∙ ap text_of_answer w.answer-is) c.in-Ok-write_text.ensures.text
     ]

@@ -1,0 +1,15 @@
+use Rattle.std.proofs.lemmas.Result.{on_ok_weaker}
+use Rattle.fax_pagestore.proofs.WritingLemmas.{filled_line}
+use Rattle.fax_pagestore.proofs.writing.write_filled_line.Goals as goal
+
+pub returns : goal.returns
+returns c =
+    let line = c.in_ok-write_line.ensures in
+    on_ok_weaker c.zeros.result
+    (λ zeros. (
+      line.0,
+      line.1,
+      filled_line c.args.least_bits c.bits-before.result c.bits.result c.fill_bits.result c.args.writer.now line.0
+          c.write_line.new.writer c.zeros.new.self c.bits-before.ensures line.2 c.bits.ensures c.fill_bits.ensures zeros,
+    ))
+    c.zeros.ensures.ok

@@ -1,0 +1,7 @@
+pub mod FaultNumbers
+pub mod PageFaults
+pub mod PageLaws
+pub mod PageRows
+pub mod PageTexts
+pub mod Pages
+pub mod WrittenPages

@@ -1,0 +1,30 @@
+-- What holds of pages and their texts.
+use Rattle.std.specs.Prelude.{◌≡◌, ℕ, Bool, List}
+use Rattle.fax_bits.specs.Writing.{IsPadded}
+use Rattle.fax_runcodes.specs.Rows.{Elements, IsWidth}
+use Rattle.fax_pagestore.specs.declared.Coding.{Coding}
+use Rattle.fax_pagestore.specs.declared.fault.PageFault.{PageFault}
+use Rattle.fax_pagestore.specs.PageRows.{AreRows}
+use Rattle.fax_pagestore.specs.PageTexts.{MeansRows}
+use Rattle.fax_pagestore.specs.PageFaults.{FailsPage}
+use Rattle.fax_pagestore.specs.WrittenPages.{WritesPage}
+
+-- octets mean the rows of at most one page
+abbrev pub PagesAreUnique : Type 0
+PagesAreUnique = (width : ℕ) (coding : Coding) (octets : List ℕ) (rows others : List Elements) → IsWidth width
+    → MeansRows width coding octets rows → MeansRows width coding octets others → rows ≡ others
+
+-- octets that mean a page meet no fault
+abbrev pub PagesDontFail : Type 0
+PagesDontFail = (width : ℕ) (coding : Coding) (octets : List ℕ) (rows : List Elements) (fault : PageFault) → IsWidth width
+    → MeansRows width coding octets rows → FailsPage width coding octets fault → ⊥
+
+-- octets meet at most one fault
+abbrev pub FaultsAreUnique : Type 0
+FaultsAreUnique = (width : ℕ) (coding : Coding) (octets : List ℕ) (fault other : PageFault) → IsWidth width
+    → FailsPage width coding octets fault → FailsPage width coding octets other → fault ≡ other
+
+-- the text in which a page is written means the page
+abbrev pub WrittenPagesMean : Type 0
+WrittenPagesMean = (width : ℕ) (coding : Coding) (fine : Bool) (least : ℕ) (rows : List Elements) (text : List Bool) (octets : List ℕ) → IsWidth width
+    → AreRows width rows → WritesPage coding fine least rows text → IsPadded octets text → MeansRows width coding octets rows

@@ -1,0 +1,229 @@
+//! Pages read from their texts.
+ghost use Rattle.std.specs.Prelude.{◌≡◌, ◌≢◌, ◌≤◌, ◌⊎◌, ◌++◌, ◌↔◌, ℕ, Bool, List, [], length, IfOk, IfErr, IfSome, IsNone, OnOk, Ok, Err, IsTrue, true, false};
+ghost use Rattle.fax_bits.specs.Reading.{Passes};
+ghost use Rattle.fax_runcodes.specs.Rows.{Elements};
+ghost use Rattle.fax_runcodes.specs.Widths.{elements_of};
+ghost use Rattle.fax_pagestore.specs.declared.Coding.{Coding};
+ghost use Rattle.fax_pagestore.specs.declared.fault.PageFault.{PageFault};
+ghost use Rattle.fax_pagestore.specs.Pages.{PageValue};
+ghost use Rattle.fax_pagestore.specs.PageTexts.{IsTag, IsFront, IsSeparator, InARow, SpellsRow, ReadSoFar, MeansRows, MeansPage};
+ghost use Rattle.fax_pagestore.specs.PageFaults.{RunsOut, LineBegins, FailsRow, WantsLine, Stops, FailsBehindFront, FailsPage, last_of};
+
+use crate::{Coding, Format, Page, PageFault, RowStore};
+use fax_bits::BitReader;
+use fax_mhcode::read_line_1d_into;
+use fax_mrcode::read_line_2d_into;
+use fax_runcodes::{Row, RowBuilder, Width};
+use std::alloc::Global;
+
+/// The most rows of a page (this project's profile).
+const MOST_ROWS: u32 = 20_000;
+
+/// The fewest zeros before the 1 of an EOL (ITU-T T.4, 4.1.2).
+const EOL_ZEROS: u128 = 11;
+
+/// The EOLs of a return to control behind its first (ITU-T T.4, 4.1.4 and 4.2.4).
+const FURTHER_EOLS: u32 = 5;
+
+/// Reads the page that octets mean.
+pub fn read_page<S: RowStore>(
+    alloc: Global,
+    octets: &[u8],
+    format: Format,
+    coding: Coding,
+) -> Result<Page<S>, PageFault>
+    ensures ok { IfOk result (λ page. MeansPage format coding octets.now page) }
+    ensures fault { IfErr result (λ fault. fault ≢ PageFault.NoMemory → FailsPage (elements_of format.width) coding octets.now fault) }
+
+    // Memory aside, octets that mean a page are read, and a fault comes wherever it is met.
+    ensures reads { (page : PageValue) → MeansPage format coding octets.now page → (result ≡ Ok page) ⊎ (result ≡ Err PageFault.NoMemory) }
+    ensures fails { (fault : PageFault) → FailsPage (elements_of format.width) coding octets.now fault → (result ≡ Err fault) ⊎ (result ≡ Err PageFault.NoMemory) }
+{
+    let mut reader = BitReader::new(octets);
+    let Some(tag) = pass_front(&mut reader, coding) else {
+        return Err(PageFault::NoEol);
+    };
+    let rows = read_rows(alloc, &mut reader, format.width, coding, tag)?;
+    Ok(Page::new(format, rows))
+}
+
+/// Passes the tag behind an EOL, and answers it: `true` for a one-dimensional line, `false` for a
+/// two-dimensional one (ITU-T T.4, 4.2.2). One-dimensional coding has no tag bit, and each of its lines
+/// counts as tagged 1. `None` says that the tag bit is missing.
+fn pass_tag(reader: &mut BitReader, coding: Coding) -> Option<bool>
+    ensures found { IfSome result (λ tag. (text : List Bool) × IsTag coding tag text × Passes reader.old reader.new text) }
+    ensures none { IsNone result → (coding ≡ Coding.Mr) × (reader.old.left ≡ []) }
+{
+    match coding {
+        Coding::Mh => Some(true),
+        Coding::Mr => {
+            let tag = reader.peek(1)?;
+            reader.skip(1);
+            Some(tag == 1)
+        }
+    }
+}
+
+/// Passes any bits up to the first EOL, the EOL and its tag, and answers the tag. `None` says that there
+/// is no EOL.
+fn pass_front(reader: &mut BitReader, coding: Coding) -> Option<bool>
+    ensures found { IfSome result (λ tag. (front : List Bool) × IsFront coding tag front × Passes reader.old reader.new front) }
+    ensures none { IsNone result → (tag : Bool) (front rest : List Bool) → IsFront coding tag front → reader.old.left ≡ front ++ rest → ⊥ }
+{
+    loop {
+        let zeros = reader.skip_zeros();
+        if !reader.has(1) {
+            return None;
+        }
+        reader.skip(1);
+        if zeros >= EOL_ZEROS {
+            return pass_tag(reader, coding);
+        }
+    }
+}
+
+/// What stands behind a separator or a line.
+#[derive(Clone, Copy)]
+enum Ahead {
+    /// Fill and an EOL, that is at least 11 zeros and a 1, and this tag behind them (ITU-T T.4, 4.1.2,
+    /// 4.1.3 and 4.2.2).
+    Separator(bool),
+    /// A line, or at least no separator: a 1 comes before 11 zeros.
+    Line,
+}
+
+/// Passes a separator, or tells that a line begins. Where only zeros are left, or an EOL without its
+/// tag, no return to control can follow.
+fn pass_separator(reader: &mut BitReader, coding: Coding) -> Result<Ahead, PageFault>
+    ensures separator { (tag : Bool) → result ≡ Ok (Ahead.Separator tag) → (text : List Bool) × IsSeparator coding tag text × Passes reader.old reader.new text }
+    ensures line { result ≡ Ok Ahead.Line → LineBegins reader.old.left }
+    ensures fault { IfErr result (λ fault. (fault ≡ PageFault.NoRtc) × RunsOut coding reader.old.left) }
+{
+    let mut ahead = reader.copy();
+    let zeros = ahead.skip_zeros();
+    if !ahead.has(1) {
+        return Err(PageFault::NoRtc);
+    }
+    if zeros < EOL_ZEROS {
+        return Ok(Ahead::Line);
+    }
+    ahead.skip(1);
+    let tag = pass_tag(&mut ahead, coding).ok_or(PageFault::NoRtc)?;
+    *reader = ahead;
+    Ok(Ahead::Separator(tag))
+}
+
+/// Whether a line begins: a 1 comes before 11 zeros.
+fn line_begins(reader: &BitReader) -> bool
+    ensures { IsTrue result ↔ LineBegins reader.now.left }
+{
+    let mut ahead = reader.copy();
+    let zeros = ahead.skip_zeros();
+    zeros < EOL_ZEROS && ahead.has(1)
+}
+
+/// Passes the last five of the six EOLs that end a page, behind the first and its tag. Each of the six
+/// has tag 1 (ITU-T T.4, 4.1.4 and 4.2.4).
+fn pass_return_to_control(
+    reader: &mut BitReader,
+    coding: Coding,
+    first: bool,
+) -> Result<(), PageFault>
+    requires { LineBegins reader.old.left → ⊥ }
+    ensures ok { OnOk result ((text : List Bool) × InARow coding first 5 text true × Passes reader.old reader.new text) }
+    ensures fault { IfErr result (λ fault. (n : ℕ) × (text rest : List Bool) × (last : Bool) × (n ≤ 5) × InARow coding first n text last
+        × (reader.old.left ≡ text ++ rest) × ((width : ℕ) (rows : List Elements) → Stops coding width rows n last rest fault)) }
+{
+    let mut tag = first;
+    for _ in 0..FURTHER_EOLS {
+        match pass_separator(reader, coding)? {
+            Ahead::Separator(next) if tag => tag = next,
+            _ => return Err(PageFault::NoRtc),
+        }
+    }
+    if tag { Ok(()) } else { Err(PageFault::NoRtc) }
+}
+
+/// Reads a line into the builder, in place of what is there, and answers whether it could be read. A
+/// two-dimensional line is read against the row before, and without one it cannot be.
+fn read_line(
+    line: &mut RowBuilder,
+    reader: &mut BitReader,
+    width: Width,
+    one_dimensional: bool,
+    before: &Option<Row>,
+) -> bool
+    ensures read { IsTrue result → (text : List Bool) × SpellsRow (elements_of width) one_dimensional before.now text line.new × Passes reader.old reader.new text }
+    ensures fails { result ≡ false → FailsRow (elements_of width) one_dimensional before.now reader.old.left }
+{
+    line.clear();
+    if one_dimensional {
+        return read_line_1d_into(line, reader, width).is_ok();
+    }
+    match before {
+        Some(reference) => read_line_2d_into(line, reader, reference).is_ok(),
+        None => false,
+    }
+}
+
+/// Reads the line behind n rows and this tag into the builder, in place of what is there, passes the
+/// separator behind the line, and answers its tag.
+fn read_row(
+    line: &mut RowBuilder,
+    reader: &mut BitReader,
+    width: Width,
+    coding: Coding,
+    tag: bool,
+    before: &Option<Row>,
+    n: u32,
+) -> Result<bool, PageFault>
+    ensures ok { IfOk result (λ next. (text separator : List Bool) × SpellsRow (elements_of width) tag before.now text line.new × IsSeparator coding next separator
+        × Passes reader.old reader.new (text ++ separator)) }
+    ensures fault { IfErr result (λ fault. (rows : List Elements) → length rows ≡ n → (tag ≡ false → before.now ≡ last_of rows) → WantsLine rows 0 reader.old.left
+        → Stops coding (elements_of width) rows 0 tag reader.old.left fault) }
+{
+    if !read_line(line, reader, width, tag, before) {
+        return Err(PageFault::BadLine(n));
+    }
+    match pass_separator(reader, coding)? {
+        Ahead::Separator(next) => Ok(next),
+        Ahead::Line => Err(PageFault::BadLine(n)),
+    }
+}
+
+/// Reads the lines of a page behind its first EOL and the tag of that, and passes the return to control.
+fn read_rows<S: RowStore>(
+    alloc: Global,
+    reader: &mut BitReader,
+    width: Width,
+    coding: Coding,
+    first: bool,
+) -> Result<S, PageFault>
+    ensures ok { IfOk result (λ rows. (octets : List ℕ) → ReadSoFar coding (elements_of width) octets [] 0 first reader.old.left
+        → MeansRows (elements_of width) coding octets (S.rows rows)) }
+    ensures fault { IfErr result (λ fault. fault ≢ PageFault.NoMemory → (octets : List ℕ) → ReadSoFar coding (elements_of width) octets [] 0 first reader.old.left
+        → FailsBehindFront coding (elements_of width) octets fault) }
+{
+    let mut rows = S::empty(alloc);
+    let mut line = RowBuilder::new(alloc)?;
+    let mut tag = first;
+    let mut before = None;
+    while line_begins(reader) {
+        let n = rows.len();
+        if n == MOST_ROWS {
+            return Err(PageFault::TooManyRows);
+        }
+        tag = read_row(&mut line, reader, width, coding, tag, &before, n)?;
+        let row = line.row()?;
+        // Only a line of tag 0 looks at the row before it.
+        before = if tag { None } else { Some(row.copy()?) };
+        if rows.push(row).is_err() {
+            return Err(PageFault::NoMemory);
+        }
+    }
+    pass_return_to_control(reader, coding, tag)?;
+    if rows.len() == 0 {
+        return Err(PageFault::Empty);
+    }
+    Ok(rows)
+}

@@ -1,0 +1,115 @@
+//! Pages, over any store of rows.
+ghost use Rattle.std.specs.Prelude.{List, [], ◌≡◌, ◌<◌, ◌^◌, ◌++◌, ◌∷◌, length, vec_len, slice_get, Some, OnOk, OnErr, IfErr, IfOk};
+ghost use Rattle.fax_runcodes.specs.Rows.{Elements};
+ghost use Rattle.fax_runcodes.specs.Widths.{elements_of};
+ghost use Rattle.fax_pagestore.specs.PageRows.{AreRows};
+
+use crate::Format;
+use fax_bits::NoMemory;
+use fax_runcodes::Row;
+use std::alloc::Global;
+use std::marker::Model;
+
+/// Rows in order, fewer than 2^32 of them.
+pub trait RowStore: Drop + Sized {
+    ghost use Rattle.std.specs.Prelude.{List, [], ◌≡◌, ◌<◌, ◌^◌, ◌++◌, ◌∷◌, length, vec_len, slice_get, Some, OnOk, OnErr, IfErr, IfOk};
+    ghost use Rattle.fax_runcodes.specs.Rows.{Elements};
+
+    /// The rows that it has.
+    ghost rows: { Self → List Elements };
+
+    /// A store of no rows. It takes no memory.
+    fn empty(alloc: Global) -> Self
+        ensures { rows result ≡ [] };
+
+    /// Adds a row, or hands it back for want of memory or where it would be the 2^32nd.
+    fn push(&mut self, row: Row) -> Result<(), Row>
+        ensures pushed { OnOk result (rows self.new ≡ rows self.old ++ row ∷ []) }
+        ensures back { IfErr result (λ back. back ≡ row) }
+        ensures err { OnErr result (rows self.new ≡ rows self.old) };
+
+    /// How many rows it has. It takes no memory.
+    fn len(&self) -> u32
+        ensures { result ≡ length (rows self.now) };
+
+    /// Row i, counted from 0.
+    fn row(&self, i: u32) -> Result<Row, NoMemory>
+        requires { i < length (rows self.now) }
+        ensures { IfOk result (λ row. slice_get (rows self.now) i ≡ Some row) };
+}
+
+/// A store of rows one by one.
+#[derive(Drop)]
+pub struct PlainRows {
+    rows: Vec<Row>,
+    ghost few: { vec_len rows < 2 ^ 32 },
+}
+
+impl RowStore for PlainRows {
+    ghost rows = { λ store. store.rows.items };
+
+    fn empty(alloc: Global) -> Self {
+        PlainRows {
+            rows: Vec::new(alloc),
+        }
+    }
+
+    fn push(&mut self, row: Row) -> Result<(), Row> {
+        if self.rows.len() >= u32::MAX as usize {
+            return Err(row);
+        }
+        self.rows.push(row).map_err(|refused| refused.value)
+    }
+
+    fn len(&self) -> u32 {
+        self.rows.len() as u32
+    }
+
+    fn row(&self, i: u32) -> Result<Row, NoMemory> {
+        self.rows[i as usize].copy()
+    }
+}
+
+/// A page: a format, and 1 to 20,000 rows of its width. Seen as these, whatever the store.
+#[derive(Drop)]
+pub struct Page<S: RowStore> {
+    format: Format,
+    rows: S,
+}
+
+impl<S: RowStore> Model for Page<S> {
+    ghost use Rattle.fax_runcodes.specs.Widths.{elements_of};
+    ghost use Rattle.fax_pagestore.specs.PageRows.{AreRows};
+    ghost use Rattle.fax_pagestore.specs.Pages.{PageValue};
+
+    ghost Value = { PageValue };
+
+    ghost view = { λ page. record { format = page.format; rows = S.rows page.rows } };
+
+    ghost invariant = { λ page. AreRows (elements_of page.format.width) (S.rows page.rows) };
+}
+
+impl<S: RowStore> Page<S> {
+    /// The page of these rows.
+    pub fn new(format: Format, rows: S) -> Self
+        requires { AreRows (elements_of format.width) (S.rows rows) }
+        ensures { result ≡ record { format = format; rows = S.rows rows } }
+    {
+        Page { format, rows }
+    }
+
+    /// Its format.
+    pub fn format(&self) -> Format
+        ensures { result ≡ self.now.format }
+    {
+        self.format
+    }
+
+    /// Its store of rows.
+    pub fn rows(&self) -> &S
+        ensures same { S.rows result.now ≡ self.now.rows }
+        ensures are_rows { AreRows (elements_of self.now.format.width) self.now.rows }
+    {
+        &self.rows
+    }
+}

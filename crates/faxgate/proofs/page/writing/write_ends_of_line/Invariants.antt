@@ -1,6 +1,0 @@
-use Rattle.std.proofs.Common.{◌≡◌, ◌++◌}
-use Rattle.faxgate.specs.WrittenPages.{ends_of_line}
-use Rattle.faxgate.proofs.page.writing.write_ends_of_line.Given as goal
-
-abbrev pub invariant-loop : goal.invariant-loop
-invariant-loop l = l.writer ≡ l.initial.writer ++ ends_of_line l.counter
