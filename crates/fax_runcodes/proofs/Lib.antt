@@ -1,6 +1,7 @@
 pub mod ChangesOfRow
 pub mod Fronts
 pub mod PaintedLemmas
+pub mod PairLemmas
 pub mod ReadLemmas
 pub mod RowLaws
 pub mod RunLaws

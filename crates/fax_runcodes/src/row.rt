@@ -1,6 +1,7 @@
 //! Rows, kept as their changing places.
-ghost use Rattle.std.specs.Prelude.{◌≡◌, ◌+◌, ◌<◌, ◌≤◌, ◌^◌, ◌++◌, [], ◌⊎◌, length, replicate, drop, sum, All, slice_get, Some, IfOk, IfSome, IsSome, IsNone, IsTrue, ◌↔◌};
+ghost use Rattle.std.specs.Prelude.{◌≡◌, ℕ, List, IfNone, take, ◌+◌, ◌<◌, ◌≤◌, ◌^◌, ◌++◌, [], ◌⊎◌, length, replicate, drop, sum, All, slice_get, Some, IfOk, IfSome, IsSome, IsNone, IsTrue, ◌↔◌};
 ghost use Rattle.fax_runcodes.specs.Rows.{IsWidth, AreRunsOfRow};
+ghost use Rattle.fax_runcodes.specs.declared.Colour.TheVariants.{White, Black};
 ghost use Rattle.fax_runcodes.specs.Painted.{painted, changes_between, AreRising, colour_after_changes};
 
 #[cfg(test)]
@@ -84,6 +85,27 @@ impl Row {
         }
         runs.push_reserved(self.width - from);
         Ok(Runs { runs })
+    }
+
+    /// Puts the lengths of its runs, white first, at the start of a slice, and answers how many they are;
+    /// `None` where the slice has no room for them. It takes no memory.
+    pub fn put_runs(&self, runs: &mut [u16]) -> Option<usize>
+        ensures some { IfSome result (λ count. AreRuns (take count runs.new) self.now × (count ≤ length runs.old)) }
+        ensures same_room { length runs.new ≡ length runs.old }
+        ensures none { IfNone result ((list : List ℕ) × AreRuns list self.now × (length runs.old < length list)) }
+        ensures untouched { IsNone result → runs.new ≡ runs.old }
+    {
+        let places = self.changes.as_slice();
+        if runs.len() <= places.len() {
+            return None;
+        }
+        let mut from = 0;
+        for i in 0..places.len() {
+            runs[i] = places[i] - from;
+            from = places[i];
+        }
+        runs[places.len()] = self.width - from;
+        Some(places.len() + 1)
     }
 
     /// The places at which the colour changes, rising. It takes no memory.
@@ -177,6 +199,22 @@ impl RowBuilder {
             self.changes.push_reserved(self.len);
         }
         self.len += n;
+    }
+
+    /// Adds a white run and a black one behind it. It takes no memory.
+    #[inline]
+    pub fn paint_pair(&mut self, white: u16, black: u16)
+        requires { length self.old + white + black ≤ 2432 }
+        ensures { self.new ≡ (self.old ++ replicate white White) ++ replicate black Black }
+    {
+        if white > 0 && black > 0 && colour_behind(self.changes.len()) == Colour::Black {
+            self.changes.push_reserved(self.len);
+            self.changes.push_reserved(self.len + white);
+            self.len += white + black;
+        } else {
+            self.paint(Colour::White, white);
+            self.paint(Colour::Black, black);
+        }
     }
 
     /// Takes away all elements. It takes no memory.

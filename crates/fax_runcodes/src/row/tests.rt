@@ -97,3 +97,25 @@ fn builds_rows(rt: HostRuntime) -> Result<(), Fail> {
     assert_eq!(rt; row.runs()?.as_slice(), [0, 3, 2045].as_slice());
     Ok(())
 }
+
+#[test]
+fn paints_pairs_and_puts_runs(rt: HostRuntime) -> Result<(), Fail> {
+    let mut builder = RowBuilder::new(rt.alloc())?;
+    builder.paint_pair(0, 3);
+    builder.paint_pair(5, 1);
+    builder.paint_pair(2, 0);
+    builder.paint_pair(0, 4);
+    builder.paint_pair(0, 6);
+    builder.paint_pair(1700, 7);
+    let row = builder.row()?;
+    let mut runs = [9; 8];
+    assert_eq!(rt; row.put_runs(&mut runs[..5]), None);
+    assert_eq!(rt; runs, [9; 8]);
+    assert_eq!(rt; row.put_runs(&mut runs), Some(8));
+    assert_eq!(rt; runs, [0, 3, 5, 1, 2, 10, 1700, 7]);
+    builder.clear();
+    builder.paint(White, 2432);
+    assert_eq!(rt; builder.row()?.put_runs(&mut runs), Some(1));
+    assert_eq!(rt; runs, [2432, 3, 5, 1, 2, 10, 1700, 7]);
+    Ok(())
+}
