@@ -3,3 +3,4 @@ pub mod LineLemmas
 pub mod FaultLaws
 pub mod WriteLemmas
 pub mod WrittenLaws
+pub mod PairLemmas

@@ -1,4 +1,5 @@
-use Rattle.std.proofs.Common.{◌≡◌, ◌+◌, ◌<◌, length, arith, ap, ◌∙◌, subst, length-append}
+use Rattle.std.proofs.Common.{◌≡◌, ◌+◌, ◌<◌, ◌++◌, length, take, replicate, refl, arith, ap, ◌∙◌, subst, length-append}
+use Rattle.std.proofs.lemmas.List.{length-take-le}
 use Rattle.std.proofs.lemmas.Result.{err_from_is_err_and}
 use Rattle.fax_runcodes.specs.declared.Colour.{Colour}
 use Rattle.fax_runcodes.specs.declared.Colour.TheVariants.{White, Black}
@@ -6,6 +7,7 @@ use Rattle.fax_runcodes.specs.RunFaults.{FailsRun, ReadsRun}
 use Rattle.fax_runcodes.proofs.RunLaws.{SpellsRun-some}
 use Rattle.fax_mhcode.specs.declared.fault.LineFault.TheVariants.{Run, PastWidth}
 use Rattle.fax_mhcode.proofs.LineLemmas.{RunsSoFar, RunsSoFar-more, FailsLine-from, SpellsLine-from, length-paint}
+use Rattle.fax_mhcode.proofs.PairLemmas.{RunsSoFar-pair}
 use Rattle.fax_mhcode.proofs.read_runs.Goals as goal
 use Rattle.fax_mhcode.proofs.read_runs.Goals.{After-paint}
 
@@ -62,3 +64,25 @@ pub returns-then-left-eq0-clause-ok : goal.returns-then-left-eq0-clause-ok
 returns-then-left-eq0-clause-ok c =
     let here = (goal.at.returns-then-left-eq0-clause-ok c).After-paint in
     SpellsLine-from c.args.width c.args.reader.now c.read_run.new.reader c.paint.new.self Black (mid here) (omega (arith, mid_length here))
+
+pub loop-left-smaller-in-Some : goal.loop-left-smaller-in-Some
+loop-left-smaller-in-Some c =
+    let pair = c.in-Some.ensures.spelt in
+    let some : 0 < length pair.white_text = SpellsRun-some White pair.white_text c.in-Some.pair.white pair.white_spelt in
+    let size : length (take c.in-Some.pair.bits c.loop-left.reader.left) ≡ c.in-Some.pair.bits = length-take-le c.in-Some.pair.bits c.loop-left.reader.left (omega (arith, ap length pair.bits_are ∙ length-append (pair.white_text ++ pair.black_text) pair.rest, length-append pair.white_text pair.black_text, pair.size_is)) in
+    let parts : length c.loop-left.reader.left ≡ length (take c.in-Some.pair.bits c.loop-left.reader.left) + length c.skip.new.self.left = ap length c.skip.ensures.bits ∙ length-append (take c.in-Some.pair.bits c.loop-left.reader.left) c.skip.new.self.left in
+    let less : length c.skip.new.self.left < length c.loop-left.reader.left = omega (arith, pair.size_is) in
+    less
+
+pub loop-left-preserved-in-Some : goal.loop-left-preserved-in-Some
+loop-left-preserved-in-Some c =
+    let pair = c.in-Some.pair in
+    let row = c.loop-left.line in
+    let longer : length (row ++ replicate pair.white White) ≡ length row + pair.white = length-paint row (row ++ replicate pair.white White) pair.white White refl in
+    let longest : length c.paint_pair.new.self ≡ length (row ++ replicate pair.white White) + pair.black = length-paint (row ++ replicate pair.white White) c.paint_pair.new.self pair.black Black c.paint_pair.ensures in
+    record {
+      so_far = rw c.paint_pair.ensures
+          (RunsSoFar-pair c.args.width c.args.reader.now c.loop-left.reader c.skip.new.self row pair.white pair.black pair.bits c.loop-left.invariant.so_far c.in-Some.ensures.spelt c.skip.ensures
+          (omega (arith, c.in-Some.ensures.goes_on, c.loop-left.invariant.left)) (omega (arith, c.in-Some.ensures.within, c.loop-left.invariant.left)));
+      left = omega (arith, longer, longest, c.in-Some.ensures.within, c.loop-left.invariant.left);
+    }
