@@ -5,3 +5,4 @@ pub mod PageRows
 pub mod PageTexts
 pub mod Pages
 pub mod WrittenPages
+pub mod PlainRows

@@ -4,6 +4,8 @@ ghost use Rattle.fax_runcodes.specs.Rows.{Elements};
 ghost use Rattle.fax_runcodes.specs.Widths.{elements_of};
 ghost use Rattle.fax_pagestore.specs.PageRows.{AreRows};
 
+mod lent;
+
 use crate::Format;
 use fax_bits::NoMemory;
 use fax_runcodes::Row;

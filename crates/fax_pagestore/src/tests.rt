@@ -275,3 +275,19 @@ fn stores_keep_rows(rt: HostRuntime) -> Result<(), Fail> {
     }
     Ok(())
 }
+
+#[test]
+fn lends_its_rows(rt: HostRuntime) -> Result<(), Fail> {
+    let page = read(
+        rt.alloc(),
+        &[EOL, MARKED, EOL, WHITE, EOL, EOL, EOL, EOL, EOL, EOL],
+        false,
+        Coding::Mh,
+    )?;
+    let mut runs = [0; 3];
+    let rows = page.rows().as_slice();
+    assert_eq!(rt; rows.len(), 2);
+    assert_eq!(rt; rows[1].put_runs(&mut runs), Some(1));
+    assert_eq!(rt; runs[0], 1728);
+    Ok(())
+}
