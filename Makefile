@@ -2,7 +2,7 @@
 RT ?= rt
 PROGRAM = crates/faxgate/out/faxgate
 
-.PHONY: all test memory
+.PHONY: all test memory bench
 
 # Proves and builds the program, and says where it lies.
 all:
@@ -19,3 +19,12 @@ memory: all
 	tools/refuse-memory $(PROGRAM) samples/hello.runs page --back
 	tools/refuse-memory $(PROGRAM) samples/text-mr.hex page --coding mr
 	tools/refuse-memory $(PROGRAM) samples/text-mr.runs page --back --coding mr --fine --least 96
+
+# Times the codec beside libtiff and spandsp: see bench/README.md. It wants a C compiler and both libraries.
+KIT_C = $(dir $(shell $(RT) doc))c
+bench/bench: bench/bench.c bench/others.c bench/others.h bench/fax_c.h
+	cd crates/fax_c && $(RT) lib
+	$(CC) -O2 -Wall -Wextra -o $@ bench/bench.c bench/others.c crates/fax_c/out/libfax_c.a $(KIT_C)/liblibc_c.a -ltiff -lspandsp -lm
+
+bench: bench/bench
+	bench/bench bench/pages

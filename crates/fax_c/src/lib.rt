@@ -1,0 +1,79 @@
+//! Page texts for programs in C: read into run lengths or into packed picture elements, and written from
+//! run lengths.
+//!
+//! Each call takes numbers and slices, stands on a call of `fax_pagestore`, and answers an [`Outcome`].
+//! Texts are those of ITU-T T.4, the most significant bit of an octet first. `bench/fax_c.h` declares
+//! the calls to C.
+#![tactic(auto)]
+
+ghost use Rattle.std.specs.Prelude.{◌≡◌, Result};
+ghost use Rattle.fax_c.specs.declared.outcome.Filled.{Filled};
+ghost use Rattle.fax_c.specs.declared.outcome.Refusal.{Refusal};
+ghost use Rattle.fax_c.specs.Outcomes.{told};
+ghost use Rattle.fax_c.specs.Calls.{ReadsRuns, ReadsPixels, WritesRuns, coding_by};
+
+mod outcome;
+mod page;
+mod reading;
+#[cfg(test)]
+mod tests;
+mod writing;
+
+pub use outcome::{Filled, Outcome, Refusal};
+use std::alloc::Global;
+
+/// Reads the page that octets mean, in rows of `width` elements (1728, 2048 or 2432), each coded in one
+/// dimension or, where `two_dimensional`, some in two. The lengths of its runs, in elements, white first
+/// in each row and row after row, are put into `runs`.
+#[unsafe(no_mangle)]
+pub extern "C" fn fax_read_runs(
+    alloc: Global,
+    octets: &[u8],
+    width: u16,
+    two_dimensional: bool,
+    runs: &mut [u16],
+) -> Outcome
+    ensures { (answer : Result Filled Refusal) × ReadsRuns width (coding_by two_dimensional) octets.now runs.old runs.new answer × (result ≡ told answer) }
+{
+    Outcome::of(reading::read_runs(alloc, octets, width, two_dimensional, runs))
+}
+
+/// Reads the page that octets mean, as `fax_read_runs` does. Its picture elements, eight in an octet, the
+/// leftmost in the most significant bit, 1 for black, row after row, are put into `pixels`.
+#[unsafe(no_mangle)]
+pub extern "C" fn fax_read_pixels(
+    alloc: Global,
+    octets: &[u8],
+    width: u16,
+    two_dimensional: bool,
+    pixels: &mut [u8],
+) -> Outcome
+    ensures { (answer : Result Filled Refusal) × ReadsPixels width (coding_by two_dimensional) octets.now pixels.old pixels.new answer × (result ≡ told answer) }
+{
+    Outcome::of(reading::read_pixels(alloc, octets, width, two_dimensional, pixels))
+}
+
+/// Writes the page whose rows have these run lengths, in elements, white first in each row and row after
+/// row. Its text, with `least_bits` bits at least for a line with its fill and EOL, is put into `octets`.
+#[unsafe(no_mangle)]
+pub extern "C" fn fax_write_runs(
+    alloc: Global,
+    runs: &[u16],
+    width: u16,
+    two_dimensional: bool,
+    fine: bool,
+    least_bits: u32,
+    octets: &mut [u8],
+) -> Outcome
+    ensures { (answer : Result Filled Refusal) × WritesRuns width (coding_by two_dimensional) fine least_bits runs.now octets.old octets.new answer × (result ≡ told answer) }
+{
+    Outcome::of(writing::write_runs(
+        alloc,
+        runs,
+        width,
+        two_dimensional,
+        fine,
+        least_bits,
+        octets,
+    ))
+}
