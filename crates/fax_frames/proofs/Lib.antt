@@ -1,0 +1,3 @@
+pub mod BitLemmas
+pub mod BitOrder
+pub mod ReadBack

@@ -1,0 +1,9 @@
+pub mod FieldsLemmas
+pub mod FirstLemmas
+pub mod ReadBackLemmas
+pub mod ReadingLemmas
+pub mod SeenLemmas
+pub mod SignalsLemmas
+pub mod SlotLaws
+pub mod TailLemmas
+pub mod WritingLemmas

@@ -1,0 +1,13 @@
+pub mod Content
+pub mod Elements
+pub mod FaultNumbers
+pub mod Hearing
+pub mod PacketLaws
+pub mod Packets
+pub mod Pieces
+pub mod Seen
+pub mod Shown
+pub mod SignalLaws
+pub mod Tracked
+pub mod Waiting
+pub mod WrittenPackets

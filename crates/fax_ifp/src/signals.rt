@@ -1,0 +1,293 @@
+//! The frames and images of a call's slots.
+ghost use Rattle.std.specs.Prelude.{◌≡◌, ◌≢◌, ◌↔◌, ◌+◌, ◌≤◌, [], ◌∷◌, ◌++◌, map, length, None, Some, IsOk, IsErr, IfOk, OnOk, OnErr};
+ghost use Rattle.smallvec.specs.SmallVec.{small_vec_len, HasRoomFor};
+ghost use Rattle.fax_ifp.specs.Packets.{packet_of};
+ghost use Rattle.fax_ifp.specs.Seen.{text_of, texts_of};
+ghost use Rattle.fax_ifp.specs.Elements.{Missing, Signal, Field as FieldElement, element_of, elements_in, elements_of};
+ghost use Rattle.fax_ifp.specs.Pieces.{end_before, kind_of_training as kind_shown};
+ghost use Rattle.fax_ifp.specs.Tracked.{IsTracked, Tracks, Gives, HasFewFields, TakesNoMemory};
+ghost use Rattle.fax_ifp.specs.Hearing.{Hears, images_in, spoilt};
+ghost use Rattle.fax_ifp.specs.Shown.{slot_of, pieces_shown};
+
+use crate::frame::FrameSoFar;
+use crate::piece::PieceList;
+use crate::{Field, Head, Ifp, IfpFault, Piece, Pieces, Slot, data_type, field_type, indicator};
+use fax_bits::NoMemory;
+use smallvec::SmallVec;
+use std::alloc::Global;
+use std::marker::Model;
+
+/// An image that has not ended: its data type, whether it has an octet, and whether it is whole so far.
+#[derive(Clone, Copy)]
+struct OpenImage {
+    kind: u8,
+    started: bool,
+    whole: bool,
+}
+
+/// Cuts the slots of a call into frames and images (ITU-T T.38).
+///
+/// It keeps the octets of a frame that has not ended, in a fixed place, and of an image that has not
+/// ended none.
+#[derive(Drop)]
+pub struct Signals {
+    alloc: Global,
+    frame: FrameSoFar,
+    image: Option<OpenImage>,
+}
+
+impl Model for Signals {
+    ghost use Rattle.fax_ifp.specs.Tracked.{Tracked};
+    ghost use Rattle.fax_ifp.specs.Shown.{image_shown};
+
+    ghost Value = { Tracked };
+
+    ghost view = { λ s. record { frame = s.frame; image = image_shown s.image } };
+}
+
+impl Signals {
+    /// The state before the first slot.
+    pub fn new(alloc: Global) -> Self
+        ensures { IsTracked [] result }
+    {
+        Signals {
+            alloc,
+            frame: FrameSoFar::new(),
+            image: None,
+        }
+    }
+
+    /// An equal value. It takes no memory.
+    pub fn copy(&self) -> Self
+        ensures { result ≡ self.now }
+    {
+        Signals {
+            alloc: self.alloc,
+            frame: self.frame.copy(),
+            image: self.image,
+        }
+    }
+
+    /// Takes the next slot and answers its pieces, in the order of time: a frame at its check sequence,
+    /// an image's start at the training indicator, its octets as they come and its end, and a gap where
+    /// something is missing.
+    ///
+    /// A packet that cannot be read is missing; one refused as an extension says nothing (this project's
+    /// profile). The time is that of a packet's octets, of which a frame's are copied once and an image's
+    /// never. Memory is wanted only at data of more than four fields, and an `Err` changes nothing.
+    pub fn slot<'a>(&mut self, slot: Slot<'a>) -> Result<Pieces<'a>, NoMemory>
+        ensures tracked { OnOk result (Tracks (slot_of slot.entry) self.old self.new) }
+        ensures pieces { IfOk result (λ given. Gives (slot_of slot.entry) self.old given) }
+        ensures err { OnErr result (self.new ≡ self.old) }
+        ensures memory { TakesNoMemory (slot_of slot.entry) → IsOk result }
+    {
+        let mut pieces = SmallVec::new(self.alloc);
+        self.take(slot, &mut pieces)?;
+        Ok(Pieces::from_list(pieces))
+    }
+
+    /// The next slot. An `Err` changes nothing.
+    fn take<'a>(&mut self, slot: Slot<'a>, pieces: &mut PieceList<'a>) -> Result<(), NoMemory>
+        requires { HasRoomFor pieces.old 5 }
+        ensures given { OnOk result (Hears (elements_of (slot_of slot.entry))
+            (self.old, pieces_shown pieces.old.items) (self.new, pieces_shown pieces.new.items)) }
+        ensures err { OnErr result (self.new ≡ self.old) }
+        ensures memory { TakesNoMemory (slot_of slot.entry) → IsOk result }
+    {
+        match slot {
+            Slot::Lost => {
+                self.missing(pieces);
+                Ok(())
+            }
+            Slot::Packet(octets) => self.packet(octets, pieces),
+        }
+    }
+
+    /// The octets of a packet come. An `Err` changes nothing.
+    fn packet<'a>(&mut self, octets: &'a [u8], pieces: &mut PieceList<'a>) -> Result<(), NoMemory>
+        requires { HasRoomFor pieces.old 5 }
+        ensures given { OnOk result (Hears (elements_in (packet_of octets.entry.now))
+            (self.old, pieces_shown pieces.old.items) (self.new, pieces_shown pieces.new.items)) }
+        ensures err { OnErr result (self.new ≡ self.old) }
+        ensures memory { TakesNoMemory (Some octets.entry.now) → IsOk result }
+    {
+        match Ifp::read(self.alloc, octets) {
+            Ok(packet) => self.content(&packet, pieces),
+            Err(fault) => self.refused(fault, pieces),
+        }
+    }
+
+    /// A packet that cannot be read comes. An `Err` changes nothing.
+    fn refused(&mut self, fault: IfpFault, pieces: &mut PieceList<'_>) -> Result<(), NoMemory>
+        requires { HasRoomFor pieces.old 1 }
+        ensures given { OnOk result (Hears (elements_in (Err fault))
+            (self.old, pieces_shown pieces.old.items) (self.new, pieces_shown pieces.new.items)) }
+        ensures err { OnErr result (self.new ≡ self.old) }
+        ensures memory { IsErr result ↔ (fault ≡ IfpFault.NoMemory) }
+    {
+        if fault == IfpFault::NoMemory {
+            return Err(NoMemory);
+        }
+        if fault != IfpFault::Extension {
+            self.missing(pieces);
+        }
+        Ok(())
+    }
+
+    /// A packet comes. An `Err` changes nothing.
+    fn content<'a>(&mut self, packet: &Ifp<'a>, pieces: &mut PieceList<'a>) -> Result<(), NoMemory>
+        requires { HasRoomFor pieces.old 5 }
+        ensures given { OnOk result (Hears (elements_in (Ok packet.now))
+            (self.old, pieces_shown pieces.old.items) (self.new, pieces_shown pieces.new.items)) }
+        ensures err { OnErr result (self.new ≡ self.old) }
+        ensures memory { HasFewFields (Ok packet.now) → IsOk result }
+    {
+        match packet.head() {
+            Head::Indicator(code) => self.indicator(code, pieces),
+            Head::Message { kind } => {
+                let fields = packet.fields();
+                pieces.reserve(fields.len() + 1)?;
+                self.fields(kind, fields, pieces);
+            }
+        }
+        Ok(())
+    }
+
+    /// The fields of a packet of data come.
+    fn fields<'a>(&mut self, kind: u8, fields: &[Field<'a>], pieces: &mut PieceList<'a>)
+        requires { HasRoomFor pieces.old (length fields.now + 1) }
+        ensures { Hears (map (element_of kind) (texts_of fields.now))
+            (self.old, pieces_shown pieces.old.items) (self.new, pieces_shown pieces.new.items) }
+    {
+        for field in fields {
+            self.field(kind, *field, pieces);
+        }
+    }
+
+    /// A field of a packet of data comes.
+    fn field<'a>(&mut self, kind: u8, field: Field<'a>, pieces: &mut PieceList<'a>)
+        requires { HasRoomFor pieces.old (1 + images_in self.old.image) }
+        ensures given { Hears (element_of kind (text_of field.entry) ∷ [])
+            (self.old, pieces_shown pieces.old.items) (self.new, pieces_shown pieces.new.items) }
+        ensures capacity { pieces.new.capacity ≡ pieces.old.capacity }
+        ensures len { small_vec_len pieces.new + images_in self.new.image
+            ≤ small_vec_len pieces.old + images_in self.old.image + 1 }
+    {
+        let octets = field.octets.unwrap_or(&[]);
+        if kind == data_type::V21 {
+            self.hdlc_field(field.what, octets, pieces);
+        } else {
+            self.image_field(kind, field.what, octets, pieces);
+        }
+    }
+
+    /// A field of V.21 data comes.
+    fn hdlc_field(&mut self, what: u8, octets: &[u8], pieces: &mut PieceList<'_>)
+        requires { HasRoomFor pieces.old 1 }
+        ensures given { Hears (FieldElement 0 what octets.now ∷ [])
+            (self.old, pieces_shown pieces.old.items) (self.new, pieces_shown pieces.new.items) }
+        ensures capacity { pieces.new.capacity ≡ pieces.old.capacity }
+        ensures len { small_vec_len pieces.new ≤ small_vec_len pieces.old + 1 }
+        ensures image { images_in self.new.image ≡ images_in self.old.image }
+    {
+        if let Some(frame) = self.frame.field(what, octets) {
+            pieces.push_reserved(Piece::Frame(frame));
+        }
+        self.spoil_image();
+    }
+
+    /// A field of data other than V.21 comes.
+    fn image_field<'a>(&mut self, kind: u8, what: u8, octets: &'a [u8], pieces: &mut PieceList<'a>)
+        requires v21 { kind ≢ 0 }
+        requires room { HasRoomFor pieces.old (1 + images_in self.old.image) }
+        ensures given { Hears (FieldElement kind what octets.entry.now ∷ [])
+            (self.old, pieces_shown pieces.old.items) (self.new, pieces_shown pieces.new.items) }
+        ensures capacity { pieces.new.capacity ≡ pieces.old.capacity }
+        ensures len { small_vec_len pieces.new + images_in self.new.image
+            ≤ small_vec_len pieces.old + images_in self.old.image + 1 }
+    {
+        let Some(image) = &mut self.image else {
+            return;
+        };
+        if image.kind != kind
+            || (what != field_type::T4_NON_ECM_DATA && what != field_type::T4_NON_ECM_SIG_END)
+        {
+            image.whole = false;
+            return;
+        }
+        if !octets.is_empty() {
+            image.started = true;
+            pieces.push_reserved(Piece::Octets(octets));
+        }
+        if what == field_type::T4_NON_ECM_SIG_END {
+            self.end_image(pieces);
+        }
+    }
+
+    /// An indicator comes.
+    fn indicator(&mut self, code: u8, pieces: &mut PieceList<'_>)
+        requires { HasRoomFor pieces.old 2 }
+        ensures { Hears (Signal code ∷ [])
+            (self.old, pieces_shown pieces.old.items) (self.new, pieces_shown pieces.new.items) }
+    {
+        self.end_image(pieces);
+        self.frame = FrameSoFar::new();
+        if code >= indicator::V27_2400_TRAINING {
+            let kind = kind_of_training(code);
+            pieces.push_reserved(Piece::Start(kind));
+            self.image = Some(OpenImage {
+                kind,
+                started: false,
+                whole: true,
+            });
+        }
+    }
+
+    /// Something is missing.
+    fn missing(&mut self, pieces: &mut PieceList<'_>)
+        requires { HasRoomFor pieces.old 1 }
+        ensures { Hears (Missing ∷ [])
+            (self.old, pieces_shown pieces.old.items) (self.new, pieces_shown pieces.new.items) }
+    {
+        pieces.push_reserved(Piece::Gap);
+        self.frame.lose();
+        self.spoil_image();
+    }
+
+    /// The open image is not whole.
+    fn spoil_image(&mut self)
+        ensures { self.new ≡ record self.old { image = spoilt self.old.image } }
+    {
+        if let Some(image) = &mut self.image {
+            image.whole = false;
+        }
+    }
+
+    /// The open image ends.
+    fn end_image(&mut self, pieces: &mut PieceList<'_>)
+        requires { HasRoomFor pieces.old (images_in self.old.image) }
+        ensures image { self.new ≡ record self.old { image = None } }
+        ensures pieces { pieces_shown pieces.new.items
+            ≡ pieces_shown pieces.old.items ++ end_before self.old.image }
+        ensures capacity { pieces.new.capacity ≡ pieces.old.capacity }
+        ensures len { small_vec_len pieces.new ≤ small_vec_len pieces.old + images_in self.old.image }
+    {
+        if let Some(image) = self.image.take() {
+            if image.started {
+                pieces.push_reserved(Piece::End { whole: image.whole });
+            }
+        }
+    }
+}
+
+/// The data type of the octets behind a training indicator (ITU-T T.38).
+fn kind_of_training(code: u8) -> u8
+    requires { 4 ≤ code }
+    ensures { result ≡ kind_shown code }
+{
+    if code < indicator::V17_7200_SHORT_TRAINING {
+        code - 3
+    } else {
+        code / 2 + 1
+    }
+}

@@ -1,0 +1,394 @@
+//! Packets worked by hand, and packets that another implementation of T.38 sent.
+ghost use Rattle.std.specs.Prelude.{◌≡◌, ◌≤◌, IsTrue, length};
+ghost use Rattle.fax_ifp.specs.Seen.{text_of, texts_of};
+ghost use Rattle.fax_ifp.specs.WrittenPackets.{IsWritable, IsWritableField};
+
+mod signals;
+
+use crate::{Field, Head, Ifp, IfpFault, write_data, write_frame, write_image, write_indicator};
+use fax_bits::NoMemory;
+use std::test::Fail;
+
+/// The packet of data of a kind with fields.
+struct Worked {
+    octets: &'static [u8],
+    kind: u8,
+    fields: &'static [Field<'static>],
+}
+
+/// Fields without octets.
+const EIGHT: [Field<'static>; 8] = [Field {
+    what: 3,
+    octets: None,
+}; 8];
+
+const NINE: [Field<'static>; 9] = [Field {
+    what: 3,
+    octets: None,
+}; 9];
+
+const MOST: [Field<'static>; 127] = [Field {
+    what: 3,
+    octets: None,
+}; 127];
+
+const WORKED: [Worked; 13] = [
+    Worked {
+        octets: &[0x40],
+        kind: 0,
+        fields: &[],
+    },
+    Worked {
+        octets: &[0xc0, 0x02, 0x24],
+        kind: 0,
+        fields: &[
+            Field {
+                what: 2,
+                octets: None,
+            },
+            Field {
+                what: 4,
+                octets: None,
+            },
+        ],
+    },
+    Worked {
+        octets: &[0xc0, 0x01, 0x20],
+        kind: 0,
+        fields: &[Field {
+            what: 2,
+            octets: None,
+        }],
+    },
+    Worked {
+        octets: &[0xc0, 0x02, 0x80, 0x00, 0x02, 0xff, 0xc8, 0x21, 0x40],
+        kind: 0,
+        fields: &[
+            Field {
+                what: 0,
+                octets: Some(&[0xff, 0xc8, 0x21]),
+            },
+            Field {
+                what: 4,
+                octets: None,
+            },
+        ],
+    },
+    Worked {
+        octets: &[
+            0xc2, 0x01, 0xf0, 0x00, 0x0c, 0x00, 0x14, 0xd9, 0xa8, 0x00, 0x80, 0x08, 0x00, 0x80,
+            0x08, 0x00, 0x80, 0x08,
+        ],
+        kind: 1,
+        fields: &[Field {
+            what: 7,
+            octets: Some(&[
+                0x00, 0x14, 0xd9, 0xa8, 0x00, 0x80, 0x08, 0x00, 0x80, 0x08, 0x00, 0x80, 0x08,
+            ]),
+        }],
+    },
+    Worked {
+        octets: &[
+            0xc2, 0x01, 0xe0, 0x00, 0x0b, 0x00, 0x00, 0x00, 0x00, 0x00, 0x00, 0x00, 0x00, 0x00,
+            0x00, 0x00, 0x00,
+        ],
+        kind: 1,
+        fields: &[Field {
+            what: 6,
+            octets: Some(&[
+                0x00, 0x00, 0x00, 0x00, 0x00, 0x00, 0x00, 0x00, 0x00, 0x00, 0x00, 0x00,
+            ]),
+        }],
+    },
+    Worked {
+        octets: &[
+            0xc2, 0x01, 0xf0, 0x00, 0x05, 0x00, 0x00, 0x00, 0x00, 0x00, 0x00,
+        ],
+        kind: 1,
+        fields: &[Field {
+            what: 7,
+            octets: Some(&[0x00, 0x00, 0x00, 0x00, 0x00, 0x00]),
+        }],
+    },
+    Worked {
+        octets: &[0xd0, 0x03, 0x28, 0x00, 0x01, 0x01, 0x02, 0x40],
+        kind: 8,
+        fields: &[
+            Field {
+                what: 2,
+                octets: None,
+            },
+            Field {
+                what: 0,
+                octets: Some(&[0x01, 0x02]),
+            },
+            Field {
+                what: 4,
+                octets: None,
+            },
+        ],
+    },
+    Worked {
+        octets: &[0xc0, 0x04, 0x12, 0x3d, 0x00, 0x00, 0x55],
+        kind: 0,
+        fields: &[
+            Field {
+                what: 1,
+                octets: None,
+            },
+            Field {
+                what: 2,
+                octets: None,
+            },
+            Field {
+                what: 3,
+                octets: None,
+            },
+            Field {
+                what: 5,
+                octets: Some(&[0x55]),
+            },
+        ],
+    },
+    Worked {
+        octets: &[0xc2, 0x03, 0x12, 0x30],
+        kind: 1,
+        fields: &[
+            Field {
+                what: 1,
+                octets: None,
+            },
+            Field {
+                what: 2,
+                octets: None,
+            },
+            Field {
+                what: 3,
+                octets: None,
+            },
+        ],
+    },
+    Worked {
+        octets: &[0xc0, 0x08, 0x33, 0x33, 0x33, 0x33],
+        kind: 0,
+        fields: &EIGHT,
+    },
+    Worked {
+        octets: &[0xc0, 0x09, 0x33, 0x33, 0x33, 0x33, 0x30],
+        kind: 0,
+        fields: &NINE,
+    },
+    Worked {
+        octets: &[
+            0xc0, 0x7f, 0x33, 0x33, 0x33, 0x33, 0x33, 0x33, 0x33, 0x33, 0x33, 0x33, 0x33, 0x33,
+            0x33, 0x33, 0x33, 0x33, 0x33, 0x33, 0x33, 0x33, 0x33, 0x33, 0x33, 0x33, 0x33, 0x33,
+            0x33, 0x33, 0x33, 0x33, 0x33, 0x33, 0x33, 0x33, 0x33, 0x33, 0x33, 0x33, 0x33, 0x33,
+            0x33, 0x33, 0x33, 0x33, 0x33, 0x33, 0x33, 0x33, 0x33, 0x33, 0x33, 0x33, 0x33, 0x33,
+            0x33, 0x33, 0x33, 0x33, 0x33, 0x33, 0x33, 0x33, 0x33, 0x30,
+        ],
+        kind: 0,
+        fields: &MOST,
+    },
+];
+
+/// Octets that are no packet, and why.
+const REFUSED: [(&[u8], IfpFault); 18] = [
+    (&[], IfpFault::Short),
+    (&[0xc0, 0x03, 0x24], IfpFault::Short),
+    (&[0xe0], IfpFault::Extension),
+    (&[0xd2, 0x00], IfpFault::BadValue),
+    (&[0xc0, 0x80], IfpFault::BadCount),
+    (&[0x86], IfpFault::Short),
+    (&[0x86, 0x80], IfpFault::BadCount),
+    (&[0x26], IfpFault::Extension),
+    (&[0xd2], IfpFault::BadValue),
+    (&[0xf2], IfpFault::Extension),
+    (&[0xc0], IfpFault::Short),
+    (&[0xc0, 0x01, 0x80, 0x00], IfpFault::Short),
+    (&[0xc0, 0x01, 0x80, 0xff, 0xff], IfpFault::BadCount),
+    (&[0xc0, 0x01, 0x80, 0x00, 0x01, 0xff], IfpFault::Short),
+    (&[0x86, 0x01, 0xf0], IfpFault::Short),
+    (&[0x86, 0x02, 0x1f, 0xff, 0xff], IfpFault::BadCount),
+    // The ninth field and the eleventh are not there: want of memory comes behind that.
+    (&[0xc0, 0x09, 0x33, 0x33, 0x33, 0x33], IfpFault::Short),
+    (&[0xc0, 0x0b, 0x33, 0x33, 0x33, 0x33, 0x33], IfpFault::Short),
+];
+
+/// Octets that are read, and never written so, with the packet and how many fields it has.
+const READ_ONLY: [(&[u8], Head, usize); 9] = [
+    // An indicator with no fields, with a field of either kind, and with an octet behind it.
+    (&[0x86, 0x00], Head::Indicator(3), 0),
+    (&[0x86, 0x01, 0x20], Head::Indicator(3), 0),
+    (&[0x86, 0x01, 0x80, 0x00, 0x00, 0xff], Head::Indicator(3), 0),
+    (&[0x06, 0xff], Head::Indicator(3), 0),
+    // Data with a count of 0, and with octets behind the fields.
+    (&[0xc0, 0x00], Head::Message { kind: 0 }, 0),
+    (&[0xc0, 0x00, 0xff], Head::Message { kind: 0 }, 0),
+    (&[0xc0, 0x02, 0x24, 0xff], Head::Message { kind: 0 }, 2),
+    // Padding of ones.
+    (&[0x07], Head::Indicator(3), 0),
+    (&[0xc1, 0x01, 0x2f], Head::Message { kind: 0 }, 1),
+];
+
+/// Packets of two calls between two terminals of spandsp 0.0.6.
+const SENT: [&[u8]; 13] = [
+    &[0x00],
+    &[0x02],
+    &[0x04],
+    &[0x06],
+    &[0x0e],
+    &[0xc0, 0x01, 0x80, 0x00, 0x00, 0xff],
+    &[0xc0, 0x01, 0x80, 0x00, 0x00, 0xf2],
+    &[0xc0, 0x01, 0x20],
+    &[0xc0, 0x01, 0x40],
+    &[
+        0xc8, 0x01, 0xe0, 0x00, 0x23, 0x55, 0x67, 0xa4, 0x6e, 0xb0, 0x00, 0x32, 0x55, 0x67, 0x51,
+        0x95, 0xd1, 0x22, 0xa2, 0x8f, 0xe4, 0xea, 0xdd, 0x6b, 0x9d, 0x6a, 0x3f, 0xa7, 0x28, 0x68,
+        0x91, 0x3c, 0x0d, 0x44, 0x87, 0xee, 0xb7, 0xce, 0xb7, 0x3b, 0xaf,
+    ],
+    &[
+        0xc8, 0x01, 0xe0, 0x00, 0x23, 0x41, 0xbc, 0xa2, 0x44, 0x22, 0x9d, 0x46, 0x45, 0x3d, 0x42,
+        0xf6, 0x1b, 0xea, 0x24, 0x54, 0x51, 0x56, 0xa2, 0x43, 0xf7, 0x52, 0xbb, 0x24, 0x33, 0x12,
+        0x27, 0xaa, 0x8e, 0xad, 0xf5, 0x12, 0x2a, 0x28, 0xeb, 0xa7, 0x4e,
+    ],
+    &[
+        0xc8, 0x01, 0xf0, 0x00, 0x1f, 0x00, 0x00, 0x00, 0x00, 0x00, 0x00, 0x00, 0x00, 0x00, 0x00,
+        0x00, 0x00, 0x00, 0x00, 0x00, 0x00, 0x00, 0x00, 0x00, 0x00, 0x00, 0x00, 0x00, 0x00, 0x00,
+        0x00, 0x00, 0x00, 0x00, 0x00, 0x00, 0x00,
+    ],
+    &[
+        0xc8, 0x01, 0xf0, 0x00, 0x19, 0x00, 0x00, 0x00, 0x00, 0x00, 0x00, 0x00, 0x00, 0x00, 0x00,
+        0x00, 0x00, 0x00, 0x00, 0x00, 0x00, 0x00, 0x00, 0x00, 0x00, 0x00, 0x00, 0x00, 0x00, 0x00,
+        0x00,
+    ],
+];
+
+/// Whether fields can be written.
+fn is_writable(kind: u8, fields: &[Field<'_>]) -> bool
+    ensures { IsTrue result → IsWritable kind (texts_of fields.now) }
+{
+    if kind > 8 || fields.len() > 127 {
+        return false;
+    }
+    for field in fields {
+        if !is_writable_field(field) {
+            return false;
+        }
+    }
+    true
+}
+
+fn is_writable_field(field: &Field<'_>) -> bool
+    ensures { IsTrue result → IsWritableField (text_of field.now) }
+{
+    let few = match field.octets {
+        None => true,
+        Some(octets) => !octets.is_empty() && octets.len() <= 65_535,
+    };
+    field.what <= 7 && few
+}
+
+#[test]
+fn worked_packets_are_read_and_written(rt: HostRuntime) -> Result<(), Fail> {
+    for packet in &WORKED {
+        let read = Ifp::read(rt.alloc(), packet.octets)?;
+        assert_eq!(rt; read.head(), Head::Message { kind: packet.kind });
+        assert_eq!(rt; read.fields(), packet.fields);
+        assert!(rt; is_writable(packet.kind, packet.fields));
+        let written = write_data(rt.alloc(), packet.kind, packet.fields)?;
+        assert_eq!(rt; written.as_slice(), packet.octets);
+        for end in 0..packet.octets.len() {
+            let _ = Ifp::read(rt.alloc(), &packet.octets[..end]);
+        }
+    }
+    Ok(())
+}
+
+#[test]
+fn refused_packets_are_told(rt: HostRuntime) -> Result<(), Fail> {
+    for (octets, fault) in &REFUSED {
+        assert_eq!(rt;
+            Ifp::read(rt.alloc(), octets).err(),
+            Some(*fault),
+            "{octets:?}"
+        );
+        for end in 0..octets.len() {
+            let _ = Ifp::read(rt.alloc(), &octets[..end]);
+        }
+    }
+    for (fault, number) in [
+        (IfpFault::Short, 1),
+        (IfpFault::Extension, 2),
+        (IfpFault::BadValue, 3),
+        (IfpFault::BadCount, 4),
+        (IfpFault::NoMemory, 5),
+    ] {
+        assert_eq!(rt; fault.number(), number);
+    }
+    assert_eq!(rt; IfpFault::from(NoMemory), IfpFault::NoMemory);
+    Ok(())
+}
+
+#[test]
+fn indicators_are_read_and_written(rt: HostRuntime) -> Result<(), Fail> {
+    for code in 0..16 {
+        let octets = write_indicator(code);
+        assert_eq!(rt; octets, [2 * code]);
+        let read = Ifp::read(rt.alloc(), &octets)?;
+        assert_eq!(rt; read.head(), Head::Indicator(code));
+        assert!(rt; read.fields().is_empty());
+    }
+    Ok(())
+}
+
+#[test]
+fn padding_and_what_has_no_meaning_are_passed_over(rt: HostRuntime) -> Result<(), Fail> {
+    for (octets, head, count) in &READ_ONLY {
+        let read = Ifp::read(rt.alloc(), octets)?;
+        assert_eq!(rt; read.head(), *head, "{octets:?}");
+        assert_eq!(rt; read.fields().len(), *count, "{octets:?}");
+    }
+    Ok(())
+}
+
+#[test]
+fn frames_and_images_are_written(rt: HostRuntime) -> Result<(), Fail> {
+    let frame = write_frame(rt.alloc(), &[0xff, 0xc8, 0x21])?;
+    assert_eq!(rt; frame.as_slice(), WORKED[3].octets);
+    let first = write_image(rt.alloc(), 1, false, &[0; 12])?;
+    assert_eq!(rt; first.as_slice(), WORKED[5].octets);
+    let last = write_image(rt.alloc(), 1, true, &[0; 6])?;
+    assert_eq!(rt; last.as_slice(), WORKED[6].octets);
+    Ok(())
+}
+
+#[test]
+fn the_longest_field_is_read_and_written(rt: HostRuntime) -> Result<(), Fail> {
+    let octets = vec![in rt.alloc(); 0x55; 65_535]?;
+    let written = write_image(rt.alloc(), 4, false, octets.as_slice())?;
+    let packet = written.as_slice();
+    assert_eq!(rt; packet.len(), 65_540);
+    assert!(rt; packet.starts_with(&[0xc8, 0x01, 0xe0, 0xff, 0xfe]));
+    let read = Ifp::read(rt.alloc(), packet)?;
+    assert_eq!(rt; read.head(), Head::Message { kind: 4 });
+    let field = Field {
+        what: 6,
+        octets: Some(octets.as_slice()),
+    };
+    assert_eq!(rt; read.fields(), [field].as_slice());
+    let (_, short) = packet.split_last().ok_or("no octets")?;
+    assert_eq!(rt; Ifp::read(rt.alloc(), short).err(), Some(IfpFault::Short));
+    Ok(())
+}
+
+#[test]
+fn packets_of_others_are_read(rt: HostRuntime) -> Result<(), Fail> {
+    for octets in &SENT {
+        let read = Ifp::read(rt.alloc(), octets)?;
+        match read.head() {
+            Head::Indicator(_) => assert!(rt; read.fields().is_empty()),
+            Head::Message { .. } => assert_eq!(rt; read.fields().len(), 1),
+        }
+    }
+    Ok(())
+}

@@ -1,0 +1,392 @@
+//! The pieces of slots made by hand.
+use crate::{Piece, Pieces, Signals, Slot};
+use fax_bits::NoMemory;
+use std::alloc::{AllocError, Global};
+use std::process::Abort;
+use std::test::Fail;
+
+/// A piece as a test names it.
+#[derive(Clone, Copy, Debug)]
+enum Told<'a> {
+    Frame(&'a [u8]),
+    Start(u8),
+    Octets(&'a [u8]),
+    End(bool),
+    Gap,
+}
+
+/// The training indicators of V.27 ter at 2400 and at 4800, and the V.21 preamble.
+const TRAINING: Slot<'static> = Slot::Packet(&[0x08]);
+
+const OTHER_TRAINING: Slot<'static> = Slot::Packet(&[0x0a]);
+
+const PREAMBLE: Slot<'static> = Slot::Packet(&[0x06]);
+
+/// An extension, and packets that cannot be read.
+const EXTENSION: Slot<'static> = Slot::Packet(&[0xe0]);
+
+const CUT_OFF: Slot<'static> = Slot::Packet(&[0xc0, 0x03, 0x24]);
+
+const EMPTY: Slot<'static> = Slot::Packet(&[]);
+
+/// A page of one white row in V.27 ter data at 2400, with t4-non-ecm-sig-end.
+const PAGE: &[u8] = &[
+    0x00, 0x14, 0xd9, 0xa8, 0x00, 0x80, 0x08, 0x00, 0x80, 0x08, 0x00, 0x80, 0x08,
+];
+
+const WHOLE_PAGE: Slot<'static> = Slot::Packet(&[
+    0xc2, 0x01, 0xf0, 0x00, 0x0c, 0x00, 0x14, 0xd9, 0xa8, 0x00, 0x80, 0x08, 0x00, 0x80, 0x08, 0x00,
+    0x80, 0x08,
+]);
+
+/// Two octets of an image, another one, and the last.
+const FIRST_PART: Slot<'static> = Slot::Packet(&[0xc2, 0x01, 0xe0, 0x00, 0x01, 0xaa, 0xbb]);
+
+const MORE: Slot<'static> = Slot::Packet(&[0xc2, 0x01, 0xe0, 0x00, 0x00, 0xcc]);
+
+const LAST_PART: Slot<'static> = Slot::Packet(&[0xc2, 0x01, 0xf0, 0x00, 0x00, 0xdd]);
+
+/// The end of an image with no octets.
+const BARE_END: Slot<'static> = Slot::Packet(&[0xc2, 0x01, 0x70]);
+
+/// An octet of an image in V.27 ter data at 4800.
+const OTHER_PART: Slot<'static> = Slot::Packet(&[0xc4, 0x01, 0xe0, 0x00, 0x00, 0xee]);
+
+/// A frame whose check sequence is right, and the same where it is wrong, both with the signal's end.
+const FRAME: Slot<'static> = Slot::Packet(&[0xc0, 0x02, 0x80, 0x00, 0x02, 0xff, 0xc8, 0x21, 0x40]);
+
+const BAD_FRAME: Slot<'static> = Slot::Packet(&[
+    0xc0, 0x02, 0x80, 0x00, 0x02, 0xff, 0xc8, 0x21, 0x50,
+]);
+
+/// Its first octet, the others with a right check sequence, and with a wrong one.
+const HEAD: Slot<'static> = Slot::Packet(&[0xc0, 0x01, 0x80, 0x00, 0x00, 0xff]);
+
+const TAIL: Slot<'static> = Slot::Packet(&[0xc0, 0x02, 0x80, 0x00, 0x01, 0xc8, 0x21, 0x20]);
+
+const BAD_TAIL: Slot<'static> = Slot::Packet(&[0xc0, 0x02, 0x80, 0x00, 0x01, 0xc8, 0x21, 0x30]);
+
+/// The end of a V.21 signal, and a right check sequence with no octets before it.
+const SIGNAL_END: Slot<'static> = Slot::Packet(&[0xc0, 0x01, 0x10]);
+
+const BARE_CHECK: Slot<'static> = Slot::Packet(&[0xc0, 0x01, 0x40]);
+
+/// Whether a piece is the one that is told.
+fn is_told(piece: &Piece<'_>, told: Told<'_>) -> bool {
+    match (piece, told) {
+        (Piece::Frame(frame), Told::Frame(octets)) => frame.as_slice() == octets,
+        (Piece::Start(kind), Told::Start(wanted)) => *kind == wanted,
+        (Piece::Octets(octets), Told::Octets(wanted)) => *octets == wanted,
+        (Piece::End { whole }, Told::End(wanted)) => *whole == wanted,
+        (Piece::Gap, Told::Gap) => true,
+        _ => false,
+    }
+}
+
+/// Fails unless the pieces are those told from the place on; answers the place behind them.
+fn expect_pieces(rt: &impl Abort, pieces: &Pieces<'_>, told: &[Told<'_>], from: usize) -> usize {
+    let mut place = from;
+    for piece in pieces.as_slice() {
+        let wanted = told.get(place);
+        assert!(rt;
+            wanted.is_some_and(|wanted| is_told(piece, *wanted)),
+            "{piece:?} at {place}, not {wanted:?}"
+        );
+        place = place.saturating_add(1);
+    }
+    place
+}
+
+/// Fails unless the slots give the pieces.
+fn expect(
+    rt: &impl Abort,
+    alloc: Global,
+    slots: &[Slot<'_>],
+    told: &[Told<'_>],
+) -> Result<(), NoMemory> {
+    let mut signals = Signals::new(alloc);
+    let mut place = 0;
+    for slot in slots {
+        let pieces = signals.slot(*slot)?;
+        place = expect_pieces(rt, &pieces, told, place);
+    }
+    assert_eq!(rt; place, told.len(), "at {slots:?}");
+    Ok(())
+}
+
+#[test]
+fn cuts_images(rt: HostRuntime) -> Result<(), Fail> {
+    let cases: [(&[Slot<'_>], &[Told<'_>]); 8] = [
+        (
+            &[TRAINING, WHOLE_PAGE],
+            &[Told::Start(1), Told::Octets(PAGE), Told::End(true)],
+        ),
+        // in three packets
+        (
+            &[TRAINING, FIRST_PART, MORE, LAST_PART],
+            &[
+                Told::Start(1),
+                Told::Octets(&[0xaa, 0xbb]),
+                Told::Octets(&[0xcc]),
+                Told::Octets(&[0xdd]),
+                Told::End(true),
+            ],
+        ),
+        // its last field has no octets
+        (
+            &[TRAINING, FIRST_PART, BARE_END],
+            &[Told::Start(1), Told::Octets(&[0xaa, 0xbb]), Told::End(true)],
+        ),
+        // ended by the next indicator
+        (
+            &[TRAINING, FIRST_PART, PREAMBLE],
+            &[Told::Start(1), Told::Octets(&[0xaa, 0xbb]), Told::End(true)],
+        ),
+        (
+            &[TRAINING, FIRST_PART, OTHER_TRAINING, OTHER_PART],
+            &[
+                Told::Start(1),
+                Told::Octets(&[0xaa, 0xbb]),
+                Told::End(true),
+                Told::Start(2),
+                Told::Octets(&[0xee]),
+            ],
+        ),
+        // signals without an octet
+        (
+            &[TRAINING, OTHER_TRAINING, PREAMBLE],
+            &[Told::Start(1), Told::Start(2)],
+        ),
+        (&[TRAINING, BARE_END, PREAMBLE], &[Told::Start(1)]),
+        // octets with no training, and behind the end
+        (
+            &[MORE, TRAINING, LAST_PART, MORE, PREAMBLE],
+            &[Told::Start(1), Told::Octets(&[0xdd]), Told::End(true)],
+        ),
+    ];
+    for (slots, told) in cases {
+        expect(&rt, rt.alloc(), slots, told)?;
+    }
+    Ok(())
+}
+
+#[test]
+fn tells_images_that_are_not_whole(rt: HostRuntime) -> Result<(), Fail> {
+    let cases: [(&[Slot<'_>], &[Told<'_>]); 5] = [
+        (
+            &[TRAINING, Slot::Lost, WHOLE_PAGE],
+            &[
+                Told::Start(1),
+                Told::Gap,
+                Told::Octets(PAGE),
+                Told::End(false),
+            ],
+        ),
+        // a gap just before the indicator that ends it
+        (
+            &[TRAINING, FIRST_PART, Slot::Lost, PREAMBLE],
+            &[
+                Told::Start(1),
+                Told::Octets(&[0xaa, 0xbb]),
+                Told::Gap,
+                Told::End(false),
+            ],
+        ),
+        // a gap before it begins is not in it
+        (
+            &[Slot::Lost, TRAINING, WHOLE_PAGE],
+            &[
+                Told::Gap,
+                Told::Start(1),
+                Told::Octets(PAGE),
+                Told::End(true),
+            ],
+        ),
+        // fields of other data in it, whose octets are not its own
+        (
+            &[TRAINING, OTHER_PART, LAST_PART],
+            &[Told::Start(1), Told::Octets(&[0xdd]), Told::End(false)],
+        ),
+        (
+            &[TRAINING, FIRST_PART, SIGNAL_END, LAST_PART],
+            &[
+                Told::Start(1),
+                Told::Octets(&[0xaa, 0xbb]),
+                Told::Octets(&[0xdd]),
+                Told::End(false),
+            ],
+        ),
+    ];
+    for (slots, told) in cases {
+        expect(&rt, rt.alloc(), slots, told)?;
+    }
+    Ok(())
+}
+
+#[test]
+fn starts_images_of_each_kind(rt: HostRuntime) -> Result<(), Fail> {
+    // the indicators 0 to 15 as they are written, and the data types of those that train
+    let kinds: [(&[u8], Option<u8>); 16] = [
+        (&[0x00], None),
+        (&[0x02], None),
+        (&[0x04], None),
+        (&[0x06], None),
+        (&[0x08], Some(1)),
+        (&[0x0a], Some(2)),
+        (&[0x0c], Some(3)),
+        (&[0x0e], Some(4)),
+        (&[0x10], Some(5)),
+        (&[0x12], Some(5)),
+        (&[0x14], Some(6)),
+        (&[0x16], Some(6)),
+        (&[0x18], Some(7)),
+        (&[0x1a], Some(7)),
+        (&[0x1c], Some(8)),
+        (&[0x1e], Some(8)),
+    ];
+    for (octets, kind) in kinds {
+        match kind {
+            Some(kind) => expect(
+                &rt,
+                rt.alloc(),
+                &[Slot::Packet(octets)],
+                &[Told::Start(kind)],
+            )?,
+            None => expect(&rt, rt.alloc(), &[Slot::Packet(octets)], &[])?,
+        }
+    }
+    Ok(())
+}
+
+#[test]
+fn cuts_frames(rt: HostRuntime) -> Result<(), Fail> {
+    let frame = Told::Frame(&[0xff, 0xc8, 0x21]);
+    let cases: [(&[Slot<'_>], &[Told<'_>]); 9] = [
+        (&[FRAME], &[frame]),
+        (&[BAD_FRAME, FRAME], &[frame]),
+        (&[HEAD, TAIL], &[frame]),
+        (&[HEAD, BAD_TAIL], &[]),
+        (&[HEAD, TAIL, HEAD, TAIL], &[frame, frame]),
+        // boundaries in the middle
+        (&[HEAD, PREAMBLE, FRAME], &[frame]),
+        (&[HEAD, SIGNAL_END, FRAME], &[frame]),
+        (&[HEAD, BAD_FRAME, FRAME], &[frame]),
+        // no octets
+        (&[PREAMBLE, BARE_CHECK], &[]),
+    ];
+    for (slots, told) in cases {
+        expect(&rt, rt.alloc(), slots, told)?;
+    }
+    Ok(())
+}
+
+#[test]
+fn tells_gaps(rt: HostRuntime) -> Result<(), Fail> {
+    let frame = Told::Frame(&[0xff, 0xc8, 0x21]);
+    let cases: [(&[Slot<'_>], &[Told<'_>]); 7] = [
+        (
+            &[Slot::Lost, CUT_OFF, EMPTY],
+            &[Told::Gap, Told::Gap, Told::Gap],
+        ),
+        (&[HEAD, Slot::Lost, TAIL], &[Told::Gap]),
+        // no frame before a boundary
+        (&[Slot::Lost, FRAME, FRAME], &[Told::Gap, frame]),
+        (&[Slot::Lost, PREAMBLE, FRAME], &[Told::Gap, frame]),
+        // an extension says nothing
+        (&[EXTENSION], &[]),
+        (&[HEAD, EXTENSION, TAIL], &[frame]),
+        (
+            &[TRAINING, EXTENSION, LAST_PART],
+            &[Told::Start(1), Told::Octets(&[0xdd]), Told::End(true)],
+        ),
+    ];
+    for (slots, told) in cases {
+        expect(&rt, rt.alloc(), slots, told)?;
+    }
+    Ok(())
+}
+
+/// A V.21 packet of so many octets of hdlc-data and a right check sequence.
+fn long_frame(alloc: Global, octets: u16) -> Result<Vec<u8>, AllocError> {
+    let [high, low] = u16::to_be_bytes(octets.saturating_sub(1));
+    let mut packet = Vec::from_slice(alloc, &[0xc0, 0x02, 0x80, high, low])?;
+    for _ in 0..octets {
+        packet.push(0x55)?;
+    }
+    packet.push(0x40)?;
+    Ok(packet)
+}
+
+/// Fails unless the next slot gives the pieces.
+fn expect_next(
+    rt: &impl Abort,
+    signals: &mut Signals,
+    slot: Slot<'_>,
+    told: &[Told<'_>],
+) -> Result<(), NoMemory> {
+    let pieces = signals.slot(slot)?;
+    let place = expect_pieces(rt, &pieces, told, 0);
+    assert_eq!(rt; place, told.len(), "at {slot:?}");
+    Ok(())
+}
+
+#[test]
+fn frames_have_at_most_256_octets(rt: HostRuntime) -> Result<(), Fail> {
+    let longest = long_frame(rt.alloc(), 256)?;
+    let too_long = long_frame(rt.alloc(), 257)?;
+    let octets = longest.as_slice().get(5..261).unwrap_or(&[]);
+    assert_eq!(rt; octets.len(), 256);
+    let mut signals = Signals::new(rt.alloc());
+    let good = Slot::Packet(longest.as_slice());
+    let bad = Slot::Packet(too_long.as_slice());
+    expect_next(&rt, &mut signals, good, &[Told::Frame(octets)])?;
+    expect_next(&rt, &mut signals, bad, &[])?;
+    expect_next(&rt, &mut signals, good, &[Told::Frame(octets)])?;
+    Ok(())
+}
+
+#[test]
+fn takes_packets_of_many_fields(rt: HostRuntime) -> Result<(), Fail> {
+    // nine fields of an octet each, and the end
+    let packet: [u8; 39] = [
+        0xc2, 0x0a, 0xe0, 0, 0, 1, 0xe0, 0, 0, 2, 0xe0, 0, 0, 3, 0xe0, 0, 0, 4, 0xe0, 0, 0, 5,
+        0xe0, 0, 0, 6, 0xe0, 0, 0, 7, 0xe0, 0, 0, 8, 0xe0, 0, 0, 9, 0x70,
+    ];
+    let mut signals = Signals::new(rt.alloc());
+    let start = signals.slot(TRAINING)?;
+    assert_eq!(rt; start.as_slice().len(), 1);
+    let pieces = signals.slot(Slot::Packet(&packet))?;
+    let told: [Told<'_>; 10] = [
+        Told::Octets(&[1]),
+        Told::Octets(&[2]),
+        Told::Octets(&[3]),
+        Told::Octets(&[4]),
+        Told::Octets(&[5]),
+        Told::Octets(&[6]),
+        Told::Octets(&[7]),
+        Told::Octets(&[8]),
+        Told::Octets(&[9]),
+        Told::End(true),
+    ];
+    assert_eq!(rt; expect_pieces(&rt, &pieces, &told, 0), 10);
+    Ok(())
+}
+
+#[test]
+fn copies_go_their_own_way(rt: HostRuntime) -> Result<(), Fail> {
+    let mut signals = Signals::new(rt.alloc());
+    for slot in [TRAINING, FIRST_PART, HEAD] {
+        let _ = signals.slot(slot)?;
+    }
+    let mut copy = signals.copy();
+    expect_next(&rt, &mut copy, Slot::Lost, &[Told::Gap])?;
+    expect_next(&rt, &mut copy, TAIL, &[])?;
+    let mut other = signals.copy();
+    let frame = [Told::Frame(&[0xff, 0xc8, 0x21])];
+    let end = [Told::Octets(&[0xdd]), Told::End(false)];
+    expect_next(&rt, &mut other, TAIL, &frame)?;
+    expect_next(&rt, &mut other, LAST_PART, &end)?;
+    expect_next(&rt, &mut signals, TAIL, &frame)?;
+    expect_next(&rt, &mut signals, LAST_PART, &end)?;
+    Ok(())
+}

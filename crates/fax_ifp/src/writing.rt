@@ -1,0 +1,177 @@
+//! Packets that are written.
+ghost use Rattle.std.specs.Prelude.{◌≡◌, ◌+◌, ◌*◌, ◌≤◌, [], ◌∷◌, ◌++◌, List, All, Some, length, vec_len, vec_capacity, IfOk};
+ghost use Rattle.std.specs.Option.{ForSome};
+ghost use Rattle.fax_ifp.specs.Packets.{FieldText};
+ghost use Rattle.fax_ifp.specs.Seen.{text_of, texts_of};
+ghost use Rattle.fax_ifp.specs.Waiting.{added, waiting};
+ghost use Rattle.fax_ifp.specs.WrittenPackets.{counted, written_behind, written_fields, written_indicator, written_message, IsWritableField, IsWritable, frame_fields, image_fields};
+
+use crate::codes::{data_type, field_type};
+use crate::packet::Field;
+use fax_bits::{NoMemory, Octets};
+use std::alloc::Global;
+
+/// The first octet of data without fields, but for the type.
+const DATA: u8 = 0x40;
+
+/// The first octet of data with fields, but for the type.
+const DATA_WITH_FIELDS: u8 = 0xc0;
+
+/// The packet of an indicator (see [`crate::indicator`]).
+pub fn write_indicator(code: u8) -> [u8; 1]
+    requires { code ≤ 15 }
+    ensures { result ≡ written_indicator code }
+{
+    [2 * code]
+}
+
+/// The packet of data of a type (see [`crate::data_type`]) with fields: at most 127, of type 7 at most,
+/// and where a field has octets 1 to 65,535 of them.
+pub fn write_data(alloc: Global, kind: u8, fields: &[Field<'_>]) -> Result<Octets, NoMemory>
+    requires { IsWritable kind (texts_of fields.now) }
+    ensures { IfOk result (λ octets. octets ≡ written_message kind (texts_of fields.now)) }
+{
+    if fields.is_empty() {
+        let mut octets = Vec::with_capacity(alloc, 1)?;
+        octets.push_reserved(DATA + 2 * kind);
+        return Ok(Octets::from_vec(octets));
+    }
+    let mut octets = Vec::with_capacity(alloc, 2 + length_of_fields(fields))?;
+    octets.push_reserved(DATA_WITH_FIELDS + 2 * kind);
+    octets.push_reserved(fields.len() as u8);
+    push_fields(&mut octets, fields);
+    Ok(Octets::from_vec(octets))
+}
+
+/// The packet of a frame, of 1 to 256 octets: V.21 data that ends its signal.
+pub fn write_frame(alloc: Global, frame: &[u8]) -> Result<Octets, NoMemory>
+    requires some { 1 ≤ length frame.now }
+    requires few { length frame.now ≤ 256 }
+    ensures { IfOk result (λ octets. octets ≡ written_message 0 (frame_fields frame.now)) }
+{
+    let data = Field {
+        what: field_type::HDLC_DATA,
+        octets: Some(frame),
+    };
+    let end = Field {
+        what: field_type::HDLC_FCS_OK_SIG_END,
+        octets: None,
+    };
+    write_data(alloc, data_type::V21, &[data, end])
+}
+
+/// A packet of an image's octets, 1 to 65,535 of them, in data of a type. The last packet ends the
+/// signal.
+pub fn write_image(alloc: Global, kind: u8, last: bool, octets: &[u8]) -> Result<Octets, NoMemory>
+    requires kind { kind ≤ 8 }
+    requires some { 1 ≤ length octets.now }
+    requires few { length octets.now ≤ 65535 }
+    ensures { IfOk result (λ written. written ≡ written_message kind (image_fields last octets.now)) }
+{
+    let what = if last {
+        field_type::T4_NON_ECM_SIG_END
+    } else {
+        field_type::T4_NON_ECM_DATA
+    };
+    let field = Field {
+        what,
+        octets: Some(octets),
+    };
+    write_data(alloc, kind, &[field])
+}
+
+/// How many octets fields take.
+fn length_of_fields(fields: &[Field<'_>]) -> usize
+    requires few { length fields.now ≤ 127 }
+    requires each { All IsWritableField (texts_of fields.now) }
+    ensures sum { result ≡ length (written_fields (texts_of fields.now)) }
+    ensures within { result ≤ 65538 * length fields.now + 1 }
+{
+    let mut total = 0;
+    let mut half = None;
+    for field in fields {
+        total += length_behind(half, field);
+        half = half_behind(half, field);
+    }
+    match half {
+        Some(_) => total + 1,
+        None => total,
+    }
+}
+
+/// Adds fields, for which there is room.
+fn push_fields(octets: &mut Vec<u8>, fields: &[Field<'_>])
+    requires each { All IsWritableField (texts_of fields.now) }
+    requires room { vec_len octets.old + length (written_fields (texts_of fields.now)) ≤ vec_capacity octets.old }
+    ensures { octets.new.items ≡ octets.old.items ++ written_fields (texts_of fields.now) }
+{
+    let mut half = None;
+    for field in fields {
+        push_field(octets, half, field);
+        half = half_behind(half, field);
+    }
+    if let Some(bits) = half {
+        octets.push_reserved(16 * bits);
+    }
+}
+
+/// The four bits that wait behind a field for the other half of their octet, where some waited before it
+/// or not.
+fn half_behind(half: Option<u8>, field: &Field<'_>) -> Option<u8>
+    ensures { result ≡ waiting half (text_of field.now) }
+{
+    match (half, field.octets) {
+        (None, None) => Some(field.what),
+        _ => None,
+    }
+}
+
+/// How many octets a field adds.
+fn length_behind(half: Option<u8>, field: &Field<'_>) -> usize
+    requires { IsWritableField (text_of field.now) }
+    ensures { result ≡ length (added half (text_of field.now)) }
+{
+    match (half, field.octets) {
+        (None, None) => 0,
+        (Some(_), None) => 1,
+        (_, Some(own)) => 3 + own.len(),
+    }
+}
+
+/// Adds the octets of a field, for which there is room.
+fn push_field(octets: &mut Vec<u8>, half: Option<u8>, field: &Field<'_>)
+    requires field { IsWritableField (text_of field.now) }
+    requires half { ForSome half (λ bits. bits ≤ 7) }
+    requires room { vec_len octets.old + length (added half (text_of field.now)) ≤ vec_capacity octets.old }
+    ensures items { octets.new.items ≡ octets.old.items ++ added half (text_of field.now) }
+    ensures capacity { vec_capacity octets.old ≤ vec_capacity octets.new }
+{
+    match (half, field.octets) {
+        (None, None) => {}
+        (Some(bits), None) => octets.push_reserved(16 * bits + field.what),
+        (None, Some(own)) => {
+            octets.push_reserved(16 * (8 + field.what));
+            push_counted(octets, own);
+        }
+        (Some(bits), Some(own)) => {
+            octets.push_reserved(16 * bits + 8 + field.what);
+            push_counted(octets, own);
+        }
+    }
+}
+
+/// Adds octets behind their length word, for which there is room.
+fn push_counted(octets: &mut Vec<u8>, own: &[u8])
+    requires some { 1 ≤ length own.now }
+    requires few { length own.now ≤ 65535 }
+    requires room { vec_len octets.old + 2 + length own.now ≤ vec_capacity octets.old }
+    ensures items { octets.new.items ≡ octets.old.items ++ counted (Some own.now) }
+    ensures capacity { vec_capacity octets.old ≤ vec_capacity octets.new }
+{
+    let [high, low] = u16::to_be_bytes((own.len() - 1) as u16);
+    octets.push_reserved(high);
+    octets.push_reserved(low);
+    if octets.extend_from_slice(own).is_err() {
+        unreachable!();
+    }
+}
