@@ -27,6 +27,37 @@ const DATAGRAMS: &[&str] = &[
     "000609c002800002ffc831400003010609c002800002ffc821400106",
 ];
 
+/// The first packets of the call by which its page is sent on: CNG, and the DCS with its preamble and
+/// training.
+const CALLED_PACKETS: &[&str] = &["02", "06", "c002800002ffc8c100400040", "08"];
+
+/// The datagrams of these packets.
+const CALLED_DATAGRAMS: &[&str] = &[
+    "000001020000",
+    "0001010600010102",
+    "00020cc002800002ffc8c100400040000201060102",
+    "0003010800030cc002800002ffc8c10040004001060102",
+];
+
+/// The datagrams of the machine that called, but for the training check: without secondaries. Numbers 0 to
+/// 1 and 3 to 6 of a call, with the packet of each.
+const OTHER_SIDE: &[(&str, u16, &str)] = &[
+    (
+        "00000cc002800005ffc8c1004000400000",
+        0,
+        "c002800005ffc8c100400040",
+    ),
+    ("000101080000", 1, "08"),
+    ("000301080000", 3, "08"),
+    (
+        "000412c201f0000c0014d9a80080080080080080080000",
+        4,
+        "c201f0000c0014d9a8008008008008008008",
+    ),
+    ("000501060000", 5, "06"),
+    ("000609c002800002ffc8f4400000", 6, "c002800002ffc8f440"),
+];
+
 /// The octets that a hex text shows.
 fn octets_of(alloc: Global, text: &str) -> Result<Vec<u8>, AllocError> {
     let mut octets = Vec::new(alloc);
@@ -300,6 +331,31 @@ fn sends_each_packet_with_the_three_before_it(rt: HostRuntime) -> Result<(), Fai
     let mut sender = Sender::new(rt.alloc())?;
     let mut receiver = Receiver::new();
     let mut number = 0u16;
+    for (packet, datagram) in CALLED_PACKETS.iter().zip(CALLED_DATAGRAMS) {
+        let packet = octets_of(rt.alloc(), packet)?;
+        let wanted = octets_of(rt.alloc(), datagram)?;
+        assert!(rt; packet.len() <= 16_383);
+        let sent = sender.send(packet.as_slice())?;
+        assert_eq!(rt; sent.as_slice(), wanted.as_slice());
+        expect_slots(
+            &rt,
+            &mut receiver,
+            sent.as_slice(),
+            number,
+            0,
+            &[packet.as_slice()],
+        );
+        number = number.wrapping_add(1);
+    }
+    assert_eq!(rt; number, 4);
+    Ok(())
+}
+
+#[test]
+fn sends_the_answering_side(rt: HostRuntime) -> Result<(), Fail> {
+    let mut sender = Sender::new(rt.alloc())?;
+    let mut receiver = Receiver::new();
+    let mut number = 0u16;
     for (packet, datagram) in PACKETS.iter().zip(DATAGRAMS) {
         let packet = octets_of(rt.alloc(), packet)?;
         let wanted = octets_of(rt.alloc(), datagram)?;
@@ -421,6 +477,27 @@ fn takes_what_another_terminal_sent(rt: HostRuntime) -> Result<(), Fail> {
     expect_side(&rt, rt.alloc(), DATAGRAMS, 7)?;
     expect_side(&rt, rt.alloc(), ANSWERING, 24)?;
     expect_side(&rt, rt.alloc(), CALLING, 42)?;
+    Ok(())
+}
+
+#[test]
+fn takes_datagrams_without_secondaries(rt: HostRuntime) -> Result<(), Fail> {
+    let mut receiver = Receiver::new();
+    let mut expected = 0u16;
+    for (datagram, number, packet) in OTHER_SIDE {
+        let datagram = octets_of(rt.alloc(), datagram)?;
+        let packet = octets_of(rt.alloc(), packet)?;
+        expect_slots(
+            &rt,
+            &mut receiver,
+            datagram.as_slice(),
+            expected,
+            number.wrapping_sub(expected),
+            &[packet.as_slice()],
+        );
+        expected = number.wrapping_add(1);
+    }
+    assert_eq!(rt; expected, 7);
     Ok(())
 }
 
