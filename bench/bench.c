@@ -10,8 +10,8 @@
 #include <string.h>
 #include <time.h>
 
-enum { RUNS = 7 };
-static const double LEAST_SECONDS = 0.05;
+enum { RUNS = 25, CALLS = 7 };
+static const double LEAST_SECONDS = 0.02;
 static const size_t ROOM = 64u << 20;
 
 typedef struct {
@@ -154,19 +154,26 @@ static size_t span_write(const job *j) {
     return spandsp_write(j->page->pixels, j->page->width, j->page->rows, j->two_dimensional, j->out, ROOM);
 }
 
-static double best_seconds(size_t (*call)(const job *), const job *j) {
-    double best = 1e9;
-    for (int run = 0; run < RUNS; run++) {
-        double start = seconds_now(), spent;
-        int times = 0;
-        do {
-            call(j);
-            times++;
-            spent = seconds_now() - start;
-        } while (spent < LEAST_SECONDS);
-        if (spent / times < best) best = spent / times;
-    }
-    return best;
+static double seconds_of(size_t (*call)(const job *), const job *j) {
+    double start = seconds_now(), spent;
+    int times = 0;
+    do {
+        call(j);
+        times++;
+        spent = seconds_now() - start;
+    } while (spent < LEAST_SECONDS);
+    return spent / times;
+}
+
+/* The least time of each call. The calls take turns, so that what slows the machine for a while slows all
+   of them. */
+static void best_seconds(size_t (*const calls[CALLS])(const job *), const job *j, double best[CALLS]) {
+    for (int i = 0; i < CALLS; i++) best[i] = 1e9;
+    for (int run = 0; run < RUNS; run++)
+        for (int i = 0; i < CALLS; i++) {
+            double seconds = seconds_of(calls[i], j);
+            if (seconds < best[i]) best[i] = seconds;
+        }
 }
 
 /* ---- what is checked first */
@@ -225,10 +232,13 @@ static void measure(const page *p, bool two_dimensional) {
     memcpy(turned, out, j.text_size);
     spandsp_turn(turned, j.text_size);
     check(&j);
-    double tiff = best_seconds(tiff_read, &j), span = best_seconds(span_read, &j);
-    row_of_table(&j, "read, runs", best_seconds(ours_runs, &j), tiff, span);
-    row_of_table(&j, "read, pixels", best_seconds(ours_pixels, &j), tiff, span);
-    row_of_table(&j, "write", best_seconds(ours_write, &j), best_seconds(tiff_write, &j), best_seconds(span_write, &j));
+    size_t (*const calls[CALLS])(const job *) = {ours_runs, ours_pixels, tiff_read, span_read,
+                                                 ours_write, tiff_write, span_write};
+    double best[CALLS];
+    best_seconds(calls, &j, best);
+    row_of_table(&j, "read, runs", best[0], best[2], best[3]);
+    row_of_table(&j, "read, pixels", best[1], best[2], best[3]);
+    row_of_table(&j, "write", best[4], best[5], best[6]);
 }
 
 int main(int count, char **words) {
