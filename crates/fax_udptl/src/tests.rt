@@ -501,6 +501,96 @@ fn takes_datagrams_without_secondaries(rt: HostRuntime) -> Result<(), Fail> {
     Ok(())
 }
 
+/// The packets of the call by which the page is sent on, to its end: CNG, DCS, training check, image, EOP
+/// and DCN.
+fn called_packet(number: u16) -> &'static str {
+    match number {
+        0 => "02",
+        2 => "c002800002ffc8c100400040",
+        3 | 42 => "08",
+        4..=40 => "c201e0000b000000000000000000000000",
+        41 => "c201f00005000000000000",
+        43 => "c201e0000b0014d9a80000001001001001",
+        44 => "c201f00002001001",
+        46 => "c002800002ffc8f440",
+        48 => "c002800002ffc8df40",
+        _ => "06",
+    }
+}
+
+/// Adds a packet of fewer than 128 octets behind its length.
+fn push_short(octets: &mut Vec<u8>, alloc: Global, text: &str) -> Result<(), AllocError> {
+    let packet = octets_of(alloc, text)?;
+    octets.push((packet.len() % 128) as u8)?;
+    octets.extend_from_slice(packet.as_slice())?;
+    Ok(())
+}
+
+/// The datagram of the call's packet of a number: with its length, and behind it the three before it.
+fn called_datagram(alloc: Global, number: u16) -> Result<Vec<u8>, AllocError> {
+    let mut octets = Vec::new(alloc);
+    octets.extend_from_slice(&number.to_be_bytes())?;
+    push_short(&mut octets, alloc, called_packet(number))?;
+    let count = number.min(3);
+    octets.extend_from_slice(&count.to_be_bytes())?;
+    for back in 1..4 {
+        if back <= count {
+            push_short(&mut octets, alloc, called_packet(number - back))?;
+        }
+    }
+    Ok(octets)
+}
+
+#[test]
+fn sends_a_whole_call(rt: HostRuntime) -> Result<(), Fail> {
+    let mut sender = Sender::new(rt.alloc())?;
+    let mut receiver = Receiver::new();
+    for number in 0..49 {
+        let packet = octets_of(rt.alloc(), called_packet(number))?;
+        let wanted = called_datagram(rt.alloc(), number)?;
+        assert!(rt; packet.len() <= 16_383);
+        let sent = sender.send(packet.as_slice())?;
+        assert_eq!(rt; sent.as_slice(), wanted.as_slice());
+        expect_slots(
+            &rt,
+            &mut receiver,
+            sent.as_slice(),
+            number,
+            0,
+            &[packet.as_slice()],
+        );
+    }
+    Ok(())
+}
+
+#[test]
+fn takes_the_answers_of_the_called_machine(rt: HostRuntime) -> Result<(), Fail> {
+    let answers = [
+        (
+            "00000cc002800005ffc801004000400000",
+            "c002800005ffc80100400040",
+        ),
+        ("000109c002800002ffc821400000", "c002800002ffc82140"),
+        ("000209c002800002ffc831400000", "c002800002ffc83140"),
+    ];
+    let mut receiver = Receiver::new();
+    let mut number = 0u16;
+    for (datagram, packet) in answers {
+        let datagram = octets_of(rt.alloc(), datagram)?;
+        let packet = octets_of(rt.alloc(), packet)?;
+        expect_slots(
+            &rt,
+            &mut receiver,
+            datagram.as_slice(),
+            number,
+            0,
+            &[packet.as_slice()],
+        );
+        number = number.wrapping_add(1);
+    }
+    Ok(())
+}
+
 #[test]
 fn the_laws_hold(_rt: HostRuntime) {
     laws::one_integer_is_nearest();
