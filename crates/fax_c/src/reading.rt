@@ -54,7 +54,7 @@ fn fill_runs(rows: &[Row], runs: &mut [u16]) -> Result<Filled, Refusal>
 {
     let mut filled = 0;
     for row in rows {
-        let Some(count) = row.put_runs(&mut runs[filled..]) else {
+        let Some(count) = row.lend().put_runs(&mut runs[filled..]) else {
             return Err(Refusal::Room);
         };
         filled += count;

@@ -1,10 +1,10 @@
 -- A white run and a black one, painted at once.
-use Rattle.std.proofs.Common.{◌≡◌, ℕ, ◌+◌, ◌<◌, List, [], ◌∷◌, ◌++◌, length, replicate, refl, sym, ◌∙◌, ap, subst, arith, length-append}
+use Rattle.std.proofs.Common.{◌≡◌, ℕ, ◌+◌, ◌<◌, List, [], ◌∷◌, ◌++◌, length, replicate, refl, ◌∙◌, ap, subst, arith}
 use Rattle.fax_runcodes.specs.declared.Colour.{Colour}
 use Rattle.fax_runcodes.specs.declared.Colour.TheVariants.{White, Black}
 use Rattle.fax_runcodes.specs.Rows.{Elements, other}
 use Rattle.fax_runcodes.specs.Painted.{painted, AreRising, colour_after_changes}
-use Rattle.fax_runcodes.proofs.PaintedLemmas.{colour_behind, colour_behind_other, colour_behind_white, painted-change, rising_push}
+use Rattle.fax_runcodes.proofs.PaintedLemmas.{colour_behind, colour_behind_white, painted-change, rising_push}
 
 -- the places behind both runs
 pub pair_rising : (ps : List ℕ) (end white black : ℕ) → 0 < white → 0 < black → AreRising 0 ps end

@@ -8,7 +8,7 @@ mod run;
 mod tables;
 
 pub use fault::{RowFault, RunFault};
-pub use row::{Row, RowBuilder, Runs};
+pub use row::{Row, RowBuilder, RowRef, Runs};
 pub use run::{LONGEST_WRITTEN_RUN, read_run, word_at, write_run};
 pub use tables::CodeWord;
 

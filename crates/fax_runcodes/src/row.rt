@@ -87,27 +87,6 @@ impl Row {
         Ok(Runs { runs })
     }
 
-    /// Puts the lengths of its runs, white first, at the start of a slice, and answers how many they are;
-    /// `None` where the slice has no room for them. It takes no memory.
-    pub fn put_runs(&self, runs: &mut [u16]) -> Option<usize>
-        ensures some { IfSome result (λ count. AreRuns (take count runs.new) self.now × (count ≤ length runs.old)) }
-        ensures same_room { length runs.new ≡ length runs.old }
-        ensures none { IfNone result ((list : List ℕ) × AreRuns list self.now × (length runs.old < length list)) }
-        ensures untouched { IsNone result → runs.new ≡ runs.old }
-    {
-        let places = self.changes.as_slice();
-        if runs.len() <= places.len() {
-            return None;
-        }
-        let mut from = 0;
-        for i in 0..places.len() {
-            runs[i] = places[i] - from;
-            from = places[i];
-        }
-        runs[places.len()] = self.width - from;
-        Some(places.len() + 1)
-    }
-
     /// The places at which the colour changes, rising. It takes no memory.
     pub fn changes(&self) -> &[u16]
         ensures rising { AreRising 0 result.now (length self.now) }
@@ -135,12 +114,110 @@ impl Row {
         })
     }
 
+    /// The row, lent. It takes no memory.
+    #[inline]
+    pub fn lend(&self) -> RowRef<'_>
+        ensures { result ≡ self.now }
+    {
+        RowRef {
+            places: self.changes.as_slice(),
+            elements: self.width,
+        }
+    }
+
     /// How many elements it has: 1728, 2048 or 2432.
     pub fn width(&self) -> u16
         ensures len { result ≡ length self.now }
         ensures is_width { IsWidth result }
     {
         self.width
+    }
+}
+
+/// A row that is lent by what keeps it.
+#[derive(Drop)]
+pub struct RowRef<'a> {
+    places: &'a [u16],
+    elements: u16,
+}
+
+impl<'a> Model for RowRef<'a> {
+    ghost use Rattle.fax_runcodes.specs.Rows.{Elements, IsWidth};
+    ghost use Rattle.fax_runcodes.specs.Painted.{painted, AreRising};
+    ghost use Rattle.fax_runcodes.specs.declared.Colour.TheVariants.{White};
+
+    ghost Value = { Elements };
+
+    ghost view = { λ r. painted White 0 r.places.now r.elements };
+
+    ghost invariant = { λ r. AreRising 0 r.places.now r.elements × IsWidth r.elements };
+}
+
+impl<'a> RowRef<'a> {
+    ghost use Rattle.fax_runcodes.specs.Rows.{AreRuns, AreChanges};
+    ghost use Rattle.fax_runcodes.specs.declared.Colour.TheVariants.{White};
+
+    /// The row of these places at which the colour changes, rising, and of this width.
+    #[inline]
+    pub fn from_changes(changes: &'a [u16], width: u16) -> Self
+        requires rising { AreRising 0 changes.now width }
+        requires is_width { IsWidth width }
+        ensures { result ≡ painted White 0 changes.now width }
+    {
+        RowRef {
+            places: changes,
+            elements: width,
+        }
+    }
+
+    /// The places at which the colour changes, rising.
+    #[inline]
+    pub fn changes(&self) -> &'a [u16]
+        ensures rising { AreRising 0 result.now (length self.now) }
+        ensures painted { self.now ≡ painted White 0 result.now (length self.now) }
+        ensures changes { AreChanges result.now self.now }
+    {
+        self.places
+    }
+
+    /// How many elements it has: 1728, 2048 or 2432.
+    #[inline]
+    pub fn width(&self) -> u16
+        ensures len { result ≡ length self.now }
+        ensures is_width { IsWidth result }
+    {
+        self.elements
+    }
+
+    /// An equal row, in memory of just its size.
+    pub fn to_row(&self, alloc: Global) -> Result<Row, NoMemory>
+        ensures { IfOk result (λ row. row ≡ self.now) }
+    {
+        Ok(Row {
+            changes: Vec::from_slice(alloc, self.places)?,
+            width: self.elements,
+        })
+    }
+
+    /// Puts the lengths of its runs, white first, at the start of a slice, and answers how many they are;
+    /// `None` where the slice has no room for them. It takes no memory.
+    pub fn put_runs(&self, runs: &mut [u16]) -> Option<usize>
+        ensures some { IfSome result (λ count. AreRuns (take count runs.new) self.now × (count ≤ length runs.old)) }
+        ensures same_room { length runs.new ≡ length runs.old }
+        ensures none { IfNone result ((list : List ℕ) × AreRuns list self.now × (length runs.old < length list)) }
+        ensures untouched { IsNone result → runs.new ≡ runs.old }
+    {
+        let places = self.places;
+        if runs.len() <= places.len() {
+            return None;
+        }
+        let mut from = 0;
+        for i in 0..places.len() {
+            runs[i] = places[i] - from;
+            from = places[i];
+        }
+        runs[places.len()] = self.elements - from;
+        Some(places.len() + 1)
     }
 }
 
@@ -224,6 +301,18 @@ impl RowBuilder {
     {
         self.changes.clear();
         self.len = 0;
+    }
+
+    /// The row so far, lent, once it has a width. It takes no memory.
+    #[inline]
+    pub fn lend(&self) -> RowRef<'_>
+        requires { IsWidth (length self.now) }
+        ensures { result ≡ self.now }
+    {
+        RowRef {
+            places: self.changes.as_slice(),
+            elements: self.len,
+        }
     }
 
     /// The row so far, in memory of just its size, once it has a width. The builder stays as it is.

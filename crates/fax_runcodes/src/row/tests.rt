@@ -109,13 +109,13 @@ fn paints_pairs_and_puts_runs(rt: HostRuntime) -> Result<(), Fail> {
     builder.paint_pair(1700, 7);
     let row = builder.row()?;
     let mut runs = [9; 8];
-    assert_eq!(rt; row.put_runs(&mut runs[..5]), None);
+    assert_eq!(rt; row.lend().put_runs(&mut runs[..5]), None);
     assert_eq!(rt; runs, [9; 8]);
-    assert_eq!(rt; row.put_runs(&mut runs), Some(8));
+    assert_eq!(rt; row.lend().put_runs(&mut runs), Some(8));
     assert_eq!(rt; runs, [0, 3, 5, 1, 2, 10, 1700, 7]);
     builder.clear();
     builder.paint(White, 2432);
-    assert_eq!(rt; builder.row()?.put_runs(&mut runs), Some(1));
+    assert_eq!(rt; builder.row()?.lend().put_runs(&mut runs), Some(1));
     assert_eq!(rt; runs, [2432, 3, 5, 1, 2, 10, 1700, 7]);
     Ok(())
 }

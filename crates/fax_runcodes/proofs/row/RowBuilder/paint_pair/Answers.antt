@@ -1,11 +1,11 @@
-use Rattle.std.proofs.Common.{◌≡◌, true, refl, ◌+◌, ◌<◌, ◌≤◌, ◌++◌, ◌∷◌, [], replicate, length, ap, ◌∙◌, sym, arith, vec_len, vec_capacity, length-append, eq-eqb}
+use Rattle.std.proofs.Common.{◌≡◌, true, refl, ◌+◌, ◌≤◌, length, ap, ◌∙◌, sym, arith, vec_len, vec_capacity}
 use denote.Enum.Bare.{sameb}
 use Rattle.fax_runcodes.specs.contracts.Colour.{the_type}
 use Rattle.fax_runcodes.specs.declared.Colour.{Colour}
 use Rattle.fax_runcodes.specs.declared.Colour.TheVariants.{White, Black}
-use Rattle.fax_runcodes.specs.Rows.{Elements, other}
-use Rattle.fax_runcodes.specs.Painted.{painted, AreRising, colour_after_changes}
-use Rattle.fax_runcodes.proofs.PaintedLemmas.{length-painted_all, painted-other, rising_push, rising_count}
+use Rattle.fax_runcodes.specs.Rows.{Elements}
+use Rattle.fax_runcodes.specs.Painted.{colour_after_changes}
+use Rattle.fax_runcodes.proofs.PaintedLemmas.{length-painted_all, rising_count}
 use Rattle.fax_runcodes.proofs.PairLemmas.{pair_painted, pair_rising}
 use Rattle.fax_runcodes.proofs.row.RowBuilder.paint_pair.Goals as goal
 
