@@ -287,7 +287,7 @@ fn lends_its_rows(rt: HostRuntime) -> Result<(), Fail> {
     let mut runs = [0; 3];
     let rows = page.rows().as_slice();
     assert_eq!(rt; rows.len(), 2);
-    assert_eq!(rt; rows[1].put_runs(&mut runs), Some(1));
+    assert_eq!(rt; rows[1].lend().put_runs(&mut runs), Some(1));
     assert_eq!(rt; runs[0], 1728);
     Ok(())
 }
