@@ -1,12 +1,12 @@
 -- The next bits as one number, with zeros past the end.
 use Rattle.std.proofs.Common.{◌≡◌, ℕ, zero, suc, ◌+◌, ◌-◌, ◌*◌, ◌/◌, ◌%◌, ◌^◌, ◌<◌, ◌≤◌, Bool, false, List, [], ◌∷◌, ◌++◌, length, take, drop, get_or, refl, sym, ◌∙◌, ap, ap₂, arith, inl, inr, min, take_all, zero-add, suc-add, replicate}
-use Rattle.std.proofs.lemmas.List.{take_at, append-nil}
+use Rattle.std.proofs.lemmas.List.{take_at, append-nil, drop_at, drop-append-le}
 use Rattle.std.proofs.lemmas.Bool.{cases_lt}
 use Rattle.std.proofs.lemmas.Nat.{shr-shr, pow-add, field_of, shl-shr, shr_high, mod_low, shl_below}
 use Rattle.std.proofs.Math.Nat.{mul-le-mul_right}
 use Rattle.fax_bits.specs.Bits.{word_bits, bits_of}
 use Rattle.fax_bits.specs.Reading.{padded}
-use Rattle.fax_bits.proofs.BitsLemmas.{word_bits-add, word_bits-mod, word_bits-zero, word_bits_inside, length-word_bits, bits_of-cons, bits_of-nil}
+use Rattle.fax_bits.proofs.BitsLemmas.{word_bits-add, word_bits-mod, word_bits-shl, word_bits-zero, word_bits_inside, length-word_bits, bits_of-cons, bits_of-nil}
 
 -- ---- padding
 pub padded-zero : (bits : List Bool) → padded 0 bits ≡ []
@@ -152,3 +152,14 @@ padded-known m known bits e = elim (cases_lt (length bits) m) [
       let none : m - known ≡ 0 = omega arith in
       rw (none, append-nil, all) (padded-le m bits long)
 ]
+
+-- a window without its first bits
+pub behind_bits : (window n : ℕ) → n ≤ 56 → word_bits 56 (window * 2 ^ n) ≡ drop n (word_bits 56 window) ++ replicate n false
+behind_bits window n few =
+    let high = word_bits n (window * 2 ^ n / 2 ^ 56) in
+    let low = word_bits 56 (window * 2 ^ n) in
+    let size : 56 + n ≡ n + 56 = omega arith in
+    let long : length (word_bits 56 window) ≡ 56 = length-word_bits 56 window in
+    sym (drop_at high low n (length-word_bits n (window * 2 ^ n / 2 ^ 56)))
+    ∙ ap (drop n) (sym (word_bits-add n 56 (window * 2 ^ n)) ∙ ap (λ (k : ℕ). word_bits k (window * 2 ^ n)) (sym size) ∙ word_bits-shl 56 n window)
+    ∙ drop-append-le n (word_bits 56 window) (replicate n false) (omega arith)

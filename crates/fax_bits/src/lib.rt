@@ -9,9 +9,11 @@ mod octets;
 mod reader;
 #[cfg(test)]
 mod tests;
+mod window;
 mod writer;
 
 pub use memory::NoMemory;
 pub use octets::Octets;
 pub use reader::BitReader;
+pub use window::behind;
 pub use writer::BitWriter;

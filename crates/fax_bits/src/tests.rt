@@ -25,6 +25,13 @@ fn reads_the_most_significant_bit_first(rt: HostRuntime) {
 }
 
 #[test]
+fn windows_are_shifted(rt: HostRuntime) {
+    assert_eq!(rt; behind(0b1011 << 52, 2), 0b11 << 54);
+    assert_eq!(rt; behind(0b1011 << 52, 0), 0b1011 << 52);
+    assert_eq!(rt; behind(u64::MAX >> 8, 56), 0);
+}
+
+#[test]
 fn passes_zeros_up_to_a_one_or_the_end(rt: HostRuntime) {
     let mut octets = [0u8; 24];
     octets[20] = 0x10;

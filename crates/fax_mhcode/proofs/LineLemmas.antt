@@ -1,5 +1,5 @@
 -- A one-dimensional line that is being read: runs so far.
-use Rattle.std.proofs.Common.{◌≡◌, ℕ, ◌+◌, ◌<◌, ◌≤◌, Bool, List, [], ◌∷◌, ◌++◌, length, take, sum, replicate, refl, sym, ◌∙◌, ap, ap₂, subst, arith, append_assoc, append-nil, zero-add, length-append, inl, inr}
+use Rattle.std.proofs.Common.{◌≡◌, ℕ, ◌+◌, ◌<◌, ◌≤◌, Bool, List, [], ◌∷◌, ◌++◌, length, sum, replicate, refl, sym, ◌∙◌, ap, ap₂, subst, arith, append_assoc, append-nil, zero-add, length-append, inl, inr}
 use Rattle.std.proofs.lemmas.List.{length-replicate, take-append-le, take_all, length_push}
 use Rattle.std.proofs.lemmas.List.Sums.{sum_by-append}
 use Rattle.std.proofs.lemmas.Bool.{cases_lt}
@@ -12,19 +12,8 @@ use Rattle.fax_runcodes.specs.Spelling.{SpellsRun}
 use Rattle.fax_runcodes.proofs.PaintedLemmas.{colour_behind, colour_behind_other}
 use Rattle.fax_mhcode.specs.Lines.{SpellsRuns, SpellsLine}
 use Rattle.fax_mhcode.specs.LineFaults.{FailsLine, Stops, colour_after}
+use Rattle.fax_mhcode.specs.Pairs.{RunsSoFar}
 use Rattle.fax_mhcode.specs.declared.fault.LineFault.{LineFault}
-
--- from old to new runs were passed that make the elements so far, and the next has this colour
-pub record RunsSoFar (width : ℕ) (old new : Place) (row : Elements) (colour : Colour) : Type 0 where
-  pub runs : List ℕ
-  pub text : List Bool
-  pub spelt : SpellsRuns White text runs
-  pub passes : Passes old new text
-  pub row_is : row ≡ stretches White runs
-  pub colour_is : colour ≡ colour_after runs
-  pub not_before : (k : ℕ) → k < length runs → sum (take k runs) < width
-  pub within : sum runs ≤ width
-  pub sum_is : length row ≡ sum runs
 
 pub colour_after_is : (runs : List ℕ) → colour_behind White runs ≡ colour_after runs
 colour_after_is [] = refl

@@ -1,30 +1,19 @@
 -- A white word and a black one in one window.
-use Rattle.std.proofs.Common.{◌≡◌, ℕ, ◌+◌, ◌-◌, ◌*◌, ◌/◌, ◌^◌, ◌<◌, ◌≤◌, Bool, false, List, [], ◌∷◌, ◌++◌, length, take, drop, replicate, min, refl, sym, ◌∙◌, ap, subst, arith, append_assoc, length-append, Contains, zero-add}
-use Rattle.std.proofs.lemmas.List.{drop_at, drop-append-le, take-append-drop}
+use Rattle.std.proofs.Common.{◌≡◌, ℕ, ◌+◌, ◌-◌, ◌<◌, ◌≤◌, Bool, false, List, [], ◌++◌, length, take, drop, replicate, refl, sym, ◌∙◌, ap, ap₂, subst, arith, append_assoc, length-append, length-take-le, Contains, zero-add, add-zero}
+use Rattle.std.proofs.lemmas.List.{drop-append-le, drop-drop, drop-take, length-drop, replicate-append-replicate, take-append-drop}
 use Rattle.std.proofs.lemmas.List.Elements.{All-nil}
-use Rattle.std.proofs.Math.Seq.{drop-append_seam, take-append_seam}
-use Rattle.fax_bits.specs.Bits.{word_bits}
+use Rattle.std.proofs.Math.Seq.{take-append_seam}
 use Rattle.fax_bits.specs.Reading.{Place, Passes}
-use Rattle.fax_bits.proofs.BitsLemmas.{word_bits-add, word_bits-shl, length-word_bits}
 use Rattle.fax_runcodes.specs.declared.Colour.{Colour}
 use Rattle.fax_runcodes.specs.declared.Colour.TheVariants.{White, Black}
 use Rattle.fax_runcodes.specs.CodeTables.{Word, make_up_words, terminating_words}
+use Rattle.fax_runcodes.specs.Pairs.{IsPairAt}
+use Rattle.fax_runcodes.specs.declared.tables.WordPair.{WordPair}
 use Rattle.fax_runcodes.specs.Rows.{Elements}
 use Rattle.fax_runcodes.specs.Spelling.{SpellsRun}
-use Rattle.fax_runcodes.proofs.ReadLemmas.{front_of, word_front}
-use Rattle.fax_mhcode.specs.Pairs.{SpellsPair}
-use Rattle.fax_mhcode.proofs.LineLemmas.{RunsSoFar, RunsSoFar-more, length-paint}
-
--- a window without its first bits
-pub behind_bits : (window n : ℕ) → n ≤ 56 → word_bits 56 (window * 2 ^ n) ≡ drop n (word_bits 56 window) ++ replicate n false
-behind_bits window n few =
-    let high = word_bits n (window * 2 ^ n / 2 ^ 56) in
-    let low = word_bits 56 (window * 2 ^ n) in
-    let size : 56 + n ≡ n + 56 = omega arith in
-    let long : length (word_bits 56 window) ≡ 56 = length-word_bits 56 window in
-    sym (drop_at high low n (length-word_bits n (window * 2 ^ n / 2 ^ 56)))
-    ∙ ap (drop n) (sym (word_bits-add n 56 (window * 2 ^ n)) ∙ ap (λ (k : ℕ). word_bits k (window * 2 ^ n)) (sym size) ∙ word_bits-shl 56 n window)
-    ∙ drop-append-le n (word_bits 56 window) (replicate n false) (omega arith)
+use Rattle.fax_runcodes.proofs.ReadLemmas.{front_of}
+use Rattle.fax_mhcode.specs.Pairs.{GoesOn, RunsSoFar, SpellsPair}
+use Rattle.fax_mhcode.proofs.LineLemmas.{RunsSoFar-more, length-paint}
 
 -- a terminating word spells its run
 word_spells : (colour : Colour) (w : Word) → Contains (terminating_words colour) w → SpellsRun colour w.word w.run
@@ -37,31 +26,64 @@ word_spells colour w ends = record {
   run_is = sym (zero-add w.run);
 }
 
-pub pair_spelt : (left : List Bool) (known : ℕ) (window behind r1 r2 : List Bool) (w b : Word) → known ≡ min 56 (length left)
-    → window ≡ take known left ++ replicate (56 - known) false → length window ≡ 56
-    → Contains (terminating_words White) w → Contains (terminating_words Black) b → length w.word ≤ 13 → length b.word ≤ 13
-    → window ≡ w.word ++ r1 → behind ≡ drop (length w.word) window ++ replicate (length w.word) false → behind ≡ b.word ++ r2
-    → length w.word + length b.word ≤ length left → SpellsPair left w.run b.run (length w.word + length b.word)
-pair_spelt left known window behind r1 r2 w b is_known is_window wide white_ends black_ends few_white few_black begins_white is_behind begins_black within =
-    let n = length w.word in
-    let zeros = replicate n false in
-    let rest : drop n window ≡ r1 = ap (drop n) begins_white ∙ drop-append_seam w.word r1 in
-    let sizes : length w.word + length r1 ≡ 56 = sym (length-append w.word r1) ∙ sym (ap length begins_white) ∙ wide in
-    let shifted : b.word ++ r2 ≡ r1 ++ zeros = sym begins_black ∙ is_behind ∙ ap (λ (bits : List Bool). bits ++ zeros) rest in
-    let black : r1 ≡ b.word ++ drop (length b.word) r1 = front_of b.word r1 r2 zeros shifted (omega arith) in
-    let both : window ≡ (w.word ++ b.word) ++ drop (length b.word) r1 =
-    begins_white ∙ ap (λ (bits : List Bool). w.word ++ bits) black ∙ sym (append_assoc w.word b.word (drop (length b.word) r1)) in
-    let long : length (w.word ++ b.word) ≡ length w.word + length b.word = length-append w.word b.word in
-    let pair : Word = record { run = 0; word = w.word ++ b.word } in
-    let front : take (length (w.word ++ b.word)) left ≡ w.word ++ b.word = word_front White left known is_known pair (omega arith) (drop (length b.word) r1) (sym is_window ∙ both) in
+-- the pair that a shifted window begins with stands in the bits behind those that were used
+pub pair_spelt : (left window behind : List Bool) (used : ℕ) (found : WordPair) → take 56 left ≡ window → length window ≡ 56
+    → behind ≡ drop used window ++ replicate used false → used + 11 ≤ 56 → IsPairAt behind found
+    → SpellsPair (drop used left) found.white found.black found.bits
+pair_spelt left window behind used found front wide is_behind within at =
+    let both : List Bool = at.white.word ++ at.black.word in
+    let long : length both ≡ length at.white.word + length at.black.word = length-append at.white.word at.black.word in
+    let ahead : length (drop used window) ≡ 56 - used = length-drop used window ∙ ap (λ (n : ℕ). n - used) wide in
+    let begun : both ++ at.begins.rest ≡ drop used window ++ replicate used false = sym at.begins.bits_are ∙ is_behind in
+    let there : drop used window ≡ both ++ drop (length both) (drop used window) =
+    front_of both (drop used window) at.begins.rest (replicate used false) begun (omega (arith, long, at.begins.few, ahead)) in
+    let all : left ≡ window ++ drop 56 left = sym (take-append-drop 56 left) ∙ ap (λ (bits : List Bool). bits ++ drop 56 left) front in
+    let behind_used : drop used left ≡ drop used window ++ drop 56 left = ap (drop used) all ∙ drop-append-le used window (drop 56 left) (omega (arith, wide)) in
     record {
-      white_text = w.word;
-      black_text = b.word;
-      rest = drop (length (w.word ++ b.word)) left;
-      white_spelt = word_spells White w white_ends;
-      black_spelt = word_spells Black b black_ends;
-      bits_are = sym (take-append-drop (length (w.word ++ b.word)) left) ∙ ap (λ (bits : List Bool). bits ++ drop (length (w.word ++ b.word)) left) front;
-      size_is = refl;
+      white_text = at.white.word;
+      black_text = at.black.word;
+      rest = drop (length both) (drop used window) ++ drop 56 left;
+      white_spelt = subst (λ (n : ℕ). SpellsRun White at.white.word n) at.white_is (word_spells White at.white at.begins.white_ends);
+      black_spelt = subst (λ (n : ℕ). SpellsRun Black at.black.word n) at.black_is (word_spells Black at.black at.begins.black_ends);
+      bits_are = behind_used ∙ ap (λ (bits : List Bool). bits ++ drop 56 left) there ∙ append_assoc both (drop (length both) (drop used window)) (drop 56 left);
+      size_is = sym at.bits_is;
+    }
+
+-- a window that is shifted once more
+pub behind_more : (window behind next : List Bool) (used n : ℕ) → length window ≡ 56 → used + n ≤ 56
+    → behind ≡ drop used window ++ replicate used false → next ≡ drop n behind ++ replicate n false
+    → next ≡ drop (used + n) window ++ replicate (used + n) false
+behind_more window behind next used n wide within is_behind is_next =
+    let ahead : length (drop used window) ≡ 56 - used = length-drop used window ∙ ap (λ (k : ℕ). k - used) wide in
+    is_next
+    ∙ ap (λ (bits : List Bool). drop n bits ++ replicate n false) is_behind
+    ∙ ap (λ (bits : List Bool). bits ++ replicate n false) (drop-append-le n (drop used window) (replicate used false) (omega arith))
+    ∙ append_assoc (drop n (drop used window)) (replicate used false) (replicate n false)
+    ∙ ap (λ (bits : List Bool). bits ++ (replicate used false ++ replicate n false)) (drop-drop n used window)
+    ∙ ap (λ (bits : List Bool). drop (used + n) window ++ bits) (replicate-append-replicate used n false)
+
+-- the place behind the first bits of what is left
+abbrev pub behind_first : ℕ → Place → Place
+behind_first n here = record { passed = here.passed + n; left = drop n here.left }
+
+pub first_passes : (here : Place) (n : ℕ) → n ≤ length here.left → Passes here (behind_first n here) (take n here.left)
+first_passes here n le = record {
+  bits = sym (take-append-drop n here.left);
+  place = ap (λ (k : ℕ). here.passed + k) (sym (length-take-le n here.left le));
+}
+
+pub rest_passes : (here there : Place) (n more : ℕ) → n + more ≤ length here.left → Passes here there (take (n + more) here.left)
+    → Passes (behind_first n here) there (take more (drop n here.left))
+rest_passes here there n more le passed =
+    let size : length (take (n + more) here.left) ≡ n + more = length-take-le (n + more) here.left le in
+    let rest : length (drop n here.left) ≡ length here.left - n = length-drop n here.left in
+    let last : length (take more (drop n here.left)) ≡ more = length-take-le more (drop n here.left) (omega arith) in
+    record {
+      bits =
+          ap (drop n) passed.bits
+          ∙ drop-append-le n (take (n + more) here.left) there.left (omega arith)
+          ∙ ap (λ (bits : List Bool). bits ++ there.left) (drop-take n more here.left);
+      place = omega (arith, passed.place, size, last);
     }
 
 -- the runs so far, and a white one and a black one
@@ -82,3 +104,27 @@ RunsSoFar-pair width old here new row white black size so_far pair passed less w
     RunsSoFar-more width old mid new (row ++ replicate white White) Black pair.black_text black
     (RunsSoFar-more width old here mid row White pair.white_text white so_far pair.white_spelt first (omega arith) (omega arith))
     pair.black_spelt second (omega arith) (omega arith)
+
+-- ---- any runs so far go on
+pub GoesOn-pair : (here there : Place) (row new : Elements) (white black size left after : ℕ) → new ≡ (row ++ replicate white White) ++ replicate black Black
+    → SpellsPair here.left white black size → Passes here there (take size here.left) → 0 < black → white + black + after ≡ left → GoesOn here row left there new after
+GoesOn-pair here there row new white black size left after painted pair passed some fits width start so_far is =
+    rw painted (RunsSoFar-pair width start here there row white black size so_far pair passed (omega arith) (omega arith))
+
+pub GoesOn-then : (here mid there : Place) (row more new : Elements) (left fewer after : ℕ) → length row + left ≡ length more + fewer
+    → GoesOn here row left mid more fewer → GoesOn mid more fewer there new after → GoesOn here row left there new after
+GoesOn-then here mid there row more new left fewer after same first second width start so_far is =
+    second width start (first width start so_far is) (omega arith)
+
+pub GoesOn-none : (here : Place) (row : Elements) (left : ℕ) → GoesOn here row left here row left
+GoesOn-none here row left width start so_far is = so_far
+
+abbrev place_of : ℕ → List Bool → Place
+place_of n bits = record { passed = n; left = bits }
+
+-- nothing is passed
+pub nothing_passed : (here there : Place) → Passes here there (take 0 here.left) → there ≡ here
+nothing_passed here there passed =
+    let left : there.left ≡ here.left = sym passed.bits in
+    let place : there.passed ≡ here.passed = passed.place ∙ add-zero here.passed in
+    ap₂ (λ (n : ℕ) (bits : List Bool). place_of n bits) place left

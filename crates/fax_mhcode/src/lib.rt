@@ -9,17 +9,18 @@ ghost use Rattle.fax_runcodes.specs.Rows.{Elements, IsWidth};
 ghost use Rattle.fax_mhcode.specs.declared.fault.LineFault.{LineFault};
 ghost use Rattle.fax_runcodes.specs.Widths.{elements_of};
 ghost use Rattle.fax_mhcode.specs.Lines.{SpellsLine, WritesLine};
-ghost use Rattle.fax_mhcode.specs.Pairs.{SpellsPair};
 ghost use Rattle.fax_mhcode.specs.LineFaults.{FailsLine};
 
 mod fault;
 pub mod laws;
+mod pairs;
 #[cfg(test)]
 mod tests;
 
 pub use fault::LineFault;
 use fax_bits::{BitReader, BitWriter, NoMemory};
-use fax_runcodes::{Colour, Row, RowBuilder, Width, read_run, word_at, write_run};
+use fax_runcodes::{Colour, Row, RowBuilder, Width, read_run, write_run};
+use pairs::read_pairs;
 use std::alloc::Global;
 
 /// Reads a one-dimensional line, and makes the row of this width that it spells. An `Err` leaves the
@@ -98,11 +99,9 @@ fn read_runs(line: &mut RowBuilder, reader: &mut BitReader, width: u16) -> Resul
 {
     let mut left = width;
     while left > 0 {
-        if let Some(pair) = pair_within(reader, left) {
-            reader.skip(pair.bits);
-            line.paint_pair(pair.white, pair.black);
-            left -= pair.white + pair.black;
-            continue;
+        left = read_pairs(line, reader, left);
+        if left == 0 {
+            break;
         }
         let white = read_run(reader, Colour::White)?;
         if white > left {
@@ -121,65 +120,6 @@ fn read_runs(line: &mut RowBuilder, reader: &mut BitReader, width: u16) -> Resul
         left -= black;
     }
     Ok(())
-}
-
-/// A white run and a black one, of fewer than 64 elements each, and the bits of both words.
-#[derive(Clone, Copy)]
-struct Pair {
-    white: u16,
-    black: u16,
-    bits: u32,
-}
-
-/// The white run and the black one that begin the bits, where both are short and the line, of which so
-/// many elements are left, goes on behind the white one and not past the black one. It is the fast way:
-/// where it answers `None`, the runs are read one by one.
-#[inline]
-fn pair_within(reader: &BitReader, left: u16) -> Option<Pair>
-    ensures goes_on { IfSome result (λ pair. pair.white < left) }
-    ensures within { IfSome result (λ pair. pair.white + pair.black ≤ left) }
-    ensures spelt { IfSome result (λ pair. SpellsPair reader.now.left pair.white pair.black pair.bits) }
-{
-    let pair = short_pair(reader)?;
-    (pair.white < left && pair.white + pair.black <= left).then_some(pair)
-}
-
-/// The white run and the black one that begin the bits, where both are of fewer than 64 elements. Both
-/// words are looked up in one window: a white one has at most 12 bits, and a black one 13.
-#[inline]
-fn short_pair(reader: &BitReader) -> Option<Pair>
-    ensures short { IfSome result (λ pair. (pair.white < 64) × (pair.black < 64)) }
-    ensures spelt { IfSome result (λ pair. SpellsPair reader.now.left pair.white pair.black pair.bits) }
-{
-    let window = reader.window();
-    let white = word_at(Colour::White, window);
-    if white.run >= 64 {
-        return None;
-    }
-    let black = word_at(Colour::Black, behind(window, white.bits));
-    if black.run >= 64 {
-        return None;
-    }
-    let bits = u32::from(white.bits) + u32::from(black.bits);
-    if !reader.has(bits) {
-        return None;
-    }
-    Some(Pair {
-        white: white.run,
-        black: black.run,
-        bits,
-    })
-}
-
-/// The bits of a window behind the first n, with n zeros behind them.
-#[inline]
-fn behind(window: u64, n: u16) -> u64
-    requires window { window < 2 ^ 56 }
-    requires few { n ≤ 13 }
-    ensures bits { word_bits 56 result ≡ drop n (word_bits 56 window) ++ replicate n false }
-    ensures window { result < 2 ^ 56 }
-{
-    (window << u32::from(n)) % (1 << 56)
 }
 
 /// Writes the runs of a row: each reaches from one place where the colour changes to the next. An

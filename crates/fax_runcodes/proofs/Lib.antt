@@ -2,8 +2,10 @@ pub mod ChangesOfRow
 pub mod Fronts
 pub mod PaintedLemmas
 pub mod PairLemmas
+pub mod PairRules
 pub mod ReadLemmas
 pub mod RowLaws
+pub mod RunAtLemmas
 pub mod RunLaws
 pub mod RunLemmas
 pub mod RunsOfRow

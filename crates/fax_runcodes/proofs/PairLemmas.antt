@@ -1,10 +1,10 @@
 -- A white run and a black one, painted at once.
-use Rattle.std.proofs.Common.{◌≡◌, ℕ, ◌+◌, ◌<◌, List, [], ◌∷◌, ◌++◌, length, replicate, refl, ◌∙◌, ap, subst, arith}
+use Rattle.std.proofs.Common.{◌≡◌, ℕ, ◌+◌, ◌<◌, List, [], ◌∷◌, ◌++◌, length, replicate, refl, sym, ◌∙◌, ap, subst, arith}
 use Rattle.fax_runcodes.specs.declared.Colour.{Colour}
 use Rattle.fax_runcodes.specs.declared.Colour.TheVariants.{White, Black}
 use Rattle.fax_runcodes.specs.Rows.{Elements, other}
 use Rattle.fax_runcodes.specs.Painted.{painted, AreRising, colour_after_changes}
-use Rattle.fax_runcodes.proofs.PaintedLemmas.{colour_behind, colour_behind_white, painted-change, rising_push}
+use Rattle.fax_runcodes.proofs.PaintedLemmas.{colour_behind, colour_behind_white, painted-change, painted-other, painted-same, rising_longer, rising_push}
 
 -- the places behind both runs
 pub pair_rising : (ps : List ℕ) (end white black : ℕ) → 0 < white → 0 < black → AreRising 0 ps end
@@ -28,3 +28,18 @@ pair_painted ps end white black w is_black r =
     ∙ ap (λ (es : Elements). es ++ replicate black (other (colour_behind White (ps ++ end ∷ [])))) (painted-change White 0 ps end white r)
     ∙ ap (λ (c : Colour). (painted White 0 ps end ++ replicate white (other (colour_behind White ps))) ++ replicate black (other c)) (behind_push White ps end)
     ∙ ap (λ (c : Colour). (painted White 0 ps end ++ replicate white (other c)) ++ replicate black (other (other c))) behind
+
+-- the places behind both runs, where the white one goes on with the elements before it
+pub longer_rising : (ps : List ℕ) (end white black : ℕ) → 0 < black → AreRising 0 ps end → AreRising 0 (ps ++ (end + white) ∷ []) (end + (white + black))
+longer_rising ps end white black b r =
+    subst (λ (n : ℕ). AreRising 0 (ps ++ (end + white) ∷ []) n) (let e : end + white + black ≡ end + (white + black) = omega arith in e)
+    (rising_push 0 ps (end + white) black b (rising_longer 0 ps end (end + white) (omega arith) r))
+
+-- behind white elements, a white run and a black one
+pub longer_painted : (ps : List ℕ) (end white black : ℕ) → colour_after_changes (length ps) ≡ White → AreRising 0 ps end
+    → painted White 0 (ps ++ (end + white) ∷ []) (end + (white + black)) ≡ (painted White 0 ps end ++ replicate white White) ++ replicate black Black
+longer_painted ps end white black is_white r =
+    let sum : end + (white + black) ≡ end + white + black = omega arith in
+    ap (λ (n : ℕ). painted White 0 (ps ++ (end + white) ∷ []) n) sum
+    ∙ painted-other ps (end + white) black Black (rising_longer 0 ps end (end + white) (omega arith) r) (ap other is_white)
+    ∙ ap (λ (es : Elements). es ++ replicate black Black) (painted-same ps end white White r (sym is_white))

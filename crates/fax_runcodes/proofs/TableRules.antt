@@ -57,7 +57,7 @@ unfolding black_terminating black_make_up common_make_up word_bits bit
 black_first_thirteen = refl
 
 -- ---- what it says of an entry
-some_word_is : (p : Word → Bool) (ws : List Word) → some_word p ws ≡ true → (w : Word) × Contains ws w × (p w ≡ true)
+pub some_word_is : (p : Word → Bool) (ws : List Word) → some_word p ws ≡ true → (w : Word) × Contains ws w × (p w ≡ true)
 some_word_is p [] h = cc
 some_word_is p (w ∷ ws) h = elim (or_cases (p w) (some_word p ws) h) [
   | inl here ↦ (w, (0, omega arith, refl), here)

@@ -3,14 +3,16 @@
 
 mod fault;
 pub mod laws;
+mod pair;
 mod row;
 mod run;
 mod tables;
 
 pub use fault::{RowFault, RunFault};
+pub use pair::pair_at;
 pub use row::{Row, RowBuilder, RowRef, Runs};
 pub use run::{LONGEST_WRITTEN_RUN, read_run, word_at, write_run};
-pub use tables::CodeWord;
+pub use tables::{CodeWord, WordPair};
 
 /// The colour of an element.
 #[derive(Clone, Copy, PartialEq, Eq, Debug)]

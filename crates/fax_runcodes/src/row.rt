@@ -278,20 +278,19 @@ impl RowBuilder {
         self.len += n;
     }
 
-    /// Adds a white run and a black one behind it. It takes no memory.
+    /// Adds a white run and a black one behind it, neither of them empty. It takes no memory.
     #[inline]
     pub fn paint_pair(&mut self, white: u16, black: u16)
-        requires { length self.old + white + black ≤ 2432 }
+        requires white { 0 < white }
+        requires black { 0 < black }
+        requires room { length self.old + white + black ≤ 2432 }
         ensures { self.new ≡ (self.old ++ replicate white White) ++ replicate black Black }
     {
-        if white > 0 && black > 0 && colour_behind(self.changes.len()) == Colour::Black {
+        if colour_behind(self.changes.len()) == Colour::Black {
             self.changes.push_reserved(self.len);
-            self.changes.push_reserved(self.len + white);
-            self.len += white + black;
-        } else {
-            self.paint(Colour::White, white);
-            self.paint(Colour::Black, black);
         }
+        self.changes.push_reserved(self.len + white);
+        self.len += white + black;
     }
 
     /// Takes away all elements. It takes no memory.

@@ -1,9 +1,9 @@
 //! Runs, read and written.
-ghost use Rattle.std.specs.Prelude.{List, Bool, ℕ, ◌≡◌, ◌≢◌, ◌↔◌, ◌+◌, ◌^◌, ◌<◌, ◌≤◌, IfOk, IfErr, OnOk, OnErr, Ok, Err, ◌++◌};
+ghost use Rattle.std.specs.Prelude.{List, Bool, ℕ, ◌≡◌, ◌≢◌, ◌↔◌, ◌+◌, ◌^◌, ◌<◌, ◌≤◌, IfOk, IfErr, IfSome, OnOk, OnErr, Ok, Err, ◌++◌};
 ghost use Rattle.fax_bits.specs.Bits.{word_bits};
 ghost use Rattle.fax_bits.specs.Reading.{Passes};
 ghost use Rattle.fax_runcodes.specs.declared.fault.RunFault.{RunFault};
-ghost use Rattle.fax_runcodes.specs.Entries.{IsEntryAt, PassesWord};
+ghost use Rattle.fax_runcodes.specs.Entries.{IsEntryAt, IsRunAt, PassesWord};
 ghost use Rattle.fax_runcodes.specs.Lookups.{BeginsWithNone, IsFoundAt, no_run};
 ghost use Rattle.fax_runcodes.specs.RunFaults.{Stops, FailsRun, ReadsRun, longest_run};
 ghost use Rattle.fax_runcodes.specs.Spelling.{SpellsRun, written_run};
@@ -12,7 +12,7 @@ use crate::Colour;
 use crate::fault::RunFault;
 use crate::tables::written::{make_up_word, terminating_word};
 use crate::tables::{CodeWord, black, white};
-use fax_bits::{BitReader, BitWriter, NoMemory};
+use fax_bits::{BitReader, BitWriter, NoMemory, behind};
 
 #[cfg(test)]
 mod tests;
@@ -38,13 +38,13 @@ pub fn read_run(reader: &mut BitReader, colour: Colour) -> Result<u16, RunFault>
     ensures reads { (run : ℕ) (rest : List Bool) → ReadsRun colour reader.old.left run rest → result ≡ Ok run }
     ensures fails { (fault : RunFault) → FailsRun colour reader.old.left fault → result ≡ Err fault }
 {
-    let word = word_at(colour, reader.window());
-    let bits = u32::from(word.bits);
-    if word.run < 64 && reader.has(bits) {
-        reader.skip(bits);
-        return Ok(word.run);
+    match run_at(colour, reader.window()) {
+        Some(run) if reader.has(run.bits) => {
+            reader.skip(run.bits);
+            Ok(run.elements)
+        }
+        _ => read_long_run(reader, colour),
     }
-    read_long_run(reader, colour)
 }
 
 /// Writes a run of n elements of a colour: from 64 on the make-up word of the largest multiple of 64,
@@ -72,7 +72,43 @@ pub fn word_at(colour: Colour, window: u64) -> CodeWord
     look_up(colour, window)
 }
 
-/// Reads a run that may begin with make-up words. An `Err` leaves the reader where it stood.
+/// A run whose words were found, and how many bits they have.
+#[derive(Clone, Copy)]
+pub(crate) struct FoundRun {
+    elements: u16,
+    bits: u32,
+}
+
+/// The run of a colour that begins 56 bits, where it has one make-up word at most and is not too long. It
+/// is the fast way: where it answers `None`, the words are read one by one.
+#[inline]
+fn run_at(colour: Colour, window: u64) -> Option<FoundRun>
+    requires { window < 2 ^ 56 }
+    ensures { IfSome result (λ run. IsRunAt colour (word_bits 56 window) run) }
+{
+    let first = look_up(colour, window);
+    let bits = u32::from(first.bits);
+    if first.run < 64 {
+        return Some(FoundRun {
+            elements: first.run,
+            bits,
+        });
+    }
+    if first.run > LONGEST_RUN {
+        return None;
+    }
+    let last = look_up(colour, behind(window, bits));
+    let elements = first.run + last.run;
+    if last.run >= 64 || elements > LONGEST_RUN {
+        return None;
+    }
+    Some(FoundRun {
+        elements,
+        bits: bits + u32::from(last.bits),
+    })
+}
+
+/// Reads a run word by word. An `Err` leaves the reader where it stood.
 #[inline]
 fn read_long_run(reader: &mut BitReader, colour: Colour) -> Result<u16, RunFault>
     ensures ok { IfOk result (λ run. (text : List Bool) × SpellsRun colour text run × Passes reader.old reader.new text) }

@@ -1,5 +1,6 @@
 //! The code words of each colour: by the bits that begin with them, and by the runs that they stand for.
 pub(crate) mod black;
+pub(crate) mod pairs;
 pub(crate) mod white;
 pub(crate) mod written;
 
@@ -30,4 +31,13 @@ impl CodeWord {
     {
         self.run == NO_RUN
     }
+}
+
+/// A white word with a black one behind it, both of runs that are short and not empty: the lengths of the
+/// runs, in elements, and how many bits both words have.
+#[derive(Clone, Copy, PartialEq, Eq, Debug)]
+pub struct WordPair {
+    pub white: u8,
+    pub black: u8,
+    pub bits: u16,
 }

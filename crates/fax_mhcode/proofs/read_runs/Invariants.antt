@@ -1,6 +1,6 @@
 use Rattle.std.proofs.Common.{◌≡◌, ◌+◌, length}
 use Rattle.fax_runcodes.specs.declared.Colour.TheVariants.{White}
-use Rattle.fax_mhcode.proofs.LineLemmas.{RunsSoFar}
+use Rattle.fax_mhcode.specs.Pairs.{RunsSoFar}
 use Rattle.fax_mhcode.proofs.read_runs.Given as goal
 
 abbrev pub invariant-loop-left : goal.invariant-loop-left

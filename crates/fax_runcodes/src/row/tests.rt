@@ -101,12 +101,11 @@ fn builds_rows(rt: HostRuntime) -> Result<(), Fail> {
 #[test]
 fn paints_pairs_and_puts_runs(rt: HostRuntime) -> Result<(), Fail> {
     let mut builder = RowBuilder::new(rt.alloc())?;
-    builder.paint_pair(0, 3);
+    builder.paint(Black, 3);
     builder.paint_pair(5, 1);
-    builder.paint_pair(2, 0);
-    builder.paint_pair(0, 4);
-    builder.paint_pair(0, 6);
-    builder.paint_pair(1700, 7);
+    builder.paint_pair(2, 10);
+    builder.paint(White, 1000);
+    builder.paint_pair(700, 7);
     let row = builder.row()?;
     let mut runs = [9; 8];
     assert_eq!(rt; row.lend().put_runs(&mut runs[..5]), None);
@@ -117,5 +116,9 @@ fn paints_pairs_and_puts_runs(rt: HostRuntime) -> Result<(), Fail> {
     builder.paint(White, 2432);
     assert_eq!(rt; builder.row()?.lend().put_runs(&mut runs), Some(1));
     assert_eq!(rt; runs, [2432, 3, 5, 1, 2, 10, 1700, 7]);
+    builder.clear();
+    builder.paint_pair(2, 2046);
+    assert_eq!(rt; builder.lend().put_runs(&mut runs), Some(2));
+    assert_eq!(rt; runs, [2, 2046, 5, 1, 2, 10, 1700, 7]);
     Ok(())
 }
