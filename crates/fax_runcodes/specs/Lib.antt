@@ -4,6 +4,7 @@ pub mod FaultNumbers
 pub mod Laws
 pub mod Lookups
 pub mod Painted
+pub mod Pixels
 pub mod RowLaws
 pub mod Rows
 pub mod RunFaults

@@ -4,6 +4,8 @@ ghost use Rattle.fax_runcodes.specs.Rows.{IsWidth, AreRunsOfRow};
 ghost use Rattle.fax_runcodes.specs.declared.Colour.TheVariants.{White, Black};
 ghost use Rattle.fax_runcodes.specs.Painted.{painted, changes_between, AreRising, colour_after_changes};
 
+mod painting;
+mod pixels;
 #[cfg(test)]
 mod tests;
 
