@@ -5,10 +5,12 @@ ghost use Rattle.fax_runcodes.specs.Widths.{elements_of};
 ghost use Rattle.fax_pagestore.specs.PageRows.{AreRows};
 
 mod lent;
+mod packed;
 
 use crate::Format;
 use fax_bits::NoMemory;
 use fax_runcodes::{Row, RowRef};
+pub use packed::PackedRows;
 use std::alloc::Global;
 use std::marker::Model;
 
