@@ -215,8 +215,9 @@ impl<'a> RowRef<'a> {
         }
         let mut from = 0;
         for i in 0..places.len() {
-            runs[i] = places[i] - from;
-            from = places[i];
+            let place = places[i];
+            runs[i] = place - from;
+            from = place;
         }
         runs[places.len()] = self.elements - from;
         Some(places.len() + 1)
