@@ -1,1 +1,2 @@
+pub mod PackedBits
 pub mod RunsLemmas

@@ -1,12 +1,10 @@
 -- What the calls of C do with pages (this project's profile).
-use Rattle.std.specs.Prelude.{◌≡◌, ◌≢◌, ℕ, ◌<◌, ◌⊎◌, Bool, true, false, if◌then◌else◌, List, [], ◌∷◌, ◌++◌, All, length, map, flat_map, take, Result, Ok, Err}
+use Rattle.std.specs.Prelude.{◌≡◌, ◌≢◌, ℕ, ◌<◌, ◌⊎◌, Bool, if◌then◌else◌, List, [], ◌∷◌, ◌++◌, All, length, map, flat_map, take, Result, Ok, Err}
 use Rattle.fax_bits.specs.Writing.{IsPadded}
-use Rattle.fax_runcodes.specs.declared.Colour.{Colour}
-use Rattle.fax_runcodes.specs.declared.Colour.TheVariants.{White, Black}
+use Rattle.fax_runcodes.specs.Pixels.{pixel}
 use Rattle.fax_runcodes.specs.Rows.{Elements, IsWidth, AreRuns}
 use Rattle.fax_pagestore.specs.declared.Coding.{Coding}
 use Rattle.fax_pagestore.specs.declared.Coding.TheVariants.{Mh, Mr}
-use Rattle.fax_pagestore.specs.declared.fault.PageFault.{PageFault}
 use Rattle.fax_pagestore.specs.declared.fault.PageFault.TheVariants as page
 use Rattle.fax_pagestore.specs.PageRows.{AreRows, most_rows}
 use Rattle.fax_pagestore.specs.PageTexts.{MeansRows}
@@ -25,10 +23,6 @@ AreRunsOf runs [] = runs ≡ []
 AreRunsOf runs (row ∷ rows) = (first rest : List ℕ) × (runs ≡ first ++ rest) × AreRuns first row × AreRunsOf rest rows
 
 -- a bit for each element of rows, one row behind the other: 1 is black
-abbrev pub pixel : Colour → Bool
-pixel White = false
-pixel Black = true
-
 abbrev pub pixels_of : List Elements → List Bool
 pixels_of rows = flat_map (map pixel) rows
 

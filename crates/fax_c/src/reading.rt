@@ -1,14 +1,12 @@
 //! Pages read.
-ghost use Rattle.std.specs.Prelude.{◌≡◌, ◌^◌, ◌++◌, ◌+◌, ◌≤◌, ◌<◌, List, [], ◌∷◌, ℕ, length, take, map, replicate, true, Ok, Err, IfOk, IfErr, OnOk, IfSome, IfNone, pos};
+ghost use Rattle.std.specs.Prelude.{◌≡◌, ◌++◌, ◌+◌, ◌≤◌, ◌<◌, List, [], ◌∷◌, ℕ, length, take, Ok, Err, IfSome, IfNone};
 ghost use Rattle.fax_bits.specs.Writing.{IsPadded};
 ghost use Rattle.fax_runcodes.specs.Rows.{Elements};
-ghost use Rattle.fax_c.specs.Calls.{ReadsRuns, ReadsPixels, AreRunsOf, FillsRuns, FillsPixels, coding_by, pixel, pixels_of};
+ghost use Rattle.fax_c.specs.Calls.{ReadsRuns, ReadsPixels, AreRunsOf, FillsRuns, FillsPixels, coding_by, pixels_of};
 
 use crate::page::{coding_of, width_of};
 use crate::{Filled, Refusal};
-use fax_bits::{BitWriter, NoMemory};
-use fax_pagestore::{Format, Page, PlainRows, RowStore, read_page};
-use fax_runcodes::{Colour, Row};
+use fax_pagestore::{Format, PackedRows, Page, RowStore, read_page};
 use std::alloc::Global;
 
 /// Reads a page, and puts its runs into a slice.
@@ -25,8 +23,8 @@ pub fn read_runs(
         width: width_of(width)?,
         fine: false,
     };
-    let page: Page<PlainRows> = read_page(alloc, octets, format, coding_of(two_dimensional))?;
-    fill_runs(page.rows().as_slice(), runs)
+    let page: Page<PackedRows> = read_page(alloc, octets, format, coding_of(two_dimensional))?;
+    fill_runs(page.rows(), runs)
 }
 
 /// Reads a page, and puts its picture elements into a slice.
@@ -43,79 +41,45 @@ pub fn read_pixels(
         width: width_of(width)?,
         fine: false,
     };
-    let page: Page<PlainRows> = read_page(alloc, octets, format, coding_of(two_dimensional))?;
-    fill_pixels(alloc, page.rows(), pixels)
+    let page: Page<PackedRows> = read_page(alloc, octets, format, coding_of(two_dimensional))?;
+    fill_pixels(page.rows(), pixels)
 }
 
 /// Puts the runs of rows into a slice.
-fn fill_runs(rows: &[Row], runs: &mut [u16]) -> Result<Filled, Refusal>
-    requires { length rows.now < 2 ^ 32 }
-    ensures { FillsRuns rows.now runs.old runs.new result }
+fn fill_runs<S: RowStore>(rows: &S, runs: &mut [u16]) -> Result<Filled, Refusal>
+    ensures { FillsRuns (S.rows rows.now) runs.old runs.new result }
 {
     let mut filled = 0;
-    for row in rows {
-        let Some(count) = row.lend().put_runs(&mut runs[filled..]) else {
+    for i in 0..rows.len() {
+        let Some(count) = rows.lend(i).put_runs(&mut runs[filled..]) else {
             return Err(Refusal::Room);
         };
         filled += count;
     }
-    Ok(Filled {
-        rows: rows.len() as u32,
-        items: filled,
-    })
-}
-
-/// Puts the picture elements of rows into a slice.
-fn fill_pixels<S: RowStore>(alloc: Global, rows: &S, pixels: &mut [u8]) -> Result<Filled, Refusal>
-    ensures { FillsPixels (S.rows rows.now) pixels.old pixels.new result }
-{
-    let mut writer = BitWriter::new(alloc);
-    for i in 0..rows.len() {
-        paint(&mut writer, &rows.row(i)?)?;
-    }
-    let packed = writer.finish();
-    let Some(filled) = put(pixels, 0, packed.as_slice()) else {
-        return Err(Refusal::Room);
-    };
     Ok(Filled {
         rows: rows.len(),
         items: filled,
     })
 }
 
-/// Adds the picture elements of a row.
-fn paint(writer: &mut BitWriter, row: &Row) -> Result<(), NoMemory>
-    ensures { OnOk result (writer.new ≡ writer.old ++ map pixel row.now) }
+/// Puts the picture elements of rows into a slice.
+fn fill_pixels<S: RowStore>(rows: &S, pixels: &mut [u8]) -> Result<Filled, Refusal>
+    ensures { FillsPixels (S.rows rows.now) pixels.old pixels.new result }
 {
-    let runs = row.runs()?;
-    let mut colour = Colour::White;
-    for run in runs.as_slice() {
-        paint_run(writer, colour, *run)?;
-        colour = colour.other();
+    let mut filled = 0;
+    for i in 0..rows.len() {
+        let row = rows.lend(i);
+        let octets = usize::from(row.width() / 8);
+        if octets > pixels.len() - filled {
+            return Err(Refusal::Room);
+        }
+        row.put_pixels(&mut pixels[filled..filled + octets]);
+        filled += octets;
     }
-    Ok(())
-}
-
-/// Adds the picture elements of a run.
-fn paint_run(writer: &mut BitWriter, colour: Colour, run: u16) -> Result<(), NoMemory>
-    ensures { OnOk result (writer.new ≡ writer.old ++ replicate run (pixel colour)) }
-{
-    match colour {
-        Colour::White => writer.zeros(u32::from(run)),
-        Colour::Black => ones(writer, u32::from(run)),
-    }
-}
-
-/// Adds n bits of 1.
-fn ones(writer: &mut BitWriter, n: u32) -> Result<(), NoMemory>
-    ensures { OnOk result (writer.new ≡ writer.old ++ replicate n true) }
-{
-    let mut left = n;
-    while left > 32 {
-        writer.put(u32::MAX, 32)?;
-        left -= 32;
-    }
-    writer.put(u32::MAX, left)
+    Ok(Filled {
+        rows: rows.len(),
+        items: filled,
+    })
 }
 
 /// Puts items into a slice, from a place on, and answers the place behind them, or `None` where they have

@@ -1,5 +1,5 @@
 //! Pages written.
-ghost use Rattle.std.specs.Prelude.{◌≡◌, ◌≢◌, ◌++◌, ◌+◌, ◌≤◌, ◌<◌, List, [], ◌∷◌, ℕ, length, take, sum, Ok, Err, IfOk, IfErr, IfSome, IfNone};
+ghost use Rattle.std.specs.Prelude.{◌≡◌, ◌≢◌, ◌++◌, ◌+◌, ◌≤◌, ◌<◌, List, [], ◌∷◌, ℕ, length, take, Ok, Err, IfOk, IfErr};
 ghost use Rattle.fax_pagestore.specs.PageRows.{AreRows};
 ghost use Rattle.fax_runcodes.specs.Rows.{Elements, AreRuns};
 ghost use Rattle.fax_runcodes.specs.Widths.{elements_of};
@@ -8,8 +8,8 @@ ghost use Rattle.fax_c.specs.Calls.{WritesRuns, RefusesRuns, AreRunsOf, coding_b
 use crate::page::{coding_of, width_of};
 use crate::reading::put;
 use crate::{Filled, Refusal};
-use fax_pagestore::{Format, Page, PageFault, PlainRows, RowStore, write_page};
-use fax_runcodes::{Row, RowFault, Width};
+use fax_pagestore::{Format, PackedRows, Page, PageFault, RowStore, write_page};
+use fax_runcodes::{RowBuilder, Width};
 use std::alloc::Global;
 
 /// The most rows of a page.
@@ -28,7 +28,7 @@ pub fn write_runs(
     ensures { WritesRuns width (coding_by two_dimensional) fine least_bits runs.now octets.old octets.new result }
 {
     let width = width_of(width)?;
-    let rows: PlainRows = rows_of_runs(alloc, runs, width)?;
+    let rows: PackedRows = rows_of_runs(alloc, runs, width)?;
     let count = rows.len();
     let page = Page::new(Format { width, fine }, rows);
     let text = write_page(alloc, &page, coding_of(two_dimensional), least_bits)?;
@@ -48,46 +48,21 @@ fn rows_of_runs<S: RowStore>(alloc: Global, runs: &[u16], width: Width) -> Resul
     ensures refusal { IfErr result (λ refusal. RefusesRuns (elements_of width) runs.now refusal) }
 {
     let mut rows = S::empty(alloc);
+    let mut builder = RowBuilder::new(alloc)?;
     let mut rest = runs;
     while !rest.is_empty() {
         let number = rows.len();
         if number >= MOST_ROWS {
             return Err(Refusal::Page(PageFault::TooManyRows));
         }
-        let Some((first, behind)) = split_row(rest, width) else {
+        let Some(count) = builder.paint_row(rest, width) else {
             return Err(Refusal::Runs(number));
         };
-        let row = match Row::from_runs(alloc, first) {
-            Ok(row) => row,
-            Err(RowFault::BadRuns) => return Err(Refusal::Runs(number)),
-            Err(RowFault::NoMemory) => return Err(Refusal::Page(PageFault::NoMemory)),
-        };
-        if rows.push(row).is_err() {
-            return Err(Refusal::Page(PageFault::NoMemory));
-        }
-        rest = behind;
+        rows.push_lent(&builder.lend())?;
+        rest = &rest[count..];
     }
     if rows.len() == 0 {
         return Err(Refusal::Page(PageFault::Empty));
     }
     Ok(rows)
-}
-
-/// The shortest front of run lengths whose sum is a width, and those behind it; `None` where none is.
-fn split_row(runs: &[u16], width: Width) -> Option<(&[u16], &[u16])>
-    ensures some { IfSome result (λ parts. (runs.now ≡ parts.0.now ++ parts.1.now) × (sum parts.0.now ≡ elements_of width)) }
-    ensures none { IfNone result ((n : ℕ) → sum (take n runs.now) ≡ elements_of width → ⊥) }
-    ensures shortest { IfSome result (λ parts. (n : ℕ) → n < length parts.0.now → sum (take n runs.now) ≡ elements_of width → ⊥) }
-{
-    let mut left = width.elements();
-    for i in 0..runs.len() {
-        let Some(less) = left.checked_sub(runs[i]) else {
-            return None;
-        };
-        left = less;
-        if left == 0 {
-            return Some(runs.split_at(i + 1));
-        }
-    }
-    None
 }

@@ -8,7 +8,7 @@ ghost use Rattle.fax_bits.specs.Reading.{Passes};
 ghost use Rattle.fax_runcodes.specs.Rows.{Elements, IsWidth};
 ghost use Rattle.fax_mhcode.specs.declared.fault.LineFault.{LineFault};
 ghost use Rattle.fax_runcodes.specs.Widths.{elements_of};
-ghost use Rattle.fax_mhcode.specs.Lines.{SpellsLine, WritesLine};
+ghost use Rattle.fax_mhcode.specs.Lines.{SpellsLine};
 ghost use Rattle.fax_mhcode.specs.LineFaults.{FailsLine};
 
 mod fault;
@@ -16,12 +16,14 @@ pub mod laws;
 mod pairs;
 #[cfg(test)]
 mod tests;
+mod writing;
 
 pub use fault::LineFault;
-use fax_bits::{BitReader, BitWriter, NoMemory};
-use fax_runcodes::{Colour, Row, RowBuilder, Width, read_run, write_run};
+use fax_bits::BitReader;
+use fax_runcodes::{Colour, Row, RowBuilder, Width, read_run};
 use pairs::read_pairs;
 use std::alloc::Global;
+pub use writing::{write_lent_line_1d, write_line_1d};
 
 /// Reads a one-dimensional line, and makes the row of this width that it spells. An `Err` leaves the
 /// reader where it stood.
@@ -75,20 +77,6 @@ pub fn read_line_1d_into(
     result
 }
 
-/// Writes the line of a row: its runs, white first, each in its one written form. Only the writer
-/// takes memory. An `Err` changes nothing.
-pub fn write_line_1d(writer: &mut BitWriter, row: &Row) -> Result<(), NoMemory>
-    ensures ok { OnOk result ((text : List Bool) × WritesLine row.now text × (writer.new ≡ writer.old ++ text)) }
-    ensures err { OnErr result (writer.new ≡ writer.old) }
-{
-    let before = writer.bits();
-    let result = write_runs(writer, row);
-    if result.is_err() {
-        writer.cut(before);
-    }
-    result
-}
-
 /// Reads the runs of a line of so many elements into a builder that is empty. After an `Err` the
 /// reader stands anywhere, and the builder has any elements.
 fn read_runs(line: &mut RowBuilder, reader: &mut BitReader, width: u16) -> Result<(), LineFault>
@@ -120,26 +108,4 @@ fn read_runs(line: &mut RowBuilder, reader: &mut BitReader, width: u16) -> Resul
         left -= black;
     }
     Ok(())
-}
-
-/// Writes the runs of a row: each reaches from one place where the colour changes to the next. An
-/// `Err` leaves what was written behind the bits before.
-fn write_runs(writer: &mut BitWriter, row: &Row) -> Result<(), NoMemory>
-    ensures ok { OnOk result ((text : List Bool) × WritesLine row.now text × (writer.new ≡ writer.old ++ text)) }
-    ensures err { OnErr result ((text : List Bool) × (writer.new ≡ writer.old ++ text)) }
-{
-    let width = row.width();
-    let mut changes = row.changes();
-    let mut from = 0;
-    while let [black, white, rest @ ..] = changes {
-        write_run(writer, Colour::White, *black - from)?;
-        write_run(writer, Colour::Black, *white - *black)?;
-        from = *white;
-        changes = rest;
-    }
-    let [black, ..] = changes else {
-        return write_run(writer, Colour::White, width - from);
-    };
-    write_run(writer, Colour::White, *black - from)?;
-    write_run(writer, Colour::Black, width - *black)
 }

@@ -1,5 +1,5 @@
 //! One-dimensional lines, by the tables of ITU-T T.4.
-use super::{LineFault, read_line_1d, read_line_1d_into, write_line_1d};
+use super::{LineFault, read_line_1d, read_line_1d_into, write_lent_line_1d, write_line_1d};
 use fax_bits::{BitReader, BitWriter, NoMemory, Octets};
 use fax_runcodes::Colour::{Black, White};
 use fax_runcodes::Width::{W1728, W2048, W2432};
@@ -144,6 +144,10 @@ fn writes_rows_of_one_colour(rt: HostRuntime) -> Result<(), Fail> {
         assert_eq!(rt; writer.bits(), digits.len() as u128, "at {digits}");
         let want = octets_of(rt.alloc(), digits)?;
         assert_eq!(rt; writer.finish().as_slice(), want.as_slice(), "at {digits}");
+        let mut lent = BitWriter::new(rt.alloc());
+        write_lent_line_1d(&mut lent, &row.lend())?;
+        assert_eq!(rt; lent.bits(), digits.len() as u128, "at {digits}");
+        assert_eq!(rt; lent.finish().as_slice(), want.as_slice(), "at {digits}");
     }
     Ok(())
 }

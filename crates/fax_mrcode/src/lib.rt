@@ -9,4 +9,4 @@ mod writing;
 
 pub use mode::{Mode, Offset};
 pub use reading::{read_line_2d, read_line_2d_into};
-pub use writing::write_line_2d;
+pub use writing::{write_lent_line_2d, write_line_2d};

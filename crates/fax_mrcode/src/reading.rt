@@ -20,7 +20,7 @@ use crate::places::place_at;
 use crate::{Mode, Offset};
 use fax_bits::BitReader;
 use fax_mhcode::LineFault;
-use fax_runcodes::{Colour, Row, RowBuilder, read_run};
+use fax_runcodes::{Colour, Row, RowBuilder, RowRef, read_run};
 use std::alloc::Global;
 use words::read_mode;
 
@@ -42,7 +42,7 @@ pub fn read_line_2d(
 {
     let mut line = RowBuilder::new(alloc)?;
     let mut ahead = reader.copy();
-    read_line_2d_into(&mut line, &mut ahead, reference)?;
+    read_line_2d_into(&mut line, &mut ahead, &reference.lend())?;
     prove!(line.len() == reference.width());
     let row = line.row()?;
     *reader = ahead;
@@ -54,7 +54,7 @@ pub fn read_line_2d(
 pub fn read_line_2d_into(
     line: &mut RowBuilder,
     reader: &mut BitReader,
-    reference: &Row,
+    reference: &RowRef<'_>,
 ) -> Result<(), LineFault>
     requires { line.old ≡ [] }
     ensures ok { OnOk result ((text : List Bool) × SpellsLine reference.now text line.new × Passes reader.old reader.new text) }

@@ -12,12 +12,26 @@ mod tests;
 use crate::places::place_at;
 use crate::{Mode, Offset};
 use fax_bits::{BitWriter, NoMemory};
-use fax_runcodes::{Colour, Row, write_run};
+use fax_runcodes::{Colour, Row, RowRef, write_run};
 
 /// Writes the line of a row against the row before it: pass wherever b2 lies left of a1, else vertical
 /// wherever a1 lies at most three elements from b1, else horizontal (ITU-T T.4, 4.2.1.3.3). An `Err`
 /// changes nothing.
 pub fn write_line_2d(writer: &mut BitWriter, reference: &Row, row: &Row) -> Result<(), NoMemory>
+    requires { length row.now ≡ length reference.now }
+    ensures ok { OnOk result ((text : List Bool) × WritesLine reference.now row.now text × (writer.new ≡ writer.old ++ text)) }
+    ensures err { OnErr result (writer.new ≡ writer.old) }
+{
+    write_lent_line_2d(writer, &reference.lend(), &row.lend())
+}
+
+/// Writes the line of a row that is lent against the row before it, as [`write_line_2d`] does. An `Err`
+/// changes nothing.
+pub fn write_lent_line_2d(
+    writer: &mut BitWriter,
+    reference: &RowRef<'_>,
+    row: &RowRef<'_>,
+) -> Result<(), NoMemory>
     requires { length row.now ≡ length reference.now }
     ensures ok { OnOk result ((text : List Bool) × WritesLine reference.now row.now text × (writer.new ≡ writer.old ++ text)) }
     ensures err { OnErr result (writer.new ≡ writer.old) }
@@ -33,7 +47,11 @@ pub fn write_line_2d(writer: &mut BitWriter, reference: &Row, row: &Row) -> Resu
 /// Writes the coding steps of a line. The changing places of both rows are walked from left to right,
 /// those of the reference with one step back where a1 lies left of b1. An `Err` leaves what was written
 /// behind the bits before.
-fn write_steps(writer: &mut BitWriter, reference: &Row, row: &Row) -> Result<(), NoMemory>
+fn write_steps(
+    writer: &mut BitWriter,
+    reference: &RowRef<'_>,
+    row: &RowRef<'_>,
+) -> Result<(), NoMemory>
     requires { length row.now ≡ length reference.now }
     ensures ok { OnOk result ((text : List Bool) × WritesLine reference.now row.now text × (writer.new ≡ writer.old ++ text)) }
     ensures err { OnErr result ((text : List Bool) × (writer.new ≡ writer.old ++ text)) }

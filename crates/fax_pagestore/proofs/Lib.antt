@@ -1,4 +1,5 @@
 pub mod FrontLemmas
+pub mod PackedLemmas
 pub mod PageLaws
 pub mod PageReading
 pub mod ReadLemmas

@@ -5,4 +5,5 @@ pub mod PageRows
 pub mod PageTexts
 pub mod Pages
 pub mod WrittenPages
+pub mod PackedRows
 pub mod PlainRows

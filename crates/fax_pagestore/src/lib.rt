@@ -13,7 +13,7 @@ mod writing;
 pub use fault::PageFault;
 use fax_runcodes::Width;
 pub use reading::read_page;
-pub use store::{Page, PlainRows, RowStore};
+pub use store::{PackedRows, Page, PlainRows, RowStore};
 pub use writing::write_page;
 
 /// The width of a page's rows, and whether its resolution is the fine one (ITU-T T.4, 2).

@@ -161,7 +161,7 @@ fn read_line(
         return read_line_1d_into(line, reader, width).is_ok();
     }
     match before {
-        Some(reference) => read_line_2d_into(line, reader, reference).is_ok(),
+        Some(reference) => read_line_2d_into(line, reader, &reference.lend()).is_ok(),
         None => false,
     }
 }

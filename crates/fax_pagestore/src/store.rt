@@ -5,10 +5,12 @@ ghost use Rattle.fax_runcodes.specs.Widths.{elements_of};
 ghost use Rattle.fax_pagestore.specs.PageRows.{AreRows};
 
 mod lent;
+mod packed;
 
 use crate::Format;
 use fax_bits::NoMemory;
-use fax_runcodes::Row;
+use fax_runcodes::{Row, RowRef};
+pub use packed::PackedRows;
 use std::alloc::Global;
 use std::marker::Model;
 
@@ -30,6 +32,12 @@ pub trait RowStore: Drop + Sized {
         ensures back { IfErr result (λ back. back ≡ row) }
         ensures err { OnErr result (rows self.new ≡ rows self.old) };
 
+    /// Adds a row that is lent, or leaves the store as it was for want of memory or where it would be the
+    /// 2^32nd.
+    fn push_lent(&mut self, row: &RowRef<'_>) -> Result<(), NoMemory>
+        ensures pushed { OnOk result (rows self.new ≡ rows self.old ++ row.now ∷ []) }
+        ensures err { OnErr result (rows self.new ≡ rows self.old) };
+
     /// How many rows it has. It takes no memory.
     fn len(&self) -> u32
         ensures { result ≡ length (rows self.now) };
@@ -38,6 +46,11 @@ pub trait RowStore: Drop + Sized {
     fn row(&self, i: u32) -> Result<Row, NoMemory>
         requires { i < length (rows self.now) }
         ensures { IfOk result (λ row. slice_get (rows self.now) i ≡ Some row) };
+
+    /// Row i, counted from 0, lent. It takes no memory.
+    fn lend(&self, i: u32) -> RowRef<'_>
+        requires { i < length (rows self.now) }
+        ensures { slice_get (rows self.now) i ≡ Some result };
 }
 
 /// A store of rows one by one.
@@ -63,12 +76,21 @@ impl RowStore for PlainRows {
         self.rows.push(row).map_err(|refused| refused.value)
     }
 
+    fn push_lent(&mut self, row: &RowRef<'_>) -> Result<(), NoMemory> {
+        let row = row.to_row(*self.rows.allocator())?;
+        self.push(row).map_err(|_| NoMemory)
+    }
+
     fn len(&self) -> u32 {
         self.rows.len() as u32
     }
 
     fn row(&self, i: u32) -> Result<Row, NoMemory> {
         self.rows[i as usize].copy()
+    }
+
+    fn lend(&self, i: u32) -> RowRef<'_> {
+        self.rows[i as usize].lend()
     }
 }
 

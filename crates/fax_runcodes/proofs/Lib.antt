@@ -1,14 +1,17 @@
 pub mod ChangesOfRow
 pub mod Fronts
 pub mod PaintedLemmas
+pub mod PaintingLemmas
 pub mod PairLemmas
 pub mod PairRules
 pub mod ReadLemmas
 pub mod RowLaws
 pub mod RunAtLemmas
+pub mod RowPixelsLemmas
 pub mod RunLaws
 pub mod RunLemmas
 pub mod RunsOfRow
+pub mod SetBitsLemmas
 pub mod TableRules
 pub mod WordLaws
 pub mod WriteLemmas

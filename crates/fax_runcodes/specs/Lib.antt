@@ -5,6 +5,7 @@ pub mod Laws
 pub mod Lookups
 pub mod Painted
 pub mod Pairs
+pub mod Pixels
 pub mod RowLaws
 pub mod Rows
 pub mod RunFaults

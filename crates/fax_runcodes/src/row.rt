@@ -4,6 +4,8 @@ ghost use Rattle.fax_runcodes.specs.Rows.{IsWidth, AreRunsOfRow};
 ghost use Rattle.fax_runcodes.specs.declared.Colour.TheVariants.{White, Black};
 ghost use Rattle.fax_runcodes.specs.Painted.{painted, changes_between, AreRising, colour_after_changes};
 
+mod painting;
+mod pixels;
 #[cfg(test)]
 mod tests;
 
@@ -213,8 +215,9 @@ impl<'a> RowRef<'a> {
         }
         let mut from = 0;
         for i in 0..places.len() {
-            runs[i] = places[i] - from;
-            from = places[i];
+            let place = places[i];
+            runs[i] = place - from;
+            from = place;
         }
         runs[places.len()] = self.elements - from;
         Some(places.len() + 1)

@@ -34,7 +34,7 @@ fn reads_line_after_line_into_one_builder(rt: HostRuntime) -> Result<(), Fail> {
         line.clear();
         let reference = Row::from_runs(rt.alloc(), runs)?;
         let mut reader = BitReader::new(octets);
-        read_line_2d_into(&mut line, &mut reader, &reference)?;
+        read_line_2d_into(&mut line, &mut reader, &reference.lend())?;
         assert_eq!(rt; reader.place(), bits, "at {octets:?}");
         assert_eq!(rt; line.len(), 1728, "at {octets:?}");
         let row = line.row()?;
@@ -71,7 +71,7 @@ fn says_why_it_reads_no_line(rt: HostRuntime) -> Result<(), Fail> {
         line.clear();
         let reference = Row::from_runs(rt.alloc(), runs)?;
         let mut reader = BitReader::new(octets);
-        let result = read_line_2d_into(&mut line, &mut reader, &reference);
+        let result = read_line_2d_into(&mut line, &mut reader, &reference.lend());
         assert_eq!(rt; result, Err(fault), "at {octets:?}");
         assert_eq!(rt; reader.place(), 0, "at {octets:?}");
         assert_eq!(rt; line.len(), 0, "at {octets:?}");

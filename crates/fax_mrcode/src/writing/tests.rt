@@ -1,6 +1,6 @@
 //! Two-dimensional lines, by the tables of ITU-T T.4 and by an encoder that looks at each element,
 //! whose lines are those of libtiff.
-use super::write_line_2d;
+use super::{write_lent_line_2d, write_line_2d};
 use fax_bits::{BitWriter, NoMemory, Octets};
 use fax_runcodes::Row;
 use std::alloc::Global;
@@ -152,5 +152,19 @@ fn writes_rows_that_change_at_each_element(rt: HostRuntime) -> Result<(), Fail> 
         put_digits(&mut want, last)?;
         assert_eq!(rt; octets.as_slice(), want.finish().as_slice(), "at {again}");
     }
+    Ok(())
+}
+
+#[test]
+fn writes_a_lent_row(rt: HostRuntime) -> Result<(), Fail> {
+    let reference = Row::from_runs(rt.alloc(), &[4, 1, 1723])?;
+    let row = Row::from_runs(rt.alloc(), &[2, 2, 1724])?;
+    assert!(rt; row.width() == reference.width());
+    let mut writer = BitWriter::new(rt.alloc());
+    write_lent_line_2d(&mut writer, &reference.lend(), &row.lend())?;
+    let mut want = BitWriter::new(rt.alloc());
+    // VL2, VL1, V0
+    put_digits(&mut want, "0000100101")?;
+    assert_eq!(rt; writer.finish().as_slice(), want.finish().as_slice());
     Ok(())
 }

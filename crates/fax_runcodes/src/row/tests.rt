@@ -122,3 +122,42 @@ fn paints_pairs_and_puts_runs(rt: HostRuntime) -> Result<(), Fail> {
     assert_eq!(rt; runs, [2, 2046, 5, 1, 2, 10, 1700, 7]);
     Ok(())
 }
+
+#[test]
+fn paints_the_row_in_front(rt: HostRuntime) -> Result<(), Fail> {
+    let mut builder = RowBuilder::new(rt.alloc())?;
+    builder.paint(Black, 3);
+    let runs = [0, 3, 1725, 1728, 5, 0, 1723];
+    assert_eq!(rt; builder.paint_row(&runs, Width::W1728), Some(3));
+    let row = builder.row()?;
+    assert_eq!(rt; row.width(), 1728);
+    assert_eq!(rt; row.runs()?.as_slice(), [0, 3, 1725].as_slice());
+    assert_eq!(rt; builder.paint_row(&runs[3..], Width::W1728), Some(1));
+    assert_eq!(rt; builder.row()?.changes().len(), 0);
+    assert_eq!(rt; builder.paint_row(&runs[4..], Width::W1728), None);
+    assert_eq!(rt; builder.len(), 0);
+    assert_eq!(rt; builder.paint_row(&runs, Width::W2432), None);
+    assert_eq!(rt; builder.paint_row(&[1, 1726], Width::W1728), None);
+    assert_eq!(rt; builder.paint_row(&[], Width::W1728), None);
+    Ok(())
+}
+
+#[test]
+fn puts_pixels(rt: HostRuntime) -> Result<(), Fail> {
+    let mut octets = [0x55u8; 216];
+    let row = Row::from_runs(rt.alloc(), &[3, 2, 1, 12, 10, 28, 1671, 1])?;
+    row.lend().put_pixels(&mut octets);
+    let front = [0x1b, 0xff, 0xc0, 0x0f, 0xff, 0xff, 0xff, 0x00];
+    assert_eq!(rt; octets[..8], front[..]);
+    for octet in &octets[8..215] {
+        assert_eq!(rt; *octet, 0);
+    }
+    assert_eq!(rt; octets[215], 0x01);
+    let row = Row::from_runs(rt.alloc(), &[0, 1720, 8])?;
+    row.lend().put_pixels(&mut octets);
+    for octet in &octets[..215] {
+        assert_eq!(rt; *octet, 0xff);
+    }
+    assert_eq!(rt; octets[215], 0);
+    Ok(())
+}

@@ -3,7 +3,7 @@ use Rattle.fax_runcodes.specs.declared.Colour.TheVariants.{White}
 use Rattle.fax_runcodes.specs.Painted.{AreRising}
 use Rattle.fax_runcodes.proofs.RunsOfRow.{runs_between}
 use Rattle.fax_mhcode.proofs.WriteLemmas.{RunsWritten}
-use Rattle.fax_mhcode.proofs.write_runs.Given as goal
+use Rattle.fax_mhcode.proofs.writing.write_runs.Given as goal
 
 abbrev pub invariant-loop-changes : goal.invariant-loop-changes
 invariant-loop-changes l = record {

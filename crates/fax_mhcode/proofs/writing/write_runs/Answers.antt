@@ -5,8 +5,8 @@ use Rattle.fax_runcodes.specs.Spelling.{written_run}
 use Rattle.fax_runcodes.proofs.PaintedLemmas.{rising_le}
 use Rattle.fax_runcodes.proofs.RunsOfRow.{runs_between}
 use Rattle.fax_mhcode.proofs.WriteLemmas.{RunsWritten, RunsWritten-none, RunsWritten-more, WritesLine-last, TwoMore, TwoMore-from, OneMore, OneMore-from, runs_between-none, are_runs_between, most_elements}
-use Rattle.fax_mhcode.proofs.write_runs.Goals as goal
-use Rattle.fax_mhcode.proofs.write_runs.Goals.{In-len2-up, In-len1-up}
+use Rattle.fax_mhcode.proofs.writing.write_runs.Goals as goal
+use Rattle.fax_mhcode.proofs.writing.write_runs.Goals.{In-len2-up, In-len1-up}
 
 pub loop-changes-init : goal.loop-changes-init
 loop-changes-init c = record {

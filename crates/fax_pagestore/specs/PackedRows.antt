@@ -1,0 +1,19 @@
+-- Rows that share one list of changing places.
+use Rattle.std.specs.Prelude.{ℕ, ◌+◌, ◌≤◌, List, length, take, drop}
+use Rattle.fax_runcodes.specs.declared.Colour.TheVariants.{White}
+use Rattle.fax_runcodes.specs.Rows.{Elements, IsWidth}
+use Rattle.fax_runcodes.specs.Painted.{painted, AreRising}
+
+-- so many of the places, from an index on
+abbrev pub places_at : List ℕ → ℕ → ℕ → List ℕ
+places_at places start count = take count (drop start places)
+
+-- the row of a width that changes its colour at these places
+abbrev pub row_at : List ℕ → ℕ → ℕ → ℕ → Elements
+row_at places start count width = painted White 0 (places_at places start count) width
+
+-- the places are there, and are those of a row of the width
+pub record HasRowAt (places : List ℕ) (start count width : ℕ) : Type 0 where
+  pub within : start + count ≤ length places
+  pub rising : AreRising 0 (places_at places start count) width
+  pub is_width : IsWidth width

@@ -1,0 +1,89 @@
+//! Rows kept side by side, in two vectors for all of them.
+#[cfg(test)]
+mod tests;
+
+use super::RowStore;
+use fax_bits::NoMemory;
+use fax_runcodes::{Row, RowRef};
+use std::alloc::Global;
+use std::marker::Model;
+
+/// A store of rows side by side. A row that is lent to it takes no memory of its own: the two vectors
+/// grow by doubling.
+#[derive(Drop)]
+pub struct PackedRows {
+    /// The changing places of all rows, row behind row.
+    places: Vec<u16>,
+    extents: Vec<Extent>,
+}
+
+/// Where a row's changing places stand, and its width in elements.
+#[derive(Clone, Copy)]
+struct Extent {
+    start: usize,
+    count: u16,
+    width: u16,
+}
+
+impl Model for PackedRows {
+    ghost use Rattle.std.specs.Prelude.{List, ◌<◌, ◌^◌, All, map, vec_len};
+    ghost use Rattle.fax_runcodes.specs.Rows.{Elements};
+    ghost use Rattle.fax_pagestore.specs.PackedRows.{row_at, HasRowAt};
+
+    ghost Value = { List Elements };
+
+    ghost view = { λ r. map (λ e. row_at r.places.items e.start e.count e.width) r.extents.items };
+
+    ghost invariant = { λ r. All (λ e. HasRowAt r.places.items e.start e.count e.width) r.extents.items × (vec_len r.extents < 2 ^ 32) };
+}
+
+impl RowStore for PackedRows {
+    ghost rows = { λ store. store };
+
+    fn empty(alloc: Global) -> Self {
+        PackedRows {
+            places: Vec::new(alloc),
+            extents: Vec::new(alloc),
+        }
+    }
+
+    fn push(&mut self, row: Row) -> Result<(), Row> {
+        if self.push_lent(&row.lend()).is_err() {
+            return Err(row);
+        }
+        Ok(())
+    }
+
+    fn push_lent(&mut self, row: &RowRef<'_>) -> Result<(), NoMemory> {
+        if self.extents.len() >= u32::MAX as usize {
+            return Err(NoMemory);
+        }
+        self.extents.reserve(1)?;
+        let start = self.places.len();
+        let (changes, width) = (row.changes(), row.width());
+        self.places.extend_from_slice(changes)?;
+        self.extents.push_reserved(Extent {
+            start,
+            count: changes.len() as u16,
+            width,
+        });
+        Ok(())
+    }
+
+    fn len(&self) -> u32 {
+        self.extents.len() as u32
+    }
+
+    fn row(&self, i: u32) -> Result<Row, NoMemory> {
+        self.lend(i).to_row(*self.places.allocator())
+    }
+
+    fn lend(&self, i: u32) -> RowRef<'_> {
+        let Extent {
+            start,
+            count,
+            width,
+        } = self.extents[i as usize];
+        RowRef::from_changes(&self.places[start..start + usize::from(count)], width)
+    }
+}
