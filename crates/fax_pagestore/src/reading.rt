@@ -1,7 +1,7 @@
 //! Pages read from their texts.
-ghost use Rattle.std.specs.Prelude.{◌≡◌, ◌≢◌, ◌≤◌, ◌⊎◌, ◌++◌, ◌↔◌, ℕ, Bool, List, [], length, IfOk, IfErr, IfSome, IsNone, OnOk, Ok, Err, IsTrue, true, false};
+ghost use Rattle.std.specs.Prelude.{◌≡◌, ◌≢◌, ◌<◌, ◌≤◌, ◌⊎◌, ◌++◌, ◌↔◌, ℕ, Bool, List, [], length, IfOk, IfErr, IfSome, IsNone, None, Some, OnOk, Ok, Err, IsTrue, true, false};
 ghost use Rattle.fax_bits.specs.Reading.{Passes};
-ghost use Rattle.fax_runcodes.specs.Rows.{Elements};
+ghost use Rattle.fax_runcodes.specs.Rows.{Elements, IsWidth};
 ghost use Rattle.fax_runcodes.specs.Widths.{elements_of};
 ghost use Rattle.fax_pagestore.specs.declared.Coding.{Coding};
 ghost use Rattle.fax_pagestore.specs.declared.fault.PageFault.{PageFault};
@@ -13,8 +13,9 @@ use crate::{Coding, Format, Page, PageFault, RowStore};
 use fax_bits::BitReader;
 use fax_mhcode::read_line_1d_into;
 use fax_mrcode::read_line_2d_into;
-use fax_runcodes::{Row, RowBuilder, Width};
+use fax_runcodes::{RowBuilder, RowRef, Width};
 use std::alloc::Global;
+use std::mem;
 
 /// The most rows of a page (this project's profile).
 const MOST_ROWS: u32 = 20_000;
@@ -151,7 +152,7 @@ fn read_line(
     reader: &mut BitReader,
     width: Width,
     one_dimensional: bool,
-    before: &Option<Row>,
+    before: &Option<RowRef<'_>>,
 ) -> bool
     ensures read { IsTrue result → (text : List Bool) × SpellsRow (elements_of width) one_dimensional before.now text line.new × Passes reader.old reader.new text }
     ensures fails { result ≡ false → FailsRow (elements_of width) one_dimensional before.now reader.old.left }
@@ -161,7 +162,7 @@ fn read_line(
         return read_line_1d_into(line, reader, width).is_ok();
     }
     match before {
-        Some(reference) => read_line_2d_into(line, reader, &reference.lend()).is_ok(),
+        Some(reference) => read_line_2d_into(line, reader, reference).is_ok(),
         None => false,
     }
 }
@@ -174,7 +175,7 @@ fn read_row(
     width: Width,
     coding: Coding,
     tag: bool,
-    before: &Option<Row>,
+    before: &Option<RowRef<'_>>,
     n: u32,
 ) -> Result<bool, PageFault>
     ensures ok { IfOk result (λ next. (text separator : List Bool) × SpellsRow (elements_of width) tag before.now text line.new × IsSeparator coding next separator
@@ -189,6 +190,18 @@ fn read_row(
         Ahead::Separator(next) => Ok(next),
         Ahead::Line => Err(PageFault::BadLine(n)),
     }
+}
+
+/// The row before a line behind n rows and this tag, where the tag wants it and there is one.
+fn row_before<'a>(kept: &'a RowBuilder, tag: bool, n: u32) -> Option<RowRef<'a>>
+    requires { tag ≡ false → 0 < n → IsWidth (length kept.now) }
+    ensures first { n ≡ 0 → result ≡ None }
+    ensures later { tag ≡ false → 0 < n → result ≡ Some kept.now }
+{
+    if tag || n == 0 {
+        return None;
+    }
+    Some(kept.lend())
 }
 
 /// Reads the lines of a page behind its first EOL and the tag of that, and passes the return to control.
@@ -206,19 +219,21 @@ fn read_rows<S: RowStore>(
 {
     let mut rows = S::empty(alloc);
     let mut line = RowBuilder::new(alloc)?;
+    // the row before, where the next line is two-dimensional
+    let mut kept = RowBuilder::new(alloc)?;
     let mut tag = first;
-    let mut before = None;
     while line_begins(reader) {
         let n = rows.len();
         if n == MOST_ROWS {
             return Err(PageFault::TooManyRows);
         }
+        let before = row_before(&kept, tag, n);
         tag = read_row(&mut line, reader, width, coding, tag, &before, n)?;
-        let row = line.row()?;
-        // Only a line of tag 0 looks at the row before it.
-        before = if tag { None } else { Some(row.copy()?) };
-        if rows.push(row).is_err() {
+        if rows.push_lent(&line.lend()).is_err() {
             return Err(PageFault::NoMemory);
+        }
+        if !tag {
+            mem::swap(&mut line, &mut kept);
         }
     }
     pass_return_to_control(reader, coding, tag)?;
