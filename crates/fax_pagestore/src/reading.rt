@@ -1,5 +1,5 @@
 //! Pages read from their texts.
-ghost use Rattle.std.specs.Prelude.{◌≡◌, ◌≢◌, ◌<◌, ◌≤◌, ◌⊎◌, ◌++◌, ◌↔◌, ℕ, Bool, List, [], length, IfOk, IfErr, IfSome, IsNone, None, Some, OnOk, Ok, Err, IsTrue, true, false};
+ghost use Rattle.std.specs.Prelude.{◌≡◌, ◌≢◌, ◌<◌, ◌≤◌, ◌⊎◌, ◌++◌, ◌↔◌, ℕ, Bool, List, [], length, IfOk, IfErr, IfSome, IsNone, None, Some, OnOk, Ok, Err, IsTrue, true, false, ◌∷◌, replicate};
 ghost use Rattle.fax_bits.specs.Reading.{Passes};
 ghost use Rattle.fax_runcodes.specs.Rows.{Elements, IsWidth};
 ghost use Rattle.fax_runcodes.specs.Widths.{elements_of};
@@ -21,7 +21,10 @@ use std::mem;
 const MOST_ROWS: u32 = 20_000;
 
 /// The fewest zeros before the 1 of an EOL (ITU-T T.4, 4.1.2).
-const EOL_ZEROS: u128 = 11;
+const EOL_ZEROS: u32 = 11;
+
+/// The bits of a reader's window.
+const WINDOW_BITS: u32 = 56;
 
 /// The EOLs of a return to control behind its first (ITU-T T.4, 4.1.4 and 4.2.4).
 const FURTHER_EOLS: u32 = 5;
@@ -77,7 +80,7 @@ fn pass_front(reader: &mut BitReader, coding: Coding) -> Option<bool>
             return None;
         }
         reader.skip(1);
-        if zeros >= EOL_ZEROS {
+        if zeros >= u128::from(EOL_ZEROS) {
             return pass_tag(reader, coding);
         }
     }
@@ -93,34 +96,58 @@ enum Ahead {
     Line,
 }
 
+/// How many zeros stand before the first 1 of a reader's window, which has zeros past the end; 56 where
+/// there is no 1 in it.
+#[inline]
+fn zeros_in_window(reader: &BitReader) -> u32
+    ensures one { result < 56 → (rest : List Bool) × (reader.now.left ≡ replicate result false ++ true ∷ rest) }
+    ensures none { 56 ≤ result → LineBegins reader.now.left → ⊥ }
+{
+    reader.window().leading_zeros() - (u64::BITS - WINDOW_BITS)
+}
+
 /// Passes a separator, or tells that a line begins. Where only zeros are left, or an EOL without its
 /// tag, no return to control can follow.
+#[inline]
 fn pass_separator(reader: &mut BitReader, coding: Coding) -> Result<Ahead, PageFault>
     ensures separator { (tag : Bool) → result ≡ Ok (Ahead.Separator tag) → (text : List Bool) × IsSeparator coding tag text × Passes reader.old reader.new text }
     ensures line { result ≡ Ok Ahead.Line → LineBegins reader.old.left }
     ensures fault { IfErr result (λ fault. (fault ≡ PageFault.NoRtc) × RunsOut coding reader.old.left) }
 {
-    let mut ahead = reader.copy();
-    let zeros = ahead.skip_zeros();
-    if !ahead.has(1) {
-        return Err(PageFault::NoRtc);
-    }
+    let zeros = zeros_in_window(reader);
     if zeros < EOL_ZEROS {
         return Ok(Ahead::Line);
     }
-    ahead.skip(1);
-    let tag = pass_tag(&mut ahead, coding).ok_or(PageFault::NoRtc)?;
-    *reader = ahead;
+    if zeros >= WINDOW_BITS {
+        let tag = pass_filled_eol(reader, coding)?;
+        return Ok(Ahead::Separator(tag));
+    }
+    reader.skip(zeros + 1);
+    let tag = pass_tag(reader, coding).ok_or(PageFault::NoRtc)?;
     Ok(Ahead::Separator(tag))
 }
 
+/// Passes a separator that may have any number of zeros, and answers its tag.
+#[cold]
+fn pass_filled_eol(reader: &mut BitReader, coding: Coding) -> Result<bool, PageFault>
+    requires { LineBegins reader.old.left → ⊥ }
+    ensures ok { IfOk result (λ tag. (text : List Bool) × IsSeparator coding tag text × Passes reader.old reader.new text) }
+    ensures fault { IfErr result (λ fault. (fault ≡ PageFault.NoRtc) × RunsOut coding reader.old.left) }
+{
+    reader.skip_zeros();
+    if !reader.has(1) {
+        return Err(PageFault::NoRtc);
+    }
+    reader.skip(1);
+    pass_tag(reader, coding).ok_or(PageFault::NoRtc)
+}
+
 /// Whether a line begins: a 1 comes before 11 zeros.
+#[inline]
 fn line_begins(reader: &BitReader) -> bool
     ensures { IsTrue result ↔ LineBegins reader.now.left }
 {
-    let mut ahead = reader.copy();
-    let zeros = ahead.skip_zeros();
-    zeros < EOL_ZEROS && ahead.has(1)
+    zeros_in_window(reader) < EOL_ZEROS
 }
 
 /// Passes the last five of the six EOLs that end a page, behind the first and its tag. Each of the six
