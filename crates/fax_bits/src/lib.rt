@@ -14,4 +14,4 @@ mod writer;
 pub use memory::NoMemory;
 pub use octets::Octets;
 pub use reader::BitReader;
-pub use writer::BitWriter;
+pub use writer::{BitWriter, RoomyWriter};
