@@ -6,11 +6,13 @@ pub mod laws;
 mod row;
 mod run;
 mod tables;
+mod writing;
 
 pub use fault::{RowFault, RunFault};
 pub use row::{Row, RowBuilder, RowRef, Runs};
 pub use run::{LONGEST_WRITTEN_RUN, read_run, word_at, write_run};
 pub use tables::CodeWord;
+pub use writing::{put_run, put_two_runs};
 
 /// The colour of an element.
 #[derive(Clone, Copy, PartialEq, Eq, Debug)]

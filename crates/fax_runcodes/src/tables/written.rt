@@ -10,8 +10,29 @@ use crate::Colour;
 /// significant.
 #[derive(Clone, Copy, PartialEq, Eq, Debug)]
 pub(crate) struct WrittenWord {
-    pub word: u16,
-    pub bits: u16,
+    pub word: u32,
+    pub bits: u32,
+}
+
+impl WrittenWord {
+    ghost use Rattle.std.specs.Prelude.{◌≡◌, ◌+◌, ◌<◌, ◌≤◌, ◌^◌, ◌++◌};
+    ghost use Rattle.fax_bits.specs.Bits.{word_bits};
+
+    /// The bits of this word and then those of another.
+    #[inline]
+    pub(crate) fn then(self, next: WrittenWord) -> WrittenWord
+        requires below { self.word < 2 ^ self.bits }
+        requires next_below { next.word < 2 ^ next.bits }
+        requires few { self.bits + next.bits < 32 }
+        ensures text { word_bits result.bits result.word ≡ word_bits self.bits self.word ++ word_bits next.bits next.word }
+        ensures bits { result.bits ≡ self.bits + next.bits }
+        ensures below { result.word < 2 ^ result.bits }
+    {
+        WrittenWord {
+            word: (self.word << next.bits) | next.word,
+            bits: self.bits + next.bits,
+        }
+    }
 }
 
 /// A word and how many bits it has.
