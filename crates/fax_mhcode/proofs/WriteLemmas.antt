@@ -1,7 +1,8 @@
 -- A one-dimensional line that is being written: runs so far.
 use Rattle.std.proofs.Common.{◌≡◌, ℕ, ◌+◌, ◌-◌, ◌≤◌, Bool, List, [], ◌∷◌, ◌++◌, get_or, length, take, drop, refl, sym, ◌∙◌, ap, subst, arith, append_assoc, append-nil, length-drop, take_all, inl, inr}
+use Rattle.fax_bits.specs.Bits.{word_bits}
 use Rattle.fax_runcodes.specs.declared.Colour.{Colour}
-use Rattle.fax_runcodes.specs.declared.Colour.TheVariants.{White}
+use Rattle.fax_runcodes.specs.declared.Colour.TheVariants.{White, Black}
 use Rattle.fax_runcodes.specs.Rows.{Elements, IsWidth, AreRuns, other}
 use Rattle.fax_runcodes.specs.Painted.{AreRising, painted}
 use Rattle.fax_runcodes.specs.Spelling.{written_run}
@@ -37,8 +38,16 @@ RunsWritten-more row before mid after colour run left w e = record {
   whole = append_assoc w.text (written_run colour run) (written_runs (other colour) left) ∙ w.whole;
 }
 
+-- two runs at once, behind no bits
+pub RunsWritten-two : (row : Elements) (before mid after : List Bool) (white black : ℕ) (left : List ℕ) → RunsWritten row before mid White (white ∷ black ∷ left)
+    → after ≡ mid ++ (word_bits 0 0 ++ (written_run White white ++ written_run Black black)) → RunsWritten row before after White left
+unfolding word_bits
+RunsWritten-two row before mid after white black left w e =
+    RunsWritten-more row before (mid ++ written_run White white) after Black black left (RunsWritten-more row before mid (mid ++ written_run White white) White white (black ∷ left) w refl)
+    (e ∙ sym (append_assoc mid (written_run White white) (written_run Black black)))
+
 -- the line, once no run is left
-WritesLine-from : (row : Elements) (before after : List Bool) (colour : Colour) → RunsWritten row before after colour [] → (text : List Bool) × WritesLine row text × (after ≡ before ++ text)
+pub WritesLine-from : (row : Elements) (before after : List Bool) (colour : Colour) → RunsWritten row before after colour [] → (text : List Bool) × WritesLine row text × (after ≡ before ++ text)
 WritesLine-from row before after colour w = (w.text, record { runs = w.runs; are_runs = w.are_runs; text_is = sym (append-nil w.text) ∙ w.whole }, w.after_is)
 
 -- the line, with the last run
