@@ -23,9 +23,9 @@ pub fn write_lent_line_1d(writer: &mut BitWriter, row: &RowRef<'_>) -> Result<()
     ensures ok { OnOk result ((text : List Bool) × WritesLine row.now text × (writer.new ≡ writer.old ++ text)) }
     ensures err { OnErr result (writer.new ≡ writer.old) }
 {
-    let changes = row.changes();
+    let (changes, width) = (row.changes(), row.width());
     let mut roomy = writer.take_with_room(4 * (changes.len() + 1))?;
-    put_runs(&mut roomy, changes, row.width());
+    put_runs(&mut roomy, changes, width);
     *writer = roomy.into_writer();
     Ok(())
 }
