@@ -42,13 +42,16 @@ fn put_runs(writer: &mut RoomyWriter, changes: &[u16], width: u16)
     let mut rest = changes;
     let mut from = 0;
     while let [black, white, behind @ ..] = rest {
-        put_two_runs(writer, 0, 0, Colour::White, *black - from, *white - *black);
-        from = *white;
+        let (black, white) = (*black as u32, *white as u32);
+        put_two_runs(writer, 0, 0, Colour::White, black - from, white - black);
+        from = white;
         rest = behind;
     }
+    let width = width as u32;
     let [black, ..] = rest else {
         put_run(writer, Colour::White, width - from);
         return;
     };
-    put_two_runs(writer, 0, 0, Colour::White, *black - from, width - *black);
+    let black = *black as u32;
+    put_two_runs(writer, 0, 0, Colour::White, black - from, width - black);
 }

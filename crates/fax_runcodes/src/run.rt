@@ -55,7 +55,7 @@ pub fn write_run(writer: &mut BitWriter, colour: Colour, n: u16) -> Result<(), N
     ensures ok { OnOk result (writer.new ≡ writer.old ++ written_run colour n) }
     ensures err { OnErr result (writer.new ≡ writer.old) }
 {
-    let word = run_word(colour, n);
+    let word = run_word(colour, u32::from(n));
     writer.put(word.word, word.bits)
 }
 

@@ -20,8 +20,8 @@ pub fn put_two_runs(
     word: u32,
     n: u32,
     colour: Colour,
-    first: u16,
-    second: u16,
+    first: u32,
+    second: u32,
 )
     requires few { n ≤ 5 }
     requires word { word < 2 ^ n }
@@ -44,7 +44,7 @@ pub fn put_two_runs(
 /// Writes a run of n elements of a colour, as [`crate::write_run`] does. It is of at most 26 bits. It
 /// takes no memory.
 #[inline]
-pub fn put_run(writer: &mut RoomyWriter, colour: Colour, n: u16)
+pub fn put_run(writer: &mut RoomyWriter, colour: Colour, n: u32)
     requires run { n ≤ LONGEST_WRITTEN_RUN }
     requires room { 26 ≤ writer.old.room }
     ensures bits { writer.new.bits ≡ writer.old.bits ++ written_run colour n }
@@ -56,7 +56,7 @@ pub fn put_run(writer: &mut RoomyWriter, colour: Colour, n: u16)
 /// The bits in which a run of n elements of a colour is written: from 64 on the make-up word of the
 /// largest multiple of 64, and then the terminating word of the rest (ITU-T T.4, 4.1.1).
 #[inline]
-pub(crate) fn run_word(colour: Colour, n: u16) -> WrittenWord
+pub(crate) fn run_word(colour: Colour, n: u32) -> WrittenWord
     requires { n ≤ LONGEST_WRITTEN_RUN }
     ensures text { word_bits result.bits result.word ≡ written_run colour n }
     ensures below { result.word < 2 ^ result.bits }
@@ -67,7 +67,7 @@ pub(crate) fn run_word(colour: Colour, n: u16) -> WrittenWord
 
 /// The bits in which a run of fewer than 64 elements is written.
 #[inline]
-fn short_run_word(colour: Colour, n: u16) -> WrittenWord
+fn short_run_word(colour: Colour, n: u32) -> WrittenWord
     requires { n < 64 }
     ensures text { word_bits result.bits result.word ≡ written_run colour n }
     ensures below { result.word < 2 ^ result.bits }
