@@ -1,7 +1,7 @@
 -- Bits that are put behind others.
 use Rattle.std.proofs.Common.{◌≡◌, ℕ, ◌+◌, ◌-◌, ◌*◌, ◌/◌, ◌%◌, ◌^◌, ◌<◌, ◌≤◌, Bool, false, List, ◌++◌, length, take, replicate, sym, ◌∙◌, ap, ap₂, arith, append_assoc, length-append, bit_and, bit_or}
-use Rattle.std.proofs.lemmas.Nat.{pow_pos, one_shl, and_mask, shl_below, or_shifted, shr_high, mod_low, pow_below, mod_below, shr_below}
-use Rattle.std.proofs.Math.Nat.{mod-eq_of_lt}
+use Rattle.std.proofs.lemmas.Nat.{mod-pow-add, shl-shr, pow_pos, one_shl, and_mask, shl_below, or_shifted, shr_high, mod_low, pow_below, mod_below, shr_below}
+use Rattle.std.proofs.Math.Nat.{mod-eq_of_lt, mul-mod_left}
 use Rattle.std.proofs.lemmas.List.{take_at, length-replicate, replicate-append-replicate}
 use Rattle.std.specs.Int.{to_be_bytes, w32}
 use Rattle.fax_bits.specs.Bits.{word_bits, bits_of}
@@ -40,6 +40,28 @@ bits_of-four items octets rest all low lt e same =
     let below : all / 2 ^ rest < 2 ^ 32 = shr_below all 32 rest lt in
     let bits : bits_of octets ≡ word_bits 32 (all / 2 ^ rest) = ap bits_of e ∙ bits_of-be (all / 2 ^ rest) below in
     ap₂ (λ (a b : List Bool). a ++ b) (bits_of-append items octets ∙ ap (λ b. bits_of items ++ b) bits) same
+    ∙ append_assoc (bits_of items) (word_bits 32 (all / 2 ^ rest)) (word_bits rest all)
+    ∙ ap (λ b. bits_of items ++ b) (sym (word_bits-add 32 rest all))
+
+-- bits put behind others, whatever stands above those
+pub joined_bits : (k n a b : ℕ) → k ≤ 32 → n ≤ 32 → b < 2 ^ n → word_bits (k + n) (bit_or (a * 2 ^ n % 18446744073709551616) b) ≡ word_bits k a ++ word_bits n b
+joined_bits k n a b few le lb =
+    let q : ℕ = a % 2 ^ (64 - n) in
+    let whole : 64 - n + n ≡ 64 = omega arith in
+    let parts : a * 2 ^ n % 2 ^ (64 - n + n) ≡ a * 2 ^ n / 2 ^ n % 2 ^ (64 - n) * 2 ^ n + a * 2 ^ n % 2 ^ n = mod-pow-add (a * 2 ^ n) (64 - n) n in
+    let kept : a * 2 ^ n % 2 ^ (64 - n + n) ≡ q * 2 ^ n + 0 = parts ∙ ap₂ (λ x y. x % 2 ^ (64 - n) * 2 ^ n + y) (shl-shr a n) (mul-mod_left a (2 ^ n)) in
+    let kept64 : a * 2 ^ n % 2 ^ 64 ≡ q * 2 ^ n + 0 = rw whole at kept in
+    let top : a * 2 ^ n % 18446744073709551616 ≡ q * 2 ^ n = omega (arith, kept64) in
+    ap (λ m. word_bits (k + n) (bit_or m b)) top ∙ ap (word_bits (k + n)) (or_shifted q n b lb) ∙ word_bits_sum k n q b lb
+    ∙ ap (λ bs. bs ++ word_bits n b) (word_bits-mod k (64 - n) a (omega arith))
+
+-- the octets of 32 bits that stand above a rest
+pub bits_of-above : (items octets : List ℕ) (rest all : ℕ) → octets ≡ to_be_bytes w32 (all / 2 ^ rest % 4294967296)
+    → bits_of (items ++ octets) ++ word_bits rest all ≡ bits_of items ++ word_bits (32 + rest) all
+bits_of-above items octets rest all e =
+    let bits : bits_of octets ≡ word_bits 32 (all / 2 ^ rest) =
+    ap bits_of e ∙ bits_of-be (all / 2 ^ rest % 4294967296) (mod_below (all / 2 ^ rest) 4294967296 (omega arith)) ∙ word_bits-mod 32 32 (all / 2 ^ rest) (omega arith) in
+    ap (λ a. a ++ word_bits rest all) (bits_of-append items octets ∙ ap (λ b. bits_of items ++ b) bits)
     ∙ append_assoc (bits_of items) (word_bits 32 (all / 2 ^ rest)) (word_bits rest all)
     ∙ ap (λ b. bits_of items ++ b) (sym (word_bits-add 32 rest all))
 

@@ -16,4 +16,4 @@ pub use memory::NoMemory;
 pub use octets::Octets;
 pub use reader::BitReader;
 pub use window::behind;
-pub use writer::BitWriter;
+pub use writer::{BitWriter, RoomyWriter};

@@ -101,6 +101,28 @@ fn writes_zeros_and_cuts(rt: HostRuntime) -> Result<(), Fail> {
 }
 
 #[test]
+fn writes_where_there_is_room(rt: HostRuntime) -> Result<(), Fail> {
+    let mut writer = BitWriter::new(rt.alloc());
+    writer.put(0b101, 3)?;
+    let mut roomy = writer.take_with_room(9)?;
+    assert_eq!(rt; writer.bits(), 0);
+    roomy.put(0b00101, 5);
+    roomy.put(0xdead_beef, 32);
+    roomy.put(0, 0);
+    roomy.put(0x7fff_fffe, 31);
+    roomy.put(1, 1);
+    writer = roomy.into_writer();
+    assert_eq!(rt; writer.bits(), 72);
+    writer.put(1, 1)?;
+    let octets = writer.finish();
+    assert_eq!(rt;
+        octets.as_slice(),
+        [0xa5, 0xde, 0xad, 0xbe, 0xef, 0xff, 0xff, 0xff, 0xfd, 0x80].as_slice()
+    );
+    Ok(())
+}
+
+#[test]
 fn want_of_memory_has_a_text(rt: HostRuntime) -> Result<(), Fail> {
     assert_eq!(rt; NoMemory.to_string(rt.alloc())?.as_str(), "out of memory");
     let octets = Octets::from_vec(vec![in rt.alloc(); 7, 8]?);

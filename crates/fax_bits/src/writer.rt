@@ -1,5 +1,5 @@
 //! A writer of bits.
-ghost use Rattle.std.specs.Prelude.{ℕ, ◌≡◌, ◌+◌, ◌-◌, ◌*◌, ◌<◌, ◌≤◌, ◌^◌, ◌++◌, [], false, length, replicate, take, vec_len, vec_capacity, OnOk, OnErr};
+ghost use Rattle.std.specs.Prelude.{ℕ, ◌≡◌, IfOk, ◌+◌, ◌-◌, ◌*◌, ◌<◌, ◌≤◌, ◌^◌, ◌++◌, [], false, length, replicate, take, vec_len, vec_capacity, OnOk, OnErr};
 ghost use Rattle.std.specs.Int.{to_be_bytes, w32};
 ghost use Rattle.fax_bits.specs.Bits.{word_bits};
 ghost use Rattle.fax_bits.specs.Writing.{IsPadded};
@@ -8,6 +8,7 @@ use crate::memory::NoMemory;
 use crate::octets::Octets;
 use std::alloc::Global;
 use std::marker::Model;
+use std::mem;
 
 /// Holds bits, the most significant bit of an octet first.
 #[derive(Drop)]
@@ -127,6 +128,87 @@ impl BitWriter {
             unreachable!();
         }
         Octets::from_vec(octets)
+    }
+
+    /// Takes the bits out into a writer that has room for so many octets more. An `Err` changes nothing.
+    #[inline]
+    pub fn take_with_room(&mut self, octets: usize) -> Result<RoomyWriter, NoMemory>
+        ensures ok { IfOk result (λ roomy. (roomy.bits ≡ self.old) × (8 * octets ≤ roomy.room)) }
+        ensures empty { OnOk result (self.new ≡ []) }
+        ensures err { OnErr result (self.new ≡ self.old) }
+    {
+        self.octets.reserve(octets.saturating_add(4))?;
+        let none = Vec::new(*self.octets.allocator());
+        let roomy = RoomyWriter {
+            octets: mem::replace(&mut self.octets, none),
+            pending: self.pending,
+            count: self.count,
+        };
+        self.pending = 0;
+        self.count = 0;
+        Ok(roomy)
+    }
+}
+
+/// Holds bits, as a [`BitWriter`] does, and has room for more: what is put into it takes no memory.
+#[derive(Drop)]
+pub struct RoomyWriter {
+    octets: Vec<u8>,
+    /// Its low bits are those of four octets that are not whole yet. What stands above them is of no
+    /// account.
+    pending: u64,
+    count: u32,
+}
+
+impl Model for RoomyWriter {
+    ghost use Rattle.std.specs.Prelude.{◌<◌, ◌≤◌, ◌+◌, ◌-◌, ◌*◌, ◌++◌, vec_len, vec_capacity};
+    ghost use Rattle.fax_bits.specs.Bits.{bits_of, word_bits};
+    ghost use Rattle.fax_bits.specs.Writing.{Roomy};
+
+    ghost Value = { Roomy };
+
+    ghost view = { λ w. record { bits = bits_of w.octets.items ++ word_bits w.count w.pending; room = 8 * vec_capacity w.octets - (8 * vec_len w.octets + w.count) } };
+
+    ghost invariant = { λ w. (w.count < 32) × (8 * vec_len w.octets + w.count ≤ 8 * vec_capacity w.octets) };
+}
+
+impl RoomyWriter {
+    /// Adds the n bits of a word, at most 32, the most significant first. It takes no memory.
+    #[inline]
+    pub fn put(&mut self, word: u32, n: u32)
+        requires few { n ≤ 32 }
+        requires word { word < 2 ^ n }
+        requires room { n ≤ self.old.room }
+        ensures bits { self.new.bits ≡ self.old.bits ++ word_bits n word }
+        ensures room { self.new.room ≡ self.old.room - n }
+    {
+        let all = (self.pending << n) | u64::from(word);
+        let total = self.count + n;
+        self.pending = all;
+        if total < 32 {
+            self.count = total;
+        } else {
+            let behind = total - 32;
+            push_word(&mut self.octets, ((all >> behind) % (1 << 32)) as u32);
+            self.count = behind;
+        }
+    }
+
+    /// The writer of its bits. It takes no memory.
+    #[inline]
+    pub fn into_writer(self) -> BitWriter
+        ensures { result ≡ self.bits }
+    {
+        let RoomyWriter {
+            octets,
+            pending,
+            count,
+        } = self;
+        BitWriter {
+            octets,
+            pending: low_bits(pending, count),
+            count,
+        }
     }
 }
 

@@ -1,12 +1,13 @@
 -- A one-dimensional line that is being written: runs so far.
 use Rattle.std.proofs.Common.{◌≡◌, ℕ, ◌+◌, ◌-◌, ◌≤◌, Bool, List, [], ◌∷◌, ◌++◌, get_or, length, take, drop, refl, sym, ◌∙◌, ap, subst, arith, append_assoc, append-nil, length-drop, take_all, inl, inr}
+use Rattle.fax_bits.specs.Bits.{word_bits}
 use Rattle.fax_runcodes.specs.declared.Colour.{Colour}
-use Rattle.fax_runcodes.specs.declared.Colour.TheVariants.{White}
+use Rattle.fax_runcodes.specs.declared.Colour.TheVariants.{White, Black}
 use Rattle.fax_runcodes.specs.Rows.{Elements, IsWidth, AreRuns, other}
-use Rattle.fax_runcodes.specs.Painted.{AreRising, painted}
+use Rattle.fax_runcodes.specs.Painted.{AreRising}
 use Rattle.fax_runcodes.specs.Spelling.{written_run}
 use Rattle.fax_runcodes.proofs.PaintedLemmas.{rising_le, rising_lower}
-use Rattle.fax_runcodes.proofs.RunsOfRow.{runs_between, runs_between_are_runs}
+use Rattle.fax_runcodes.proofs.RunsOfRow.{runs_between}
 use Rattle.fax_mhcode.specs.Lines.{WritesLine, written_runs}
 
 -- from before to after the row's runs were written but for the last of them, the first of which has
@@ -37,8 +38,16 @@ RunsWritten-more row before mid after colour run left w e = record {
   whole = append_assoc w.text (written_run colour run) (written_runs (other colour) left) ∙ w.whole;
 }
 
+-- two runs at once, behind no bits
+pub RunsWritten-two : (row : Elements) (before mid after : List Bool) (white black : ℕ) (left : List ℕ) → RunsWritten row before mid White (white ∷ black ∷ left)
+    → after ≡ mid ++ (word_bits 0 0 ++ (written_run White white ++ written_run Black black)) → RunsWritten row before after White left
+unfolding word_bits
+RunsWritten-two row before mid after white black left w e =
+    RunsWritten-more row before (mid ++ written_run White white) after Black black left (RunsWritten-more row before mid (mid ++ written_run White white) White white (black ∷ left) w refl)
+    (e ∙ sym (append_assoc mid (written_run White white) (written_run Black black)))
+
 -- the line, once no run is left
-WritesLine-from : (row : Elements) (before after : List Bool) (colour : Colour) → RunsWritten row before after colour [] → (text : List Bool) × WritesLine row text × (after ≡ before ++ text)
+pub WritesLine-from : (row : Elements) (before after : List Bool) (colour : Colour) → RunsWritten row before after colour [] → (text : List Bool) × WritesLine row text × (after ≡ before ++ text)
 WritesLine-from row before after colour w = (w.text, record { runs = w.runs; are_runs = w.are_runs; text_is = sym (append-nil w.text) ∙ w.whole }, w.after_is)
 
 -- the line, with the last run
@@ -53,8 +62,11 @@ most_elements n (inl e) = omega arith
 most_elements n (inr (inl e)) = omega arith
 most_elements n (inr (inr e)) = omega arith
 
-pub are_runs_between : (changes : List ℕ) (row : Elements) → AreRising 0 changes (length row) → row ≡ painted White 0 changes (length row) → AreRuns (runs_between 0 changes (length row)) row
-are_runs_between changes row rising e = subst (λ (es : Elements). AreRuns (runs_between 0 changes (length row)) es) (sym e) (runs_between_are_runs changes (length row) rising)
+-- no more places rise than there are numbers up to their end
+pub rising_length : (from : ℕ) (ps : List ℕ) (end : ℕ) → AreRising from ps end → from + length ps ≤ end
+unfolding AreRising
+rising_length from [] end r = omega (arith, r)
+rising_length from (p ∷ ps) end r = omega (arith, r.0, rising_length (p + 1) ps end r.1)
 
 -- two more changing places, and the runs up to them
 pub record TwoMore (from : ℕ) (ps : List ℕ) (end : ℕ) : Type 0 where
@@ -62,6 +74,7 @@ pub record TwoMore (from : ℕ) (ps : List ℕ) (end : ℕ) : Type 0 where
   pub second : get_or ps 0 0 ≤ get_or ps 1 0
   pub within : get_or ps 1 0 ≤ end
   pub rising : AreRising (get_or ps 1 0) (take (length ps - 2) (drop 2 ps)) end
+  pub count : length (take (length ps - 2) (drop 2 ps)) + 2 ≡ length ps
   pub runs : runs_between from ps end ≡ (get_or ps 0 0 - from) ∷ (get_or ps 1 0 - get_or ps 0 0) ∷ runs_between (get_or ps 1 0) (take (length ps - 2) (drop 2 ps)) end
 
 all_behind_two : (ps : List ℕ) → take (length ps - 2) (drop 2 ps) ≡ drop 2 ps
@@ -80,6 +93,7 @@ TwoMore-from from (p ∷ q ∷ qs) end some r =
       second = omega arith;
       within = rising_le q qs end rest;
       rising = subst (λ (xs : List ℕ). AreRising q xs end) (sym (all_behind_two (p ∷ q ∷ qs))) rest;
+      count = ap (λ (xs : List ℕ). length xs + 2) (all_behind_two (p ∷ q ∷ qs)) ∙ omega arith;
       runs = ap (λ (xs : List ℕ). (p - from) ∷ (q - p) ∷ runs_between q xs end) (sym (all_behind_two (p ∷ q ∷ qs)));
     }
 

@@ -1,9 +1,12 @@
 //! One-dimensional lines, written.
-ghost use Rattle.std.specs.Prelude.{List, Bool, ◌++◌, ◌≡◌, OnOk, OnErr};
+ghost use Rattle.std.specs.Prelude.{List, Bool, ◌++◌, ◌≡◌, ◌≤◌, ◌+◌, ◌*◌, length, OnOk, OnErr};
+ghost use Rattle.fax_runcodes.specs.Rows.{IsWidth};
+ghost use Rattle.fax_runcodes.specs.Painted.{AreRising, painted};
+ghost use Rattle.fax_runcodes.specs.declared.Colour.TheVariants.{White};
 ghost use Rattle.fax_mhcode.specs.Lines.{WritesLine};
 
-use fax_bits::{BitWriter, NoMemory};
-use fax_runcodes::{Colour, Row, RowRef, write_run};
+use fax_bits::{BitWriter, NoMemory, RoomyWriter};
+use fax_runcodes::{Colour, Row, RowRef, put_run, put_two_runs};
 
 /// Writes the line of a row: its runs, white first, each in its one written form. Only the writer
 /// takes memory. An `Err` changes nothing.
@@ -20,32 +23,35 @@ pub fn write_lent_line_1d(writer: &mut BitWriter, row: &RowRef<'_>) -> Result<()
     ensures ok { OnOk result ((text : List Bool) × WritesLine row.now text × (writer.new ≡ writer.old ++ text)) }
     ensures err { OnErr result (writer.new ≡ writer.old) }
 {
-    let before = writer.bits();
-    let result = write_runs(writer, row);
-    if result.is_err() {
-        writer.cut(before);
-    }
-    result
+    let (changes, width) = (row.changes(), row.width());
+    let mut roomy = writer.take_with_room(4 * (changes.len() + 1))?;
+    put_runs(&mut roomy, changes, width);
+    *writer = roomy.into_writer();
+    Ok(())
 }
 
-/// Writes the runs of a row: each reaches from one place where the colour changes to the next. An
-/// `Err` leaves what was written behind the bits before.
-fn write_runs(writer: &mut BitWriter, row: &RowRef<'_>) -> Result<(), NoMemory>
-    ensures ok { OnOk result ((text : List Bool) × WritesLine row.now text × (writer.new ≡ writer.old ++ text)) }
-    ensures err { OnErr result ((text : List Bool) × (writer.new ≡ writer.old ++ text)) }
+/// Writes the runs of the row of such changing places: each reaches from one of them to the next. No run
+/// takes more than 29 bits. It takes no memory.
+#[inline]
+fn put_runs(writer: &mut RoomyWriter, changes: &[u16], width: u16)
+    requires rising { AreRising 0 changes.now width }
+    requires is_width { IsWidth width }
+    requires room { 29 * (length changes.now + 1) ≤ writer.old.room }
+    ensures { (text : List Bool) × WritesLine (painted White 0 changes.now width) text × (writer.new.bits ≡ writer.old.bits ++ text) }
 {
-    let width = row.width();
-    let mut changes = row.changes();
+    let mut rest = changes;
     let mut from = 0;
-    while let [black, white, rest @ ..] = changes {
-        write_run(writer, Colour::White, *black - from)?;
-        write_run(writer, Colour::Black, *white - *black)?;
-        from = *white;
-        changes = rest;
+    while let [black, white, behind @ ..] = rest {
+        let (black, white) = (*black as u32, *white as u32);
+        put_two_runs(writer, 0, 0, Colour::White, black - from, white - black);
+        from = white;
+        rest = behind;
     }
-    let [black, ..] = changes else {
-        return write_run(writer, Colour::White, width - from);
+    let width = width as u32;
+    let [black, ..] = rest else {
+        put_run(writer, Colour::White, width - from);
+        return;
     };
-    write_run(writer, Colour::White, *black - from)?;
-    write_run(writer, Colour::Black, width - *black)
+    let black = *black as u32;
+    put_two_runs(writer, 0, 0, Colour::White, black - from, width - black);
 }

@@ -302,10 +302,10 @@ module _ {reference row : Elements} {changes above : List ℕ} {before mid after
             (e ∙ ap (λ (t : List Bool). mid ++ t) (sym (append-nil (mode_word (Vertical offset)))));
       }
 
-  pub StepsSoFar-horizontal : {a' : ℕ} {marked half : List Bool} → IsSecond row changes from index a a' → a ≤ b' → ((offset : Offset) → IsAt offset a b → ⊥)
-      → marked ≡ mid ++ mode_word Horizontal → half ≡ marked ++ written_run colour (a - (from - 1)) → after ≡ half ++ written_run (other colour) (a' - a)
+  pub StepsSoFar-horizontal : {a' : ℕ} → IsSecond row changes from index a a' → a ≤ b' → ((offset : Offset) → IsAt offset a b → ⊥)
+      → after ≡ mid ++ (mode_word Horizontal ++ (written_run colour (a - (from - 1)) ++ written_run (other colour) (a' - a)))
       → StepsSoFar reference row changes above before after (a' + 1) colour (index + 2) over
-  StepsSoFar-horizontal {a'} {marked} {half} second right none em eh e =
+  StepsSoFar-horizontal {a'} second right none e =
       let so = at.so_far in
       let lines = so.lines in
       let one : List Bool = written_run colour (a - (from - 1)) in
@@ -327,6 +327,5 @@ module _ {reference row : Elements} {changes above : List ℕ} {before mid after
           λ offset is_at. none offset (rw (at.a1_is, at.b1_is) at is_at),
           rw (at.colour_is, at.a1_is, second.a2_is) refl,
           sym second.a2_is,
-        )
-            (e ∙ ap (λ (t : List Bool). t ++ two) eh ∙ append_assoc marked one two ∙ ap (λ (t : List Bool). t ++ (one ++ two)) em ∙ append_assoc mid (mode_word Horizontal) (one ++ two));
+        ) e;
       }

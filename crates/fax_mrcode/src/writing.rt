@@ -1,5 +1,5 @@
 //! Two-dimensional lines, written.
-ghost use Rattle.std.specs.Prelude.{List, Bool, ℕ, ◌++◌, ◌+◌, ◌≡◌, ◌<◌, ◌≤◌, length, max, slice_index_or, IfSome, IsNone, OnOk, OnErr};
+ghost use Rattle.std.specs.Prelude.{List, Bool, ℕ, ◌++◌, ◌+◌, ◌*◌, ◌^◌, ◌≡◌, ◌<◌, ◌≤◌, length, max, slice_index_or, IfSome, IsNone, OnOk, OnErr};
 ghost use Rattle.fax_bits.specs.Bits.{word_bits};
 ghost use Rattle.fax_runcodes.specs.Painted.{colour_after_changes};
 ghost use Rattle.fax_mrcode.specs.declared.mode.Offset.{Offset};
@@ -11,8 +11,8 @@ mod tests;
 
 use crate::places::place_at;
 use crate::{Mode, Offset};
-use fax_bits::{BitWriter, NoMemory};
-use fax_runcodes::{Colour, Row, RowRef, write_run};
+use fax_bits::{BitWriter, NoMemory, RoomyWriter};
+use fax_runcodes::{Colour, Row, RowRef, put_two_runs};
 
 /// Writes the line of a row against the row before it: pass wherever b2 lies left of a1, else vertical
 /// wherever a1 lies at most three elements from b1, else horizontal (ITU-T T.4, 4.2.1.3.3). An `Err`
@@ -36,25 +36,21 @@ pub fn write_lent_line_2d(
     ensures ok { OnOk result ((text : List Bool) × WritesLine reference.now row.now text × (writer.new ≡ writer.old ++ text)) }
     ensures err { OnErr result (writer.new ≡ writer.old) }
 {
-    let before = writer.bits();
-    let result = write_steps(writer, reference, row);
-    if result.is_err() {
-        writer.cut(before);
-    }
-    result
+    let room = 8 * (usize::from(row.width()) + 1);
+    let mut roomy = writer.take_with_room(room)?;
+    put_steps(&mut roomy, reference, row);
+    *writer = roomy.into_writer();
+    Ok(())
 }
 
-/// Writes the coding steps of a line. The changing places of both rows are walked from left to right,
-/// those of the reference with one step back where a1 lies left of b1. An `Err` leaves what was written
-/// behind the bits before.
-fn write_steps(
-    writer: &mut BitWriter,
-    reference: &RowRef<'_>,
-    row: &RowRef<'_>,
-) -> Result<(), NoMemory>
-    requires { length row.now ≡ length reference.now }
-    ensures ok { OnOk result ((text : List Bool) × WritesLine reference.now row.now text × (writer.new ≡ writer.old ++ text)) }
-    ensures err { OnErr result ((text : List Bool) × (writer.new ≡ writer.old ++ text)) }
+/// Writes the coding steps of a line, each of which takes at most 57 bits and goes on by one element at
+/// least. The changing places of both rows are walked from left to right, those of the reference with one
+/// step back where a1 lies left of b1. It takes no memory.
+#[inline]
+fn put_steps(writer: &mut RoomyWriter, reference: &RowRef<'_>, row: &RowRef<'_>)
+    requires same_width { length row.now ≡ length reference.now }
+    requires room { 57 * (length row.now + 1) ≤ writer.old.room }
+    ensures { (text : List Bool) × WritesLine reference.now row.now text × (writer.new.bits ≡ writer.old.bits ++ text) }
 {
     let width = row.width();
     let (changes, above) = (row.changes(), reference.changes());
@@ -67,10 +63,10 @@ fn write_steps(
         let b1 = place_at(above, index_above, width);
         let b2 = place_at(above, index_above + 1, width);
         if b2 < a1 {
-            put_mode(writer, Mode::Pass)?;
+            put_mode(writer, Mode::Pass);
             from = b2 + 1;
         } else if let Some(offset) = offset_of(a1, b1) {
-            put_mode(writer, Mode::Vertical(offset))?;
+            put_mode(writer, Mode::Vertical(offset));
             index_above = if a1 < b1 && index_above > 0 {
                 index_above - 1
             } else {
@@ -81,14 +77,13 @@ fn write_steps(
             colour = colour.other();
         } else {
             let a2 = place_at(changes, index + 1, width);
-            put_mode(writer, Mode::Horizontal)?;
-            write_run(writer, colour, a1 - from.saturating_sub(1))?;
-            write_run(writer, colour.other(), a2 - a1)?;
+            let (word, bits) = word_of(Mode::Horizontal);
+            let first = (a1 - from.saturating_sub(1)) as u32;
+            put_two_runs(writer, word, bits, colour, first, (a2 - a1) as u32);
             from = a2 + 1;
             index += 2;
         }
     }
-    Ok(())
 }
 
 /// The index of the first changing place, from an index on, that changes to the same colour as the one
@@ -125,14 +120,15 @@ fn offset_of(a1: u16, b1: u16) -> Option<Offset>
     }
 }
 
-/// Writes the word of a mode. An `Err` changes nothing.
+/// Writes the word of a mode. It takes no memory.
 #[inline]
-fn put_mode(writer: &mut BitWriter, mode: Mode) -> Result<(), NoMemory>
-    ensures ok { OnOk result (writer.new ≡ writer.old ++ mode_word mode) }
-    ensures err { OnErr result (writer.new ≡ writer.old) }
+fn put_mode(writer: &mut RoomyWriter, mode: Mode)
+    requires { 7 ≤ writer.old.room }
+    ensures bits { writer.new.bits ≡ writer.old.bits ++ mode_word mode }
+    ensures room { writer.old.room ≤ writer.new.room + 7 }
 {
     let (word, bits) = word_of(mode);
-    writer.put(word, bits)
+    writer.put(word, bits);
 }
 
 /// The word of a mode (ITU-T T.4, table 4/T.4), and how many bits it has.
@@ -140,7 +136,9 @@ fn put_mode(writer: &mut BitWriter, mode: Mode) -> Result<(), NoMemory>
 #[tactic(auto, unfolding(fax_bits::specs::Bits::word_bits, fax_bits::specs::Bits::bit))]
 fn word_of(mode: Mode) -> (u32, u32)
     ensures bits { word_bits result.1 result.0 ≡ mode_word mode }
+    ensures below { result.0 < 2 ^ result.1 }
     ensures few { result.1 ≤ 7 }
+    ensures horizontal { mode ≡ Mode.Horizontal → result.1 ≡ 3 }
 {
     match mode {
         Mode::Pass => (0b0001, 4),

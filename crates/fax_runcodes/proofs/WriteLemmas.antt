@@ -1,17 +1,13 @@
 -- Runs as they are written.
-use Rattle.std.proofs.Common.{◌≡◌, ℕ, zero, suc, ◌+◌, ◌-◌, ◌*◌, ◌/◌, ◌%◌, ◌^◌, ◌<◌, ◌≤◌, ◌==◌, nat_lt, Bool, true, false, ◌&&◌, List, [], ◌∷◌, ◌++◌, All, Contains, filter, refl, sym, ◌∙◌, ap, ap₂, arith, inl, inr, bit_or, append-nil}
+use Rattle.std.proofs.Common.{◌≡◌, ℕ, zero, suc, ◌+◌, ◌-◌, ◌*◌, ◌/◌, ◌%◌, ◌^◌, ◌<◌, ◌==◌, nat_lt, Bool, true, false, ◌&&◌, List, [], ◌∷◌, ◌++◌, All, Contains, filter, refl, sym, ◌∙◌, ap, ap₂, arith, inl, inr, bit_or, append-nil}
 use Rattle.std.proofs.lemmas.Bool.{and_parts, cases_lt, lt-ltb, le-ltb, eqb-true}
 use Rattle.std.proofs.lemmas.List.Elements.{All-nil, All-cons, All-head, All-contains_itself, All-same, All-filter, filter_passes}
 use Rattle.std.proofs.lemmas.Nat.{shl_below, pow_below, or_shifted}
 use Rattle.std.proofs.Math.Nat.{mod-eq_of_lt}
-use Rattle.fax_bits.specs.Bits.{word_bits}
-use Rattle.fax_bits.proofs.WritingLemmas.{word_bits_sum}
 use Rattle.fax_runcodes.specs.declared.Colour.{Colour}
 use Rattle.fax_runcodes.specs.declared.Colour.TheVariants.{White, Black}
-use Rattle.fax_runcodes.specs.declared.tables.written.WrittenWord.{WrittenWord}
 use Rattle.fax_runcodes.specs.CodeTables.{Word, terminating_words, make_up_words, white_terminating, white_make_up, black_terminating, black_make_up, common_make_up}
 use Rattle.fax_runcodes.specs.Spelling.{SpellsRun, text_of, run_of, word_for, written_run}
-use Rattle.fax_runcodes.specs.Entries.{IsWrittenAs}
 use Rattle.fax_runcodes.proofs.RunLaws.{run_of-cons}
 
 -- no make-up word stands for a run of none
@@ -33,16 +29,21 @@ written_run-two colour run = elim (cases_lt run 64) [
       rw test refl
 ]
 
--- two words of at most 13 bits as one number
-pub two_words : (u v : List Bool) (a b : WrittenWord) → IsWrittenAs u a → IsWrittenAs v b → word_bits (a.bits + b.bits) (bit_or (a.word * 2 ^ b.bits % 4294967296) b.word) ≡ u ++ v
-two_words u v a b p q =
-    let few_a : a.bits ≤ 13 = p.few in
-    let few_b : b.bits ≤ 13 = q.few in
-    let small : a.word * 2 ^ b.bits < 2 ^ (a.bits + b.bits) = shl_below a.word a.bits b.bits p.below in
-    let wide : 2 ^ (a.bits + b.bits) < 2 ^ 32 = pow_below (a.bits + b.bits) 32 (omega arith) in
-    let whole : a.word * 2 ^ b.bits % 4294967296 ≡ a.word * 2 ^ b.bits = mod-eq_of_lt (omega arith) in
-    let sum : bit_or (a.word * 2 ^ b.bits % 4294967296) b.word ≡ a.word * 2 ^ b.bits + b.word = ap (λ m. bit_or m b.word) whole ∙ or_shifted a.word b.bits b.word q.below in
-    ap (word_bits (a.bits + b.bits)) sum ∙ word_bits_sum a.bits b.bits a.word b.word q.below ∙ ap₂ (λ (s t : List Bool). s ++ t) p.text_is q.text_is
+-- below 64 a run is written as its terminating word
+pub written_run-short : (colour : Colour) (run : ℕ) → run < 64 → written_run colour run ≡ word_for (terminating_words colour) run
+unfolding written_run
+written_run-short colour run short =
+    let test : nat_lt run 64 ≡ true = lt-ltb run 64 short in
+    let same : run % 64 ≡ run = omega arith in
+    rw (test, same) refl
+
+-- two words as one number
+pub then_sum : (a p b q : ℕ) → p + q < 32 → a < 2 ^ p → b < 2 ^ q → bit_or (a * 2 ^ q % 4294967296) b ≡ a * 2 ^ q + b
+then_sum a p b q few la lb =
+    let small : a * 2 ^ q < 2 ^ (p + q) = shl_below a p q la in
+    let wide : 2 ^ (p + q) < 2 ^ 32 = pow_below (p + q) 32 few in
+    let whole : a * 2 ^ q % 4294967296 ≡ a * 2 ^ q = mod-eq_of_lt (omega arith) in
+    ap (λ m. bit_or m b) whole ∙ or_shifted a q b lb
 
 -- ---- what is written spells the run
 abbrev is_single : List Word → Bool

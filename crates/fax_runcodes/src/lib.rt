@@ -7,12 +7,14 @@ mod pair;
 mod row;
 mod run;
 mod tables;
+mod writing;
 
 pub use fault::{RowFault, RunFault};
 pub use pair::pair_at;
 pub use row::{Row, RowBuilder, RowRef, Runs};
 pub use run::{LONGEST_WRITTEN_RUN, read_run, word_at, write_run};
 pub use tables::{CodeWord, WordPair};
+pub use writing::{put_run, put_two_runs};
 
 /// The colour of an element.
 #[derive(Clone, Copy, PartialEq, Eq, Debug)]

@@ -10,8 +10,8 @@ ghost use Rattle.fax_runcodes.specs.Spelling.{SpellsRun, written_run};
 
 use crate::Colour;
 use crate::fault::RunFault;
-use crate::tables::written::{make_up_word, terminating_word};
 use crate::tables::{CodeWord, black, white};
+use crate::writing::run_word;
 use fax_bits::{BitReader, BitWriter, NoMemory, behind};
 
 #[cfg(test)]
@@ -55,10 +55,8 @@ pub fn write_run(writer: &mut BitWriter, colour: Colour, n: u16) -> Result<(), N
     ensures ok { OnOk result (writer.new ≡ writer.old ++ written_run colour n) }
     ensures err { OnErr result (writer.new ≡ writer.old) }
 {
-    let make_up = make_up_word(colour, n / 64);
-    let last = terminating_word(colour, n % 64);
-    let word = (u32::from(make_up.word) << u32::from(last.bits)) | u32::from(last.word);
-    writer.put(word, u32::from(make_up.bits + last.bits))
+    let word = run_word(colour, u32::from(n));
+    writer.put(word.word, word.bits)
 }
 
 /// The word of a colour that begins 56 bits, which are those of a number, the most significant first.

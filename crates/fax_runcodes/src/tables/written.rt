@@ -10,8 +10,40 @@ use crate::Colour;
 /// significant.
 #[derive(Clone, Copy, PartialEq, Eq, Debug)]
 pub(crate) struct WrittenWord {
-    pub word: u16,
-    pub bits: u16,
+    pub word: u32,
+    pub bits: u32,
+}
+
+impl WrittenWord {
+    ghost use Rattle.std.specs.Prelude.{◌≡◌, ◌+◌, ◌<◌, ◌≤◌, ◌^◌, ◌++◌};
+    ghost use Rattle.fax_bits.specs.Bits.{word_bits};
+
+    /// The word where it stands in a table. (Read part by part, it is not taken apart again.)
+    #[inline]
+    fn read(&self) -> WrittenWord
+        ensures { result ≡ self.now }
+    {
+        WrittenWord {
+            word: self.word,
+            bits: self.bits,
+        }
+    }
+
+    /// The bits of this word and then those of another.
+    #[inline]
+    pub(crate) fn then(self, next: WrittenWord) -> WrittenWord
+        requires below { self.word < 2 ^ self.bits }
+        requires next_below { next.word < 2 ^ next.bits }
+        requires few { self.bits + next.bits < 32 }
+        ensures text { word_bits result.bits result.word ≡ word_bits self.bits self.word ++ word_bits next.bits next.word }
+        ensures bits { result.bits ≡ self.bits + next.bits }
+        ensures below { result.word < 2 ^ result.bits }
+    {
+        WrittenWord {
+            word: (self.word << next.bits) | next.word,
+            bits: self.bits + next.bits,
+        }
+    }
 }
 
 /// A word and how many bits it has.
@@ -29,7 +61,7 @@ const NO_BITS: WrittenWord = written!(0, 0);
 
 /// The make-up word of so many times 64 elements of a colour; no bits for none.
 #[inline]
-pub(crate) fn make_up_word(colour: Colour, times: u16) -> WrittenWord
+pub(crate) fn make_up_word(colour: Colour, times: u32) -> WrittenWord
     requires { times ≤ 40 }
     ensures { IsWrittenAs (word_for (make_up_words colour) (64 * times)) result }
 {
@@ -41,7 +73,7 @@ pub(crate) fn make_up_word(colour: Colour, times: u16) -> WrittenWord
 
 /// The terminating word of a run of a colour.
 #[inline]
-pub(crate) fn terminating_word(colour: Colour, run: u16) -> WrittenWord
+pub(crate) fn terminating_word(colour: Colour, run: u32) -> WrittenWord
     requires { run < 64 }
     ensures { IsWrittenAs (word_for (terminating_words colour) run) result }
 {
@@ -52,35 +84,35 @@ pub(crate) fn terminating_word(colour: Colour, run: u16) -> WrittenWord
 }
 
 #[inline]
-fn white_terminating(run: u16) -> WrittenWord
+fn white_terminating(run: u32) -> WrittenWord
     requires { run < 64 }
     ensures { result ≡ slice_index_or WHITE_TERMINATING run (record { word = 0; bits = 0 }) }
 {
-    WHITE_TERMINATING[usize::from(run)]
+    WHITE_TERMINATING[run as usize].read()
 }
 
 #[inline]
-fn black_terminating(run: u16) -> WrittenWord
+fn black_terminating(run: u32) -> WrittenWord
     requires { run < 64 }
     ensures { result ≡ slice_index_or BLACK_TERMINATING run (record { word = 0; bits = 0 }) }
 {
-    BLACK_TERMINATING[usize::from(run)]
+    BLACK_TERMINATING[run as usize].read()
 }
 
 #[inline]
-fn white_make_up(times: u16) -> WrittenWord
+fn white_make_up(times: u32) -> WrittenWord
     requires { times < 41 }
     ensures { result ≡ slice_index_or WHITE_MAKE_UP times (record { word = 0; bits = 0 }) }
 {
-    WHITE_MAKE_UP[usize::from(times)]
+    WHITE_MAKE_UP[times as usize].read()
 }
 
 #[inline]
-fn black_make_up(times: u16) -> WrittenWord
+fn black_make_up(times: u32) -> WrittenWord
     requires { times < 41 }
     ensures { result ≡ slice_index_or BLACK_MAKE_UP times (record { word = 0; bits = 0 }) }
 {
-    BLACK_MAKE_UP[usize::from(times)]
+    BLACK_MAKE_UP[times as usize].read()
 }
 
 /// The terminating words of white runs (ITU-T T.4, table 2), by the run.

@@ -1,22 +1,24 @@
-use Rattle.std.proofs.Common.{◌≡◌, ℕ, ◌+◌, ◌-◌, ◌<◌, ◌≤◌, ◌⊎◌, inl, inr, get_or, arith, refl, ap, ◌∙◌, ◌++◌}
-use Rattle.fax_runcodes.specs.Spelling.{written_run}
+use Rattle.std.proofs.Common.{◌≡◌, ℕ, ◌+◌, ◌-◌, ◌<◌, ◌≤◌, ◌⊎◌, inl, inr, get_or, arith, refl}
 use Rattle.fax_mhcode.proofs.WriteLemmas.{most_elements}
 use Rattle.fax_mrcode.proofs.WriteLemmas.{AreLines-from, IsAhead, IsAhead-from, IsSecond-from, StepsSoFar-none, StepsSoFar-pass, StepsSoFar-vertical, StepsSoFar-horizontal, StepsSoFar-done}
-use Rattle.fax_mrcode.proofs.writing.write_steps.Goals as goal
-use Rattle.fax_mrcode.proofs.writing.write_steps.Goals.{After-place_at-b1, then-a1-b1+then-index_above-gt0, else-a1-b1, else-a1-b1-via-then-a1-b1+else-index_above-gt0, else-a1-b1-via-else-a1-b1}
+use Rattle.fax_mrcode.proofs.writing.put_steps.Goals as goal
+use Rattle.fax_mrcode.proofs.writing.put_steps.Goals.{After-place_at-b1, then-a1-b1+then-index_above-gt0, else-a1-b1, else-a1-b1-via-then-a1-b1+else-index_above-gt0, else-a1-b1-via-else-a1-b1}
 
 pub loop-from-init : goal.loop-from-init
 loop-from-init c =
     let most : c.width-width.result ≤ 2432 = most_elements c.width-width.result c.width-width.ensures.is_width in
-    StepsSoFar-none (AreLines-from c.requires (omega (arith, c.width-width.ensures.len))
-    c.changes-changes.ensures.rising c.changes-changes.ensures.painted c.changes-above.ensures.rising c.changes-above.ensures.painted)
+    record {
+      so_far = StepsSoFar-none (AreLines-from c.requires.same_width (omega (arith, c.width-width.ensures.len))
+          c.changes-changes.ensures.rising c.changes-changes.ensures.painted c.changes-above.ensures.rising c.changes-above.ensures.painted);
+      room = omega (arith, c.requires.room, c.width-width.ensures.len);
+    }
 
 -- ---- the places of a step
 
 ahead : (c : After-place_at-b1) (b' : ℕ) → b' ≡ get_or c.changes-above.result.now (c.first_from-index_above.result + 1) c.width-width.result
-    → IsAhead c.args.reference.now c.args.row.now c.changes-changes.result.now c.changes-above.result.now c.args.writer.now c.loop-from.writer
+    → IsAhead c.args.reference.now c.args.row.now c.changes-changes.result.now c.changes-above.result.now c.args.writer.now.bits c.loop-from.writer.bits
     c.loop-from.from c.loop-from.colour c.loop-from.index c.first_from-index_above.result c.place_at-a1.result c.place_at-b1.result b'
-ahead c b' e = IsAhead-from c.loop-from.invariant c.width-width.ensures.len c.loop-from-test.true
+ahead c b' e = IsAhead-from c.loop-from.invariant.so_far c.width-width.ensures.len c.loop-from-test.true
     c.first_from-index_above.ensures.near c.first_from-index_above.ensures.turns c.first_from-index_above.ensures.passed c.first_from-index_above.ensures.found
     c.place_at-a1.ensures c.place_at-b1.ensures e
 
@@ -30,7 +32,10 @@ loop-from-smaller-then-b2-a1 c =
 pub loop-from-preserved-then-b2-a1 : goal.loop-from-preserved-then-b2-a1
 loop-from-preserved-then-b2-a1 c =
     let at = ahead (goal.at.loop-from-preserved-then-b2-a1 c).After-place_at-b1 c.place_at-b2.result c.place_at-b2.ensures in
-    StepsSoFar-pass at c.if-b2-a1.true c.in_ok-put_mode.ensures.ok
+    record {
+      so_far = StepsSoFar-pass at c.if-b2-a1.true c.put_mode.ensures.bits;
+      room = omega (arith, c.loop-from.invariant.room, c.put_mode.ensures.room, at.b1_low, at.b2_low, at.b2_high, c.width-width.ensures.len);
+    }
 
 -- ---- vertical
 
@@ -50,25 +55,28 @@ loop-from-preserved-in-Some c =
       | then-a1-b1+then-index_above-gt0 w ↦ inl (w.index_above-is, w.if-a1-b1.true, w.if-index_above-gt0.true)
       | else-a1-b1 w ↦ elim w.else-a1-b1.branch [ else-a1-b1-via-then-a1-b1+else-index_above-gt0 v ↦ inr (w.index_above-is, inl (omega arith)) | else-a1-b1-via-else-a1-b1 v ↦ inr (w.index_above-is, inr v.if-a1-b1.false) ]
     ] in
-    rw c.other-colour.ensures (StepsSoFar-vertical at c.in-Some.offset c.if-b2-a1.false c.in-Some.ensures.some moved c.in_ok-put_mode-2.ensures.ok)
+    record {
+      so_far = rw c.other-colour.ensures (StepsSoFar-vertical at c.in-Some.offset c.if-b2-a1.false c.in-Some.ensures.some moved c.put_mode-in-Some.ensures.bits);
+      room = omega (arith, c.loop-from.invariant.room, c.put_mode-in-Some.ensures.room, at.a1_low, at.a1_high, c.width-width.ensures.len);
+    }
 
 -- ---- horizontal
 
-pub write_run-requires : goal.write_run-requires
-write_run-requires c =
-    let at = ahead (goal.at.write_run-requires c).After-place_at-b1 c.place_at-b2.result c.place_at-b2.ensures in
+pub put_two_runs-requires-clause-first : goal.put_two_runs-requires-clause-first
+put_two_runs-requires-clause-first c =
+    let at = ahead (goal.at.put_two_runs-requires-clause-first c).After-place_at-b1 c.place_at-b2.result c.place_at-b2.ensures in
     omega (arith, at.a1_high, at.so_far.lines.few)
+
+pub put_two_runs-requires-clause-second : goal.put_two_runs-requires-clause-second
+put_two_runs-requires-clause-second c =
+    let at = ahead (goal.at.put_two_runs-requires-clause-second c).After-place_at-b1 c.place_at-b2.result c.place_at-b2.ensures in
+    let second = IsSecond-from at c.width-width.ensures.len c.place_at-a2.ensures in
+    omega (arith, second.high, at.so_far.lines.few)
 
 pub overflow_sub-a2 : goal.overflow_sub-a2
 overflow_sub-a2 c =
     let at = ahead (goal.at.overflow_sub-a2 c).After-place_at-b1 c.place_at-b2.result c.place_at-b2.ensures in
     (IsSecond-from at c.width-width.ensures.len c.place_at-a2.ensures).low
-
-pub write_run-requires-in_default : goal.write_run-requires-in_default
-write_run-requires-in_default c =
-    let at = ahead (goal.at.write_run-requires-in_default c).After-place_at-b1 c.place_at-b2.result c.place_at-b2.ensures in
-    let second = IsSecond-from at c.width-width.ensures.len c.place_at-a2.ensures in
-    omega (arith, second.high, at.so_far.lines.few)
 
 pub overflow_add-from-in_default : goal.overflow_add-from-in_default
 overflow_add-from-in_default c =
@@ -85,9 +93,11 @@ loop-from-smaller c =
 pub loop-from-preserved : goal.loop-from-preserved
 loop-from-preserved c =
     let at = ahead (goal.at.loop-from-preserved c).After-place_at-b1 c.place_at-b2.result c.place_at-b2.ensures in
-    StepsSoFar-horizontal at {half = c.write_run.new.writer} (IsSecond-from at c.width-width.ensures.len c.place_at-a2.ensures) c.if-b2-a1.false (c.in_default.ensures.none refl) c.in_ok-put_mode-3.ensures.ok
-    (c.in_ok-write_run.ensures.ok ∙ ap (λ n. c.put_mode-in_default.new.writer ++ written_run c.loop-from.colour (c.place_at-a1.result - n)) c.saturating_sub.ensures)
-    (c.in_ok-write_run-2.ensures.ok ∙ ap (λ colour. c.write_run.new.writer ++ written_run colour (c.place_at-a2.result - c.place_at-a1.result)) c.other.ensures)
+    let second = IsSecond-from at c.width-width.ensures.len c.place_at-a2.ensures in
+    record {
+      so_far = StepsSoFar-horizontal at second c.if-b2-a1.false (c.in_default.ensures.none refl) (rw (c.word_of-word.ensures.bits, c.saturating_sub.ensures) at c.put_two_runs.ensures.bits);
+      room = omega (arith, c.loop-from.invariant.room, c.put_two_runs.ensures.room, at.a1_low, second.low, second.high, c.width-width.ensures.len);
+    }
 
-pub returns-clause-ok : goal.returns-clause-ok
-returns-clause-ok c = StepsSoFar-done c.loop-from.invariant (omega (arith, c.loop-from-test.false, c.width-width.ensures.len))
+pub returns : goal.returns
+returns c = StepsSoFar-done c.loop-from.invariant.so_far (omega (arith, c.loop-from-test.false, c.width-width.ensures.len))
