@@ -6,5 +6,6 @@ pub mod LineLaws
 pub mod ModeTable
 pub mod PlaceLemmas
 pub mod StepLemmas
+pub mod VerticalLemmas
 pub mod WriteLemmas
 pub mod WrittenLaws

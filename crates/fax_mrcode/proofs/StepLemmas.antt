@@ -19,7 +19,7 @@ use Rattle.fax_mrcode.specs.Modes.{mode_word, IsAt}
 use Rattle.fax_mrcode.specs.Places.{a1, a2, b1, b2, run_start}
 use Rattle.fax_mrcode.specs.Lines.{Step, Steps, SpellsLine}
 use Rattle.fax_mrcode.specs.LineFaults.{FailsLine, Stops, StopsAtRun}
-use Rattle.fax_mrcode.specs.Starts.{IsCursor, IsIndexOfB1, IsStart, Completes, TakesStep}
+use Rattle.fax_mrcode.specs.Starts.{IsCursor, IsIndexOfB1, IsStart, Completes, TakesStep, StepsSoFar}
 use Rattle.fax_mrcode.proofs.PlaceLemmas.{IsStretch, IsA1, IsA2, a1_is, a2_is}
 use Rattle.fax_mrcode.proofs.CursorLemmas.{other_apart, IsCursor-first, IsCursor-on, IsCursor-second, place_le, b1_is, b2_is, b2_right}
 
@@ -258,13 +258,6 @@ StopsAtRun-other width width' colour colour' start start' {P} {Q} bits fault ew 
       weaker NoMemory t = t
 
 -- ---- the steps so far
-
--- from old to new steps were passed that each row has which the line may become
-pub record StepsSoFar (reference : Elements) (width : ℕ) (old new : Place) (line : Elements) (start : Start) : Type 0 where
-  pub modes : List Mode
-  pub text : List Bool
-  pub passes : Passes old new text
-  pub steps : (row : Elements) → Completes width line start.from start.colour row → Steps reference row 0 modes text start.from
 
 pub StepsSoFar-none : (reference : Elements) (width : ℕ) (p : Place) → StepsSoFar reference width p p [] (record { from = 0; colour = White; index = 0 })
 StepsSoFar-none reference width p = record { modes = []; text = []; passes = Passes-none p; steps = λ row c. (refl, refl) }

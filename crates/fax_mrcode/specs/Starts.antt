@@ -1,5 +1,6 @@
 -- What is known of a line that is being read, between two of its steps. Not part of any public clause.
 use Rattle.std.specs.Prelude.{◌≡◌, ℕ, ◌+◌, ◌<◌, ◌≤◌, Bool, List, length, slice_index}
+use Rattle.fax_bits.specs.Reading.{Place, Passes}
 use Rattle.fax_runcodes.specs.declared.Colour.{Colour}
 use Rattle.fax_runcodes.specs.declared.Colour.TheVariants.{White}
 use Rattle.fax_runcodes.specs.Rows.{Elements, colour_at, colour_before}
@@ -7,7 +8,7 @@ use Rattle.fax_runcodes.specs.Painted.{colour_after_changes}
 use Rattle.fax_mrcode.specs.declared.mode.Mode.{Mode}
 use Rattle.fax_mrcode.specs.declared.reading.Start.{Start}
 use Rattle.fax_mrcode.specs.Places.{run_start}
-use Rattle.fax_mrcode.specs.Lines.{Step}
+use Rattle.fax_mrcode.specs.Lines.{Step, Steps}
 
 -- A changing place of the reference changes its colour from this one exactly where it has an index
 -- like this one. Those before the index lie no further right than a0 (`from` is a0 + 1).
@@ -42,3 +43,10 @@ pub record TakesStep (reference : Elements) (width : ℕ) (mode : Mode) (text : 
   pub right : start.from ≤ place
   pub completes : (row : Elements) → Completes width after next.from next.colour row → Completes width before start.from start.colour row
   pub step : (row : Elements) → Completes width after next.from next.colour row → Step reference row start.from mode text place
+
+-- From old to new steps were passed that each row has which the line may become.
+pub record StepsSoFar (reference : Elements) (width : ℕ) (old new : Place) (line : Elements) (start : Start) : Type 0 where
+  pub modes : List Mode
+  pub text : List Bool
+  pub passes : Passes old new text
+  pub steps : (row : Elements) → Completes width line start.from start.colour row → Steps reference row 0 modes text start.from

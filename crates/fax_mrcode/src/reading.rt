@@ -1,6 +1,6 @@
 //! Two-dimensional lines, read (ITU-T T.4, 4.2).
 ghost use Rattle.std.specs.Prelude.{List, Bool, ℕ, Ok, Err, ◌⊎◌, ◌++◌, ◌+◌, ◌<◌, ◌≤◌, ◌≡◌, ◌≢◌, [], length, replicate, IfOk, IfErr, OnOk, OnErr, IsOk, IsTrue};
-ghost use Rattle.fax_bits.specs.Reading.{Passes};
+ghost use Rattle.fax_bits.specs.Reading.{Place, Passes};
 ghost use Rattle.fax_runcodes.specs.Rows.{Elements};
 ghost use Rattle.fax_runcodes.specs.Painted.{painted, AreRising};
 ghost use Rattle.fax_runcodes.specs.Spelling.{SpellsRun};
@@ -10,10 +10,11 @@ ghost use Rattle.fax_mrcode.specs.declared.mode.Mode.{Mode};
 ghost use Rattle.fax_mrcode.specs.Modes.{mode_word};
 ghost use Rattle.fax_mrcode.specs.Lines.{SpellsLine};
 ghost use Rattle.fax_mrcode.specs.LineFaults.{FailsLine, Stops, StopsIn, StopsAtRun};
-ghost use Rattle.fax_mrcode.specs.Starts.{IsCursor, IsIndexOfB1, IsStart, Completes, TakesStep};
+ghost use Rattle.fax_mrcode.specs.Starts.{IsCursor, IsIndexOfB1, IsStart, Completes, TakesStep, StepsSoFar};
 
 #[cfg(test)]
 mod tests;
+mod verticals;
 mod words;
 
 use crate::places::place_at;
@@ -22,6 +23,7 @@ use fax_bits::BitReader;
 use fax_mhcode::LineFault;
 use fax_runcodes::{Colour, Row, RowBuilder, RowRef, read_run};
 use std::alloc::Global;
+use verticals::{behind, vertical_word};
 use words::read_mode;
 
 /// Reads a two-dimensional line against the row before it. An `Err` leaves the reader where it stood.
@@ -111,9 +113,67 @@ fn read_steps(
         index: 0,
     };
     while start.from <= width {
-        start = read_step(line, reader, changes, width, start)?;
+        start = read_vertical_steps(line, reader, changes, width, start);
+        if start.from <= width {
+            start = read_step(line, reader, changes, width, start)?;
+        }
     }
     Ok(())
+}
+
+/// Reads the steps in vertical mode that begin what is left, as far as one window reaches, and answers
+/// where the next one starts. It is the fast way: what it leaves is read step by step.
+#[inline]
+fn read_vertical_steps(
+    line: &mut RowBuilder,
+    reader: &mut BitReader,
+    changes: &[u16],
+    width: u16,
+    start: Start,
+) -> Start
+    requires start { IsStart changes.now width line.old start }
+    requires rising { AreRising 0 changes.now width }
+    requires few { width ≤ 2432 }
+    ensures next { IsStart changes.now width line.new result }
+    ensures right { start.from ≤ result.from }
+    ensures so_far { (old : Place) → StepsSoFar (painted Colour.White 0 changes.now width) width old reader.old line.old start
+        → StepsSoFar (painted Colour.White 0 changes.now width) width old reader.new line.new result }
+{
+    let known = reader.known();
+    let mut left = known;
+    let mut window = reader.window();
+    let (mut from, mut colour, mut index) = (start.from, start.colour, start.index);
+    while from <= width {
+        let word = vertical_word(window);
+        let bits = u32::from(word.bits);
+        if bits == 0 || bits > left {
+            break;
+        }
+        let index_at = Start {
+            from,
+            colour,
+            index,
+        };
+        let at_b1 = Start {
+            from,
+            colour,
+            index: index_of_b1(changes, index_at),
+        };
+        let Ok(next) = vertical(line, changes, width, at_b1, word.offset) else {
+            break;
+        };
+        from = next.from;
+        colour = next.colour;
+        index = next.index;
+        window = behind(window, bits);
+        left -= bits;
+    }
+    reader.skip(known - left);
+    Start {
+        from,
+        colour,
+        index,
+    }
 }
 
 /// Reads one step, and answers where the next one starts. After an `Err` the reader stands anywhere,
@@ -195,6 +255,7 @@ fn vertical(
     ensures ok { IfOk result (λ next. TakesStep (painted Colour.White 0 changes.now width) width (Mode.Vertical offset) [] line.old start line.new next) }
     ensures fault { IfErr result (λ fault. (row : Elements) (bits : List Bool) → Completes width line.old start.from start.colour row
         → StopsIn (painted Colour.White 0 changes.now width) row (Mode.Vertical offset) start.from bits fault) }
+    ensures err { OnErr result (line.new ≡ line.old) }
 {
     let b1 = place_at(changes, start.index, width);
     let past_a1 = b1 + offset.right_of_left3();
@@ -234,39 +295,43 @@ fn horizontal(
     ensures fault { IfErr result (λ fault. (row : Elements) → Completes width line.old start.from start.colour row
         → StopsIn (painted Colour.White 0 changes.now width) row Mode.Horizontal start.from reader.old.left fault) }
 {
-    read_stretch(line, reader, width, start.colour, start.from == 0)?;
-    let at_width = line.len() == width;
-    read_stretch(line, reader, width, start.colour.other(), at_width)?;
+    let mut ahead = reader.copy();
+    let a0 = line.len();
+    let first = read_stretch(&mut ahead, a0, width, start.colour, start.from == 0)?;
+    let a1 = a0 + first;
+    let at_width = a1 == width;
+    let second = read_stretch(&mut ahead, a1, width, start.colour.other(), at_width)?;
+    line.paint(start.colour, first);
+    line.paint(start.colour.other(), second);
+    *reader = ahead;
     Ok(Start {
-        from: line.len() + 1,
+        from: a1 + second + 1,
         ..start
     })
 }
 
-/// Reads a run of horizontal mode and paints it. After an `Err` the reader stands anywhere.
+/// Reads a run of horizontal mode, from a place on. After an `Err` the reader stands anywhere.
 #[inline]
 fn read_stretch(
-    line: &mut RowBuilder,
     reader: &mut BitReader,
+    place: u16,
     width: u16,
     colour: Colour,
     may_be_empty: bool,
-) -> Result<(), LineFault>
-    requires within { length line.old ≤ width }
-    requires few { width ≤ 2432 }
-    ensures ok { OnOk result ((run : ℕ) × (text : List Bool) × SpellsRun colour text run × Passes reader.old reader.new text × (line.new ≡ line.old ++ replicate run colour)
-        × (length line.old + run ≤ width) × ((0 < run) ⊎ IsTrue may_be_empty)) }
-    ensures fault { IfErr result (λ fault. StopsAtRun width colour (length line.old) (IsTrue may_be_empty) reader.old.left fault) }
+) -> Result<u16, LineFault>
+    requires within { place ≤ width }
+    ensures ok { IfOk result (λ run. (text : List Bool) × SpellsRun colour text run × Passes reader.old reader.new text
+        × (place + run ≤ width) × ((0 < run) ⊎ IsTrue may_be_empty)) }
+    ensures fault { IfErr result (λ fault. StopsAtRun width colour place (IsTrue may_be_empty) reader.old.left fault) }
 {
     let run = read_run(reader, colour)?;
     if run == 0 && !may_be_empty {
         return Err(LineFault::BadPlace);
     }
-    if run > width - line.len() {
+    if run > width - place {
         return Err(LineFault::PastWidth);
     }
-    line.paint(colour, run);
-    Ok(())
+    Ok(run)
 }
 
 /// The index of b1 in the changing places of the reference, or past their end where b1 is the width.

@@ -1,8 +1,7 @@
 use Rattle.std.proofs.Common.{◌-◌, ◌+◌}
 use Rattle.fax_runcodes.specs.declared.Colour.TheVariants.{White}
 use Rattle.fax_runcodes.specs.Painted.{painted}
-use Rattle.fax_mrcode.specs.Starts.{IsStart}
-use Rattle.fax_mrcode.proofs.StepLemmas.{StepsSoFar}
+use Rattle.fax_mrcode.specs.Starts.{IsStart, StepsSoFar}
 use Rattle.fax_mrcode.proofs.reading.read_steps.Given as goal
 
 abbrev pub invariant-loop-start : goal.invariant-loop-start

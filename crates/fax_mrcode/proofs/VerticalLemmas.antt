@@ -1,0 +1,156 @@
+-- Steps in vertical mode, read from one window: the table of their words, and what a window shows.
+use Rattle.std.proofs.Common.{◌≡◌, ℕ, zero, suc, ◌+◌, ◌-◌, ◌*◌, ◌/◌, ◌^◌, ◌<◌, ◌≤◌, ◌==◌, Bool, true, false, ◌&&◌, ◌||◌, List, [], ◌∷◌, ◌++◌, length, slice_index_or, take, drop, take_at, length-drop, replicate, min, refl, sym, ◌∙◌, ap, ap₂, arith, append-nil, append_assoc, add-zero, add-suc, suc-add, inl, inr, ◌⊎◌}
+use Rattle.std.proofs.lemmas.Bool.{and_parts, eqb-true}
+use Rattle.std.proofs.lemmas.List.{drop-drop, take-append-drop, drop_at, drop-append-le, take-append-le, length-take-le, take-take, drop-take}
+use Rattle.fax_bits.specs.Bits.{word_bits, bit}
+use Rattle.fax_bits.specs.Reading.{Place, Passes, padded}
+use Rattle.fax_runcodes.proofs.Fronts.{begins, begins_rest}
+use Rattle.fax_mrcode.specs.declared.mode.Mode.TheVariants.{Vertical}
+use Rattle.fax_mrcode.specs.declared.reading.verticals.VerticalWord.{VerticalWord}
+use Rattle.fax_mrcode.specs.declared.reading.verticals.TheConstants.{VERTICAL_WORDS, NOT_VERTICAL}
+use Rattle.fax_mrcode.specs.Modes.{mode_word}
+use Rattle.fax_runcodes.specs.Rows.{Elements}
+use Rattle.fax_mrcode.specs.declared.reading.Start.{Start}
+use Rattle.fax_mrcode.specs.Starts.{StepsSoFar}
+use Rattle.fax_mrcode.proofs.ModeTable.{mode_size}
+use Rattle.fax_bits.proofs.WindowLemmas.{padded-known}
+use Rattle.fax_bits.proofs.BitsLemmas.{word_bits-add, word_bits-shl, length-word_bits}
+
+-- a window shows so many bits of these, whatever stands behind them
+pub record Shows (window known : ℕ) (bits : List Bool) : Type 0 where
+  pub rest : List Bool
+  pub front : word_bits 56 window ≡ take known bits ++ rest
+  pub there : known ≤ length bits
+
+-- the place n bits further on
+abbrev pub behind_place : Place → ℕ → Place
+behind_place p n = record { passed = p.passed + n; left = drop n p.left }
+
+-- ---- the table
+-- an entry with bits has the word of its offset, which begins these bits
+abbrev pub is_right : List Bool → VerticalWord → Bool
+is_right text entry = (entry.bits == 0) || ((length (mode_word (Vertical entry.offset)) == entry.bits) && begins (mode_word (Vertical entry.offset)) text)
+
+-- each entry from this index on says what begins the 7 bits of its index
+abbrev pub are_right : ℕ → List VerticalWord → Bool
+are_right index [] = true
+are_right index (e ∷ es) = is_right (word_bits 7 index) e && are_right (suc index) es
+
+-- ---- the rule, computed
+pub vertical_words_are_right : are_right 0 VERTICAL_WORDS ≡ true
+unfolding word_bits bit
+vertical_words_are_right = refl
+
+are_right_at : (index : ℕ) (es : List VerticalWord) → are_right index es ≡ true → (i : ℕ) → i < length es → is_right (word_bits 7 (index + i)) (slice_index_or es i NOT_VERTICAL) ≡ true
+are_right_at index [] h i lt = absurd (omega arith)
+are_right_at index (e ∷ es) h zero lt = rw add-zero (and_parts (is_right (word_bits 7 index) e) (are_right (suc index) es) h).0
+are_right_at index (e ∷ es) h (suc i) lt =
+    let rest = (and_parts (is_right (word_bits 7 index) e) (are_right (suc index) es) h).1 in
+    let there : is_right (word_bits 7 (suc index + i)) (slice_index_or es i NOT_VERTICAL) ≡ true = are_right_at (suc index) es rest i (omega arith) in
+    rw add-suc (rw suc-add at there)
+
+or_else : (a b : Bool) → (a || b) ≡ true → (a ≡ true) ⊎ (b ≡ true)
+or_else true b h = inl refl
+or_else false b h = inr h
+
+-- what an entry says of the bits that it stands for
+abbrev pub SaysWord : List Bool → VerticalWord → Type 0
+SaysWord text entry = (length (mode_word (Vertical entry.offset)) ≡ entry.bits) × ((rest : List Bool) × (text ≡ mode_word (Vertical entry.offset) ++ rest))
+
+says : (text : List Bool) (entry : VerticalWord) → is_right text entry ≡ true → (entry.bits ≡ 0) ⊎ SaysWord text entry
+says text entry h = elim (or_else (entry.bits == 0) ((length (mode_word (Vertical entry.offset)) == entry.bits) && begins (mode_word (Vertical entry.offset)) text) h) [
+  | inl none ↦ inl (eqb-true entry.bits 0 none)
+  | inr word ↦
+      let parts = and_parts (length (mode_word (Vertical entry.offset)) == entry.bits) (begins (mode_word (Vertical entry.offset)) text) word in
+      inr (eqb-true (length (mode_word (Vertical entry.offset))) entry.bits parts.0, begins_rest (mode_word (Vertical entry.offset)) text parts.1)
+]
+
+few_of : (text : List Bool) (entry : VerticalWord) → (entry.bits ≡ 0) ⊎ SaysWord text entry → entry.bits ≤ 7
+few_of text entry (inl none) = omega arith
+few_of text entry (inr word) = let size = mode_size (Vertical entry.offset) in omega (arith, word.0)
+
+said : (text more : List Bool) (entry : VerticalWord) → (entry.bits ≡ 0) ⊎ SaysWord text entry → 0 < entry.bits → SaysWord (text ++ more) entry
+said text more entry (inl none) some = absurd (omega arith)
+said text more entry (inr word) some = (word.0, (word.1.0 ++ more, ap (λ b. b ++ more) word.1.1 ∙ append_assoc (mode_word (Vertical entry.offset)) word.1.0 more))
+
+-- the entry of a window's first 7 bits
+module _ (window : ℕ) (below : window < 2 ^ 56) (entry : VerticalWord) (is : entry ≡ slice_index_or VERTICAL_WORDS (window / 2 ^ 49) NOT_VERTICAL) where
+  of_seven : (entry.bits ≡ 0) ⊎ SaysWord (word_bits 7 (window / 2 ^ 49)) entry
+  of_seven =
+      let at : is_right (word_bits 7 (0 + window / 2 ^ 49)) (slice_index_or VERTICAL_WORDS (window / 2 ^ 49) NOT_VERTICAL) ≡ true = are_right_at 0 VERTICAL_WORDS vertical_words_are_right (window / 2 ^ 49) (omega arith) in
+      let place : 0 + window / 2 ^ 49 ≡ window / 2 ^ 49 = omega arith in
+      says (word_bits 7 (window / 2 ^ 49)) entry (rw is (rw place at at))
+
+  pub entry_few : entry.bits ≤ 7
+  entry_few = few_of (word_bits 7 (window / 2 ^ 49)) entry of_seven
+
+  pub entry_says : 0 < entry.bits → SaysWord (word_bits 56 window) entry
+  entry_says some =
+      let whole : word_bits 56 window ≡ word_bits 7 (window / 2 ^ 49) ++ word_bits 49 window = word_bits-add 7 49 window in
+      rw whole (said (word_bits 7 (window / 2 ^ 49)) (word_bits 49 window) entry of_seven some)
+
+-- ---- what a window shows
+-- a window without its first bits
+pub behind_bits : (window n : ℕ) → n ≤ 56 → word_bits 56 (window * 2 ^ n) ≡ drop n (word_bits 56 window) ++ replicate n false
+behind_bits window n few =
+    let high = word_bits n (window * 2 ^ n / 2 ^ 56) in
+    let low = word_bits 56 (window * 2 ^ n) in
+    let size : 56 + n ≡ n + 56 = omega arith in
+    let long : length (word_bits 56 window) ≡ 56 = length-word_bits 56 window in
+    sym (drop_at high low n (length-word_bits n (window * 2 ^ n / 2 ^ 56)))
+    ∙ ap (drop n) (sym (word_bits-add n 56 (window * 2 ^ n)) ∙ ap (λ (k : ℕ). word_bits k (window * 2 ^ n)) (sym size) ∙ word_bits-shl 56 n window)
+    ∙ drop-append-le n (word_bits 56 window) (replicate n false) (omega arith)
+
+-- at first it shows what is known
+pub Shows-first : (window known : ℕ) (bits : List Bool) → known ≡ min 56 (length bits) → word_bits 56 window ≡ padded 56 bits → Shows window known (drop (known - known) bits)
+Shows-first window known bits k e =
+    let none : known - known ≡ 0 = omega arith in
+    rw none (record { rest = replicate (56 - known) false; front = e ∙ padded-known 56 known bits k; there = omega arith })
+
+-- the word that begins the window, where so many bits are known, begins the bits
+module _ (window known n : ℕ) (bits word more : List Bool) (shows : Shows window known bits) (size : length word ≡ n) (few : n ≤ known) (begun : word_bits 56 window ≡ word ++ more) where
+  pub shown_word : take n bits ≡ word
+  shown_word =
+      let long : length (take known bits) ≡ known = length-take-le known bits shows.there in
+      sym (take-take n known bits few)
+      ∙ sym (take-append-le n (take known bits) shows.rest (omega arith))
+      ∙ ap (take n) (sym shows.front ∙ begun)
+      ∙ take_at word more n size
+
+  pub Shows-next : (next : ℕ) → word_bits 56 next ≡ drop n (word_bits 56 window) ++ replicate n false → Shows next (known - n) (drop n bits)
+  Shows-next next e =
+      let long : length (take known bits) ≡ known = length-take-le known bits shows.there in
+      let parts : known ≡ n + (known - n) = omega arith in
+      let front : drop n (word_bits 56 window) ≡ take (known - n) (drop n bits) ++ shows.rest =
+      ap (drop n) shows.front ∙ drop-append-le n (take known bits) shows.rest (omega arith) ∙ ap (λ b. b ++ shows.rest) (ap (λ k. drop n (take k bits)) parts ∙ drop-take n (known - n) bits) in
+      record {
+        rest = shows.rest ++ replicate n false;
+        front = e ∙ ap (λ b. b ++ replicate n false) front ∙ append_assoc (take (known - n) (drop n bits)) shows.rest (replicate n false);
+        there = omega (arith, shows.there, length-drop n bits);
+      }
+
+-- ---- places
+pub behind_none : (p : Place) (k : ℕ) → behind_place p (k - k) ≡ p
+behind_none p k = let none : k - k ≡ 0 = omega arith in rw (none, add-zero) refl
+
+pub skipped : (p q : Place) (n : ℕ) → n ≤ length p.left → Passes p q (take n p.left) → behind_place p n ≡ q
+skipped p q n few passes =
+    let long : length (take n p.left) ≡ n = length-take-le n p.left few in
+    let left : drop n p.left ≡ q.left = ap (drop n) passes.bits ∙ drop_at (take n p.left) q.left n long in
+    let passed : p.passed + n ≡ q.passed = omega (arith, passes.place) in
+    rw (left, passed) refl
+
+pub passes_shown : (p : Place) (k n next : ℕ) (word : List Bool) → n ≤ length (drop k p.left) → take n (drop k p.left) ≡ word → next ≡ k + n
+    → Passes (behind_place p k) (behind_place p next) (word ++ [])
+passes_shown p k n next word few is e =
+    let long : length (take n (drop k p.left)) ≡ n = length-take-le n (drop k p.left) few in
+    let size : length word ≡ n = sym (ap length is) ∙ long in
+    rw (e, append-nil) (record {
+      bits = sym (take-append-drop n (drop k p.left)) ∙ ap₂ (λ (a b : List Bool). a ++ b) is (drop-drop n k p.left);
+      place = omega arith;
+    })
+
+-- where a step starts, b1 found
+pub StepsSoFar-at : (reference : Elements) (width : ℕ) (old new : Place) (line : Elements) (start : Start) (index : ℕ) → StepsSoFar reference width old new line start
+    → StepsSoFar reference width old new line (record { from = start.from; colour = start.colour; index = index })
+StepsSoFar-at reference width old new line start index s = record { modes = s.modes; text = s.text; passes = s.passes; steps = s.steps }

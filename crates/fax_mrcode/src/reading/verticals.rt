@@ -1,0 +1,218 @@
+//! The word of vertical mode that begins bits, by a table (ITU-T T.4, table 4/T.4).
+ghost use Rattle.std.specs.Prelude.{List, Bool, false, slice_index_or, length, drop, replicate, ◌<◌, ◌≤◌, ◌≡◌, ◌++◌, ◌^◌};
+ghost use Rattle.fax_bits.specs.Bits.{word_bits};
+ghost use Rattle.fax_mrcode.specs.declared.mode.Mode.{Mode};
+ghost use Rattle.fax_mrcode.specs.Modes.{mode_word};
+
+use crate::Offset;
+
+/// How far a1 lies from b1, and how many bits say so: none where no word of vertical mode does.
+#[derive(Clone, Copy)]
+pub(super) struct VerticalWord {
+    pub(super) offset: Offset,
+    pub(super) bits: u8,
+}
+
+/// The word of vertical mode that begins 56 bits, which are those of a number, the most significant
+/// first.
+#[inline]
+pub(super) fn vertical_word(window: u64) -> VerticalWord
+    requires { window < 2 ^ 56 }
+    ensures few { result.bits ≤ 7 }
+    ensures size { 0 < result.bits → length (mode_word (Mode.Vertical result.offset)) ≡ result.bits }
+    ensures begins { 0 < result.bits → (rest : List Bool) × (word_bits 56 window ≡ mode_word (Mode.Vertical result.offset) ++ rest) }
+{
+    word_at((window >> 49) as usize)
+}
+
+/// The entry of these 7 bits.
+#[inline]
+fn word_at(index: usize) -> VerticalWord
+    requires { index < 128 }
+    ensures { result ≡ slice_index_or VERTICAL_WORDS index NOT_VERTICAL }
+{
+    VERTICAL_WORDS[index]
+}
+
+/// A window of 56 bits without the first n, with n zeros behind the others.
+#[inline]
+pub(super) fn behind(window: u64, n: u32) -> u64
+    requires window { window < 2 ^ 56 }
+    requires few { n ≤ 56 }
+    ensures bits { word_bits 56 result ≡ drop n (word_bits 56 window) ++ replicate n false }
+    ensures window { result < 2 ^ 56 }
+{
+    (window << n) % (1 << 56)
+}
+
+/// By the first 7 bits.
+static VERTICAL_WORDS: [VerticalWord; 128] = [
+    NOT_VERTICAL,
+    NOT_VERTICAL,
+    LEFT3,
+    RIGHT3,
+    LEFT2,
+    LEFT2,
+    RIGHT2,
+    RIGHT2,
+    NOT_VERTICAL,
+    NOT_VERTICAL,
+    NOT_VERTICAL,
+    NOT_VERTICAL,
+    NOT_VERTICAL,
+    NOT_VERTICAL,
+    NOT_VERTICAL,
+    NOT_VERTICAL,
+    NOT_VERTICAL,
+    NOT_VERTICAL,
+    NOT_VERTICAL,
+    NOT_VERTICAL,
+    NOT_VERTICAL,
+    NOT_VERTICAL,
+    NOT_VERTICAL,
+    NOT_VERTICAL,
+    NOT_VERTICAL,
+    NOT_VERTICAL,
+    NOT_VERTICAL,
+    NOT_VERTICAL,
+    NOT_VERTICAL,
+    NOT_VERTICAL,
+    NOT_VERTICAL,
+    NOT_VERTICAL,
+    LEFT1,
+    LEFT1,
+    LEFT1,
+    LEFT1,
+    LEFT1,
+    LEFT1,
+    LEFT1,
+    LEFT1,
+    LEFT1,
+    LEFT1,
+    LEFT1,
+    LEFT1,
+    LEFT1,
+    LEFT1,
+    LEFT1,
+    LEFT1,
+    RIGHT1,
+    RIGHT1,
+    RIGHT1,
+    RIGHT1,
+    RIGHT1,
+    RIGHT1,
+    RIGHT1,
+    RIGHT1,
+    RIGHT1,
+    RIGHT1,
+    RIGHT1,
+    RIGHT1,
+    RIGHT1,
+    RIGHT1,
+    RIGHT1,
+    RIGHT1,
+    ZERO,
+    ZERO,
+    ZERO,
+    ZERO,
+    ZERO,
+    ZERO,
+    ZERO,
+    ZERO,
+    ZERO,
+    ZERO,
+    ZERO,
+    ZERO,
+    ZERO,
+    ZERO,
+    ZERO,
+    ZERO,
+    ZERO,
+    ZERO,
+    ZERO,
+    ZERO,
+    ZERO,
+    ZERO,
+    ZERO,
+    ZERO,
+    ZERO,
+    ZERO,
+    ZERO,
+    ZERO,
+    ZERO,
+    ZERO,
+    ZERO,
+    ZERO,
+    ZERO,
+    ZERO,
+    ZERO,
+    ZERO,
+    ZERO,
+    ZERO,
+    ZERO,
+    ZERO,
+    ZERO,
+    ZERO,
+    ZERO,
+    ZERO,
+    ZERO,
+    ZERO,
+    ZERO,
+    ZERO,
+    ZERO,
+    ZERO,
+    ZERO,
+    ZERO,
+    ZERO,
+    ZERO,
+    ZERO,
+    ZERO,
+    ZERO,
+    ZERO,
+    ZERO,
+    ZERO,
+    ZERO,
+    ZERO,
+    ZERO,
+    ZERO,
+];
+
+const NOT_VERTICAL: VerticalWord = VerticalWord {
+    offset: Offset::Zero,
+    bits: 0,
+};
+
+const ZERO: VerticalWord = VerticalWord {
+    offset: Offset::Zero,
+    bits: 1,
+};
+
+const RIGHT1: VerticalWord = VerticalWord {
+    offset: Offset::Right1,
+    bits: 3,
+};
+
+const RIGHT2: VerticalWord = VerticalWord {
+    offset: Offset::Right2,
+    bits: 6,
+};
+
+const RIGHT3: VerticalWord = VerticalWord {
+    offset: Offset::Right3,
+    bits: 7,
+};
+
+const LEFT1: VerticalWord = VerticalWord {
+    offset: Offset::Left1,
+    bits: 3,
+};
+
+const LEFT2: VerticalWord = VerticalWord {
+    offset: Offset::Left2,
+    bits: 6,
+};
+
+const LEFT3: VerticalWord = VerticalWord {
+    offset: Offset::Left3,
+    bits: 7,
+};
