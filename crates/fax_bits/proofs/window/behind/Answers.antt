@@ -1,5 +1,4 @@
-use Rattle.std.proofs.Common.{◌≡◌, ◌*◌, ◌%◌, ◌^◌, ◌∙◌, arith}
-use Rattle.fax_bits.specs.Bits.{word_bits}
+use Rattle.std.proofs.Common.{◌*◌, ◌%◌, ◌^◌, ◌∙◌, arith}
 use Rattle.fax_bits.proofs.BitsLemmas.{word_bits-mod}
 use Rattle.fax_bits.proofs.WindowLemmas.{behind_bits}
 use Rattle.fax_bits.proofs.window.behind.Goals as goal
