@@ -1,7 +1,7 @@
 -- What is passed of a page up to its first EOL: zeros, the 1s behind them, and the tag of the EOL.
-use Rattle.std.proofs.Common.{◌≡◌, inl, inr, IsTrue, ◌==◌, ◌^◌, ℕ, zero, suc, ◌+◌, ◌-◌, ◌<◌, ◌≤◌, Bool, true, false, List, [], ◌∷◌, ◌++◌, length, take, drop, replicate, refl, sym, ◌∙◌, ap, subst, arith, append_assoc, append-nil, add-zero, length-append}
-use Rattle.std.proofs.lemmas.List.{nil_from_length, replicate-append-replicate, take-append-le, take-append-drop, take_all}
-use Rattle.std.proofs.lemmas.Bool.{cases_lt}
+use Rattle.std.proofs.Common.{◌≡◌, inl, inr, IsTrue, ◌==◌, ◌^◌, ℕ, zero, suc, ◌+◌, ◌-◌, ◌<◌, ◌≤◌, Bool, true, false, List, [], ◌∷◌, ◌++◌, length, take, drop, min, nat_lt, replicate, refl, sym, ◌∙◌, ap, subst, arith, append_assoc, append-nil, add-zero, length-append}
+use Rattle.std.proofs.lemmas.List.{length-replicate, take_at, nil_from_length, replicate-append-replicate, take-append-le, take-append-drop, take_all}
+use Rattle.std.proofs.lemmas.Bool.{cases_lt, lt-ltb}
 use Rattle.fax_bits.specs.Reading.{Place, Passes}
 use Rattle.fax_bits.proofs.ReadingLemmas.{Passes-none, Passes-then}
 use Rattle.fax_bits.specs.Bits.{bit, word_bits}
@@ -49,6 +49,44 @@ line_zeros a b zeros p stops (z, rest, few, e) =
     let same : (zeros ≡ z) × (b.left ≡ true ∷ rest) = one_behind zeros z b.left rest (sym p.bits ∙ e) stops in
     let size : length b.left ≡ suc (length rest) = ap length same.1 in
     (omega (arith, same.0), omega arith)
+
+-- One number of zeros comes before a 1.
+pub zeros_before_one : (a b : ℕ) (x y : List Bool) → replicate a false ++ true ∷ x ≡ replicate b false ++ true ∷ y → a ≡ b
+zeros_before_one a b x y e = (one_behind a b (true ∷ x) y e (λ rest h. cc)).0
+
+-- Bits that begin with so many zeros have no 1 among them.
+pub no_one_in_zeros : (n z : ℕ) (rest : List Bool) → z < n → take n (replicate z false ++ true ∷ rest) ≡ replicate n false → ⊥
+no_one_in_zeros zero z rest lt e = absurd (omega arith)
+no_one_in_zeros (suc n) zero rest lt e = cc
+no_one_in_zeros (suc n) (suc z) rest lt e =
+    let tails : take n (replicate z false ++ true ∷ rest) ≡ replicate n false = cc in
+    no_one_in_zeros n z rest (omega arith) tails
+
+pub no_one_in_window : (bits : List Bool) → take (min 56 (length bits)) bits ≡ replicate (min 56 (length bits)) false → LineBegins bits → ⊥
+no_one_in_window bits zeros (z, rest, few, e) =
+    let size : length bits ≡ length (replicate z false) + length (true ∷ rest) = ap length e ∙ length-append (replicate z false) (true ∷ rest) in
+    let front : length (replicate z false) ≡ z = length-replicate z false in
+    no_one_in_zeros (min 56 (length bits)) z rest (omega arith) (ap (take (min 56 (length bits))) (sym e) ∙ zeros)
+
+-- Where a line begins a window begins with fewer than 11 zeros.
+pub few_zeros : (zeros : ℕ) (bits : List Bool) → (zeros < 56 → (rest : List Bool) × (bits ≡ replicate zeros false ++ true ∷ rest))
+    → (56 ≤ zeros → LineBegins bits → ⊥) → LineBegins bits → IsTrue (nat_lt zeros 11)
+few_zeros zeros bits one none begins = elim (cases_lt zeros 56) [
+  | inl inside ↦
+      let at = one inside in
+      let same : zeros ≡ begins.0 = zeros_before_one zeros begins.0 at.0 begins.1 (sym at.1 ∙ begins.3) in
+      lt-ltb zeros 11 (omega (arith, same, begins.2))
+  | inr past ↦ absurd (none past begins)
+]
+
+-- The zeros of a window and the 1 behind them passed.
+pub Passes-window : (a b : Place) (zeros : ℕ) → (rest : List Bool) × (a.left ≡ replicate zeros false ++ true ∷ rest) → Passes a b (take (zeros + 1) a.left)
+    → Passes a b (replicate zeros false ++ true ∷ [])
+Passes-window a b zeros (rest, e) p =
+    let size : length (replicate zeros false ++ true ∷ []) ≡ zeros + 1 = length-append (replicate zeros false) (true ∷ []) ∙ ap (λ n. n + 1) (length-replicate zeros false) in
+    subst (Passes a b)
+    (ap (take (zeros + 1)) (e ∙ sym (append_assoc (replicate zeros false) (true ∷ []) rest)) ∙ take_at (replicate zeros false ++ true ∷ []) rest (zeros + 1) size)
+    p
 
 -- What a test for one more bit says where it fails.
 pub none_left : (test : Bool) (n : ℕ) → (1 ≤ n → IsTrue test) → test ≡ false → n < 1

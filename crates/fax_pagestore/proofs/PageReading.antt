@@ -1,5 +1,6 @@
 -- A page that is being read: its rows so far, and what an exact reader answers.
 use Rattle.std.proofs.Common.{◌≡◌, ◌≢◌, ℕ, zero, suc, ◌<◌, ◌≤◌, Bool, true, false, List, [], ◌∷◌, ◌++◌, All, Option, Some, None, length, refl, sym, ◌∙◌, ap, subst, arith, append_assoc, append-nil, inl, inr, ◌⊎◌, Result, Ok, Err, IfOk, IfErr}
+use Rattle.std.proofs.lemmas.Bool.{cases_lt}
 use Rattle.std.proofs.lemmas.List.{nil_from_length, length_push}
 use Rattle.std.proofs.lemmas.List.Elements.{All-push, All-head, All-tail}
 use Rattle.fax_bits.specs.Bits.{bits_of}
@@ -172,6 +173,35 @@ RowsSoFar-more coding width first tag next before after old mid new rows row lin
   each = All-push (λ (v : Elements). length v ≡ width) rows row r.each (RowsSoFar-row coding width first tag before old mid rows row line r spelt);
   known = Knows-push next after rows row k;
 }
+
+-- ---- the row before, kept where the next tag wants it
+
+-- The last row is kept where the tag wants it and there is one.
+abbrev pub Keeps : Bool → Elements → List Elements → Type 0
+Keeps tag kept rows = tag ≡ false → 0 < length rows → last_of rows ≡ Some kept
+
+pub Keeps-push : (tag : Bool) (kept row : Elements) (rows : List Elements) → (tag ≡ false → kept ≡ row) → Keeps tag kept (rows ++ row ∷ [])
+Keeps-push tag kept row rows same two some = last_of-push rows row ∙ ap (λ (r : Elements). Some r) (sym (same two))
+
+-- What is kept has the width.
+pub Keeps-width : (width : ℕ) (tag : Bool) (kept : Elements) (rows : List Elements) → Keeps tag kept rows → All (λ row. length row ≡ width) rows
+    → tag ≡ false → 0 < length rows → length kept ≡ width
+Keeps-width width tag kept rows keeps each two some = subst (HasWidth width) (keeps two some) (last_of-width width rows each)
+
+-- The row before is known from what is kept.
+pub Knows-kept : (tag : Bool) (kept : Elements) (before : Option Elements) (rows : List Elements) (n : ℕ) → n ≡ length rows → Keeps tag kept rows
+    → (n ≡ 0 → before ≡ None) → (tag ≡ false → 0 < n → before ≡ Some kept) → Knows tag before rows
+Knows-kept tag kept before rows n size keeps first later two = elim (cases_lt 0 n) [
+  | inl some ↦ later two some ∙ sym (keeps two (omega arith))
+  | inr none ↦
+      let empty : rows ≡ [] = nil_from_length rows (omega arith) in
+      first (omega arith) ∙ ap last_of (sym empty)
+]
+
+-- the same rows, with another row before that is known
+pub RowsSoFar-known : (coding : Coding) (width : ℕ) (first tag : Bool) (before other : Option Elements) (old new : Place) (rows : List Elements)
+    → RowsSoFar coding width first old tag before new rows → Knows tag other rows → RowsSoFar coding width first old tag other new rows
+RowsSoFar-known coding width first tag before other old new rows r k = record { read = r.read; few = r.few; each = r.each; known = k }
 
 -- ---- where reading stops behind the rows so far
 

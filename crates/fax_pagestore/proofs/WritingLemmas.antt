@@ -1,5 +1,5 @@
 -- Texts of pages as they grow while they are written.
-use Rattle.std.proofs.Common.{◌≡◌, ℕ, zero, suc, ◌+◌, ◌-◌, Bool, true, false, List, [], ◌∷◌, ◌++◌, length, replicate, refl, sym, ◌∙◌, ap, arith, append_assoc, append-nil, length-append, add-one}
+use Rattle.std.proofs.Common.{◌≡◌, ℕ, zero, suc, ◌+◌, ◌-◌, ◌≤◌, Bool, true, false, List, [], ◌∷◌, ◌++◌, length, replicate, refl, sym, ◌∙◌, ap, arith, append_assoc, append-nil, length-append, add-one}
 use Rattle.std.specs.Int.{from_bool}
 use Rattle.fax_bits.specs.Bits.{bit, word_bits}
 use Rattle.fax_pagestore.specs.declared.Coding.{Coding}
@@ -65,6 +65,13 @@ fill-zeros least before after zeros old line new is e are f =
     let size : length new ≡ length old + length line = ap length e ∙ length-append old line in
     let same : zeros ≡ least - (length line + 12) = omega arith in
     ap (λ n. replicate n false) same
+
+-- There is no fill where an EOL has the least bits by itself.
+pub no_fill : (least : ℕ) (old line new : List Bool) → least ≤ 12 → new ≡ old ++ line → new ≡ old ++ (line ++ fill least line)
+unfolding fill end_of_line
+no_fill least old line new few e =
+    let none : least - (length line + 12) ≡ 0 = omega arith in
+    e ∙ ap (λ b. old ++ b) (sym (append-nil line) ∙ ap (λ n. line ++ replicate n false) (sym none))
 
 -- A line and its fill, put one behind the other.
 pub filled_line : (least before after zeros : ℕ) (old line lined new : List Bool) → before ≡ length old → lined ≡ old ++ line → after ≡ length lined

@@ -1,7 +1,7 @@
 //! Pages read from their texts.
-ghost use Rattle.std.specs.Prelude.{◌≡◌, ◌≢◌, ◌≤◌, ◌⊎◌, ◌++◌, ◌↔◌, ℕ, Bool, List, [], length, IfOk, IfErr, IfSome, IsNone, OnOk, Ok, Err, IsTrue, true, false};
+ghost use Rattle.std.specs.Prelude.{◌≡◌, ◌≢◌, ◌<◌, ◌≤◌, ◌⊎◌, ◌++◌, ◌↔◌, ℕ, Bool, List, [], length, IfOk, IfErr, IfSome, IsNone, None, Some, OnOk, Ok, Err, IsTrue, true, false, ◌∷◌, replicate};
 ghost use Rattle.fax_bits.specs.Reading.{Passes};
-ghost use Rattle.fax_runcodes.specs.Rows.{Elements};
+ghost use Rattle.fax_runcodes.specs.Rows.{Elements, IsWidth};
 ghost use Rattle.fax_runcodes.specs.Widths.{elements_of};
 ghost use Rattle.fax_pagestore.specs.declared.Coding.{Coding};
 ghost use Rattle.fax_pagestore.specs.declared.fault.PageFault.{PageFault};
@@ -13,14 +13,18 @@ use crate::{Coding, Format, Page, PageFault, RowStore};
 use fax_bits::BitReader;
 use fax_mhcode::read_line_1d_into;
 use fax_mrcode::read_line_2d_into;
-use fax_runcodes::{Row, RowBuilder, Width};
+use fax_runcodes::{RowBuilder, RowRef, Width};
 use std::alloc::Global;
+use std::mem;
 
 /// The most rows of a page (this project's profile).
 const MOST_ROWS: u32 = 20_000;
 
 /// The fewest zeros before the 1 of an EOL (ITU-T T.4, 4.1.2).
-const EOL_ZEROS: u128 = 11;
+const EOL_ZEROS: u32 = 11;
+
+/// The bits of a reader's window.
+const WINDOW_BITS: u32 = 56;
 
 /// The EOLs of a return to control behind its first (ITU-T T.4, 4.1.4 and 4.2.4).
 const FURTHER_EOLS: u32 = 5;
@@ -76,7 +80,7 @@ fn pass_front(reader: &mut BitReader, coding: Coding) -> Option<bool>
             return None;
         }
         reader.skip(1);
-        if zeros >= EOL_ZEROS {
+        if zeros >= u128::from(EOL_ZEROS) {
             return pass_tag(reader, coding);
         }
     }
@@ -92,34 +96,58 @@ enum Ahead {
     Line,
 }
 
+/// How many zeros stand before the first 1 of a reader's window, which has zeros past the end; 56 where
+/// there is no 1 in it.
+#[inline]
+fn zeros_in_window(reader: &BitReader) -> u32
+    ensures one { result < 56 → (rest : List Bool) × (reader.now.left ≡ replicate result false ++ true ∷ rest) }
+    ensures none { 56 ≤ result → LineBegins reader.now.left → ⊥ }
+{
+    reader.window().leading_zeros() - (u64::BITS - WINDOW_BITS)
+}
+
 /// Passes a separator, or tells that a line begins. Where only zeros are left, or an EOL without its
 /// tag, no return to control can follow.
+#[inline]
 fn pass_separator(reader: &mut BitReader, coding: Coding) -> Result<Ahead, PageFault>
     ensures separator { (tag : Bool) → result ≡ Ok (Ahead.Separator tag) → (text : List Bool) × IsSeparator coding tag text × Passes reader.old reader.new text }
     ensures line { result ≡ Ok Ahead.Line → LineBegins reader.old.left }
     ensures fault { IfErr result (λ fault. (fault ≡ PageFault.NoRtc) × RunsOut coding reader.old.left) }
 {
-    let mut ahead = reader.copy();
-    let zeros = ahead.skip_zeros();
-    if !ahead.has(1) {
-        return Err(PageFault::NoRtc);
-    }
+    let zeros = zeros_in_window(reader);
     if zeros < EOL_ZEROS {
         return Ok(Ahead::Line);
     }
-    ahead.skip(1);
-    let tag = pass_tag(&mut ahead, coding).ok_or(PageFault::NoRtc)?;
-    *reader = ahead;
+    if zeros >= WINDOW_BITS {
+        let tag = pass_filled_eol(reader, coding)?;
+        return Ok(Ahead::Separator(tag));
+    }
+    reader.skip(zeros + 1);
+    let tag = pass_tag(reader, coding).ok_or(PageFault::NoRtc)?;
     Ok(Ahead::Separator(tag))
 }
 
+/// Passes a separator that may have any number of zeros, and answers its tag.
+#[cold]
+fn pass_filled_eol(reader: &mut BitReader, coding: Coding) -> Result<bool, PageFault>
+    requires { LineBegins reader.old.left → ⊥ }
+    ensures ok { IfOk result (λ tag. (text : List Bool) × IsSeparator coding tag text × Passes reader.old reader.new text) }
+    ensures fault { IfErr result (λ fault. (fault ≡ PageFault.NoRtc) × RunsOut coding reader.old.left) }
+{
+    reader.skip_zeros();
+    if !reader.has(1) {
+        return Err(PageFault::NoRtc);
+    }
+    reader.skip(1);
+    pass_tag(reader, coding).ok_or(PageFault::NoRtc)
+}
+
 /// Whether a line begins: a 1 comes before 11 zeros.
+#[inline]
 fn line_begins(reader: &BitReader) -> bool
     ensures { IsTrue result ↔ LineBegins reader.now.left }
 {
-    let mut ahead = reader.copy();
-    let zeros = ahead.skip_zeros();
-    zeros < EOL_ZEROS && ahead.has(1)
+    zeros_in_window(reader) < EOL_ZEROS
 }
 
 /// Passes the last five of the six EOLs that end a page, behind the first and its tag. Each of the six
@@ -151,7 +179,7 @@ fn read_line(
     reader: &mut BitReader,
     width: Width,
     one_dimensional: bool,
-    before: &Option<Row>,
+    before: &Option<RowRef<'_>>,
 ) -> bool
     ensures read { IsTrue result → (text : List Bool) × SpellsRow (elements_of width) one_dimensional before.now text line.new × Passes reader.old reader.new text }
     ensures fails { result ≡ false → FailsRow (elements_of width) one_dimensional before.now reader.old.left }
@@ -161,7 +189,7 @@ fn read_line(
         return read_line_1d_into(line, reader, width).is_ok();
     }
     match before {
-        Some(reference) => read_line_2d_into(line, reader, &reference.lend()).is_ok(),
+        Some(reference) => read_line_2d_into(line, reader, reference).is_ok(),
         None => false,
     }
 }
@@ -174,7 +202,7 @@ fn read_row(
     width: Width,
     coding: Coding,
     tag: bool,
-    before: &Option<Row>,
+    before: &Option<RowRef<'_>>,
     n: u32,
 ) -> Result<bool, PageFault>
     ensures ok { IfOk result (λ next. (text separator : List Bool) × SpellsRow (elements_of width) tag before.now text line.new × IsSeparator coding next separator
@@ -189,6 +217,18 @@ fn read_row(
         Ahead::Separator(next) => Ok(next),
         Ahead::Line => Err(PageFault::BadLine(n)),
     }
+}
+
+/// The row before a line behind n rows and this tag, where the tag wants it and there is one.
+fn row_before<'a>(kept: &'a RowBuilder, tag: bool, n: u32) -> Option<RowRef<'a>>
+    requires { tag ≡ false → 0 < n → IsWidth (length kept.now) }
+    ensures first { n ≡ 0 → result ≡ None }
+    ensures later { tag ≡ false → 0 < n → result ≡ Some kept.now }
+{
+    if tag || n == 0 {
+        return None;
+    }
+    Some(kept.lend())
 }
 
 /// Reads the lines of a page behind its first EOL and the tag of that, and passes the return to control.
@@ -206,19 +246,21 @@ fn read_rows<S: RowStore>(
 {
     let mut rows = S::empty(alloc);
     let mut line = RowBuilder::new(alloc)?;
+    // the row before, where the next line is two-dimensional
+    let mut kept = RowBuilder::new(alloc)?;
     let mut tag = first;
-    let mut before = None;
     while line_begins(reader) {
         let n = rows.len();
         if n == MOST_ROWS {
             return Err(PageFault::TooManyRows);
         }
+        let before = row_before(&kept, tag, n);
         tag = read_row(&mut line, reader, width, coding, tag, &before, n)?;
-        let row = line.row()?;
-        // Only a line of tag 0 looks at the row before it.
-        before = if tag { None } else { Some(row.copy()?) };
-        if rows.push(row).is_err() {
+        if rows.push_lent(&line.lend()).is_err() {
             return Err(PageFault::NoMemory);
+        }
+        if !tag {
+            mem::swap(&mut line, &mut kept);
         }
     }
     pass_return_to_control(reader, coding, tag)?;

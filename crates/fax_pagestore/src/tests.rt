@@ -1,5 +1,7 @@
 //! Pages spelt by hand with the tables of ITU-T T.4.
-use crate::{Coding, Format, Page, PageFault, PlainRows, RowStore, read_page, write_page};
+use crate::{
+    Coding, Format, PackedRows, Page, PageFault, PlainRows, RowStore, read_page, write_page,
+};
 use fax_bits::{BitWriter, NoMemory, Octets};
 use fax_runcodes::{Row, Width};
 use std::alloc::Global;
@@ -121,6 +123,16 @@ fn read(
     fine: bool,
     coding: Coding,
 ) -> Result<Page<PlainRows>, PageFault> {
+    read_into(alloc, texts, fine, coding)
+}
+
+/// Reads a page of the width 1728 into a store.
+fn read_into<S: RowStore>(
+    alloc: Global,
+    texts: &[&str],
+    fine: bool,
+    coding: Coding,
+) -> Result<Page<S>, PageFault> {
     let format = Format {
         width: Width::W1728,
         fine,
@@ -289,5 +301,26 @@ fn lends_its_rows(rt: HostRuntime) -> Result<(), Fail> {
     assert_eq!(rt; rows.len(), 2);
     assert_eq!(rt; rows[1].lend().put_runs(&mut runs), Some(1));
     assert_eq!(rt; runs[0], 1728);
+    Ok(())
+}
+
+#[test]
+fn reads_into_either_store(rt: HostRuntime) -> Result<(), Fail> {
+    let cases: [(Coding, &[&str]); 3] = [
+        (Coding::Mh, FILLED),
+        (Coding::Mr, OF_TWO_FILLED),
+        (Coding::Mr, OF_FOUR),
+    ];
+    for (coding, texts) in cases {
+        let plain = read(rt.alloc(), texts, true, coding)?;
+        let packed: Page<PackedRows> = read_into(rt.alloc(), texts, true, coding)?;
+        assert_eq!(rt; packed.rows().len(), plain.rows().len());
+        for i in 0..plain.rows().len() {
+            if i < packed.rows().len() && i < plain.rows().len() {
+                let (row, same) = (packed.rows().lend(i), plain.rows().lend(i));
+                assert_eq!(rt; row.changes(), same.changes(), "in row {i} of {texts:?}");
+            }
+        }
+    }
     Ok(())
 }

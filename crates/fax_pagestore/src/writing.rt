@@ -8,9 +8,9 @@ ghost use Rattle.fax_pagestore.specs.WrittenPages.{WritesPage, WritesRows, Write
 
 use crate::{Coding, Page, RowStore};
 use fax_bits::{BitWriter, NoMemory, Octets};
-use fax_mhcode::write_line_1d;
-use fax_mrcode::write_line_2d;
-use fax_runcodes::Row;
+use fax_mhcode::write_lent_line_1d;
+use fax_mrcode::write_lent_line_2d;
+use fax_runcodes::RowRef;
 use std::alloc::Global;
 
 /// EOL is a 1 behind 11 zeros (ITU-T T.4, 4.1.2).
@@ -56,7 +56,7 @@ fn write_rows<S: RowStore>(
     // the row before, where the next line is two-dimensional
     let mut reference = None;
     for index in 0..count {
-        let row = rows.row(index)?;
+        let row = rows.lend(index);
         write_filled_line(writer, reference.as_ref(), &row, least_bits)?;
         let next = index + 1;
         let tag = next == count || is_one_dimensional(coding, fine, next);
@@ -70,13 +70,17 @@ fn write_rows<S: RowStore>(
 /// bits (ITU-T T.4, 4.1.3 and 4.2.3).
 fn write_filled_line(
     writer: &mut BitWriter,
-    reference: Option<&Row>,
-    row: &Row,
+    reference: Option<&RowRef<'_>>,
+    row: &RowRef<'_>,
     least_bits: u32,
 ) -> Result<(), NoMemory>
     requires { ForSome (option_copied reference) (λ before. length row.now ≡ length before) }
     ensures { OnOk result ((line : List Bool) × WritesRow (is_none (option_copied reference.entry)) (option_copied reference.entry) row.now line × (writer.new ≡ writer.old ++ (line ++ fill least_bits line))) }
 {
+    // no fill where an EOL has as many bits by itself
+    if least_bits <= END_OF_LINE_BITS {
+        return write_line(writer, reference, row);
+    }
     let before = writer.bits();
     write_line(writer, reference, row)?;
     let line_bits = writer.bits() - before;
@@ -84,13 +88,17 @@ fn write_filled_line(
 }
 
 /// Writes the line of a row: in two dimensions against a reference, and without one in one dimension.
-fn write_line(writer: &mut BitWriter, reference: Option<&Row>, row: &Row) -> Result<(), NoMemory>
+fn write_line(
+    writer: &mut BitWriter,
+    reference: Option<&RowRef<'_>>,
+    row: &RowRef<'_>,
+) -> Result<(), NoMemory>
     requires { ForSome (option_copied reference) (λ before. length row.now ≡ length before) }
     ensures { OnOk result ((line : List Bool) × WritesRow (is_none (option_copied reference.entry)) (option_copied reference.entry) row.now line × (writer.new ≡ writer.old ++ line)) }
 {
     match reference {
-        None => write_line_1d(writer, row),
-        Some(reference) => write_line_2d(writer, reference, row),
+        None => write_lent_line_1d(writer, row),
+        Some(reference) => write_lent_line_2d(writer, reference, row),
     }
 }
 

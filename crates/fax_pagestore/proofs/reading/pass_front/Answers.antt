@@ -19,16 +19,16 @@ returns-then-not-has-clause-none c =
     λ _. no_front c.args.reader.now c.loop-coding.reader c.skip_zeros-zeros.new.self c.skip_zeros-zeros.result c.loop-coding.invariant c.skip_zeros-zeros.ensures.passes
     (none_left c.has.result (length c.skip_zeros-zeros.new.self.left) c.has.ensures.1 c.if-not-has.true) c.args.coding
 
-pub returns-then-zeros-ge-EOL_ZEROS-clause-found : goal.returns-then-zeros-ge-EOL_ZEROS-clause-found
-returns-then-zeros-ge-EOL_ZEROS-clause-found c =
+pub returns-then-zeros-from-clause-found : goal.returns-then-zeros-from-clause-found
+returns-then-zeros-from-clause-found c =
     IfSome_then c.pass_tag.result c.pass_tag.ensures.found
     (λ tag. IsFront-from c.args.coding tag c.args.reader.now c.loop-coding.reader c.skip.new.self c.pass_tag.new.reader c.skip_zeros-zeros.result c.loop-coding.invariant
-    (passed (goal.at.returns-then-zeros-ge-EOL_ZEROS-clause-found c).After-skip) (omega arith))
+    (passed (goal.at.returns-then-zeros-from-clause-found c).After-skip) (omega arith))
 
-pub returns-then-zeros-ge-EOL_ZEROS-clause-none : goal.returns-then-zeros-ge-EOL_ZEROS-clause-none
-returns-then-zeros-ge-EOL_ZEROS-clause-none c =
+pub returns-then-zeros-from-clause-none : goal.returns-then-zeros-from-clause-none
+returns-then-zeros-from-clause-none c =
     λ none. no_tag c.args.reader.now c.loop-coding.reader c.skip.new.self c.skip_zeros-zeros.result c.loop-coding.invariant
-    (passed (goal.at.returns-then-zeros-ge-EOL_ZEROS-clause-none c).After-skip) c.args.coding (c.pass_tag.ensures.none none)
+    (passed (goal.at.returns-then-zeros-from-clause-none c).After-skip) c.args.coding (c.pass_tag.ensures.none none)
 
 pub loop-coding-smaller : goal.loop-coding-smaller
 loop-coding-smaller c = zeros_one_shorter c.loop-coding.reader c.skip.new.self c.skip_zeros-zeros.result (passed (goal.at.loop-coding-smaller c).After-skip)
