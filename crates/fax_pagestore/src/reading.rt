@@ -1,5 +1,6 @@
 //! Pages read from their texts.
-ghost use Rattle.std.specs.Prelude.{◌≡◌, ◌≢◌, ◌<◌, ◌≤◌, ◌⊎◌, ◌++◌, ◌↔◌, ℕ, Bool, List, [], length, IfOk, IfErr, IfSome, IsNone, None, Some, OnOk, Ok, Err, IsTrue, true, false, ◌∷◌, replicate};
+ghost use Rattle.std.specs.Prelude.{◌≡◌, ◌≢◌, ◌<◌, ◌≤◌, ◌⊎◌, ◌++◌, ◌↔◌, ℕ, Bool, List, [], length, IfOk, IfErr, IfSome, IsSome, IsNone, None, Some, OnOk, Ok, Err, IsTrue, true, false, ◌∷◌, replicate, take};
+ghost use Rattle.fax_bits.specs.Bits.{word_bits};
 ghost use Rattle.fax_bits.specs.Reading.{Passes};
 ghost use Rattle.fax_runcodes.specs.Rows.{Elements, IsWidth};
 ghost use Rattle.fax_runcodes.specs.Widths.{elements_of};
@@ -54,6 +55,7 @@ pub fn read_page<S: RowStore>(
 /// Passes the tag behind an EOL, and answers it: `true` for a one-dimensional line, `false` for a
 /// two-dimensional one (ITU-T T.4, 4.2.2). One-dimensional coding has no tag bit, and each of its lines
 /// counts as tagged 1. `None` says that the tag bit is missing.
+#[inline]
 fn pass_tag(reader: &mut BitReader, coding: Coding) -> Option<bool>
     ensures found { IfSome result (λ tag. (text : List Bool) × IsTag coding tag text × Passes reader.old reader.new text) }
     ensures none { IsNone result → (coding ≡ Coding.Mr) × (reader.old.left ≡ []) }
@@ -61,11 +63,22 @@ fn pass_tag(reader: &mut BitReader, coding: Coding) -> Option<bool>
     match coding {
         Coding::Mh => Some(true),
         Coding::Mr => {
-            let tag = reader.peek(1)?;
+            let tag = next_bit(reader)?;
             reader.skip(1);
             Some(tag == 1)
         }
     }
+}
+
+/// The next bit as a number, or `None` where none is left.
+#[inline]
+fn next_bit(reader: &BitReader) -> Option<u64>
+    ensures found { IsSome result ↔ (1 ≤ length reader.now.left) }
+    ensures bit { IfSome result (λ bit. word_bits 1 bit ≡ take 1 reader.now.left) }
+    ensures word { IfSome result (λ bit. bit < 2) }
+{
+    let bit = reader.window() >> (WINDOW_BITS - 1);
+    reader.has(1).then_some(bit)
 }
 
 /// Passes any bits up to the first EOL, the EOL and its tag, and answers the tag. `None` says that there
@@ -152,6 +165,7 @@ fn line_begins(reader: &BitReader) -> bool
 
 /// Passes the last five of the six EOLs that end a page, behind the first and its tag. Each of the six
 /// has tag 1 (ITU-T T.4, 4.1.4 and 4.2.4).
+#[cold]
 fn pass_return_to_control(
     reader: &mut BitReader,
     coding: Coding,
@@ -174,6 +188,7 @@ fn pass_return_to_control(
 
 /// Reads a line into the builder, in place of what is there, and answers whether it could be read. A
 /// two-dimensional line is read against the row before, and without one it cannot be.
+#[inline]
 fn read_line(
     line: &mut RowBuilder,
     reader: &mut BitReader,
@@ -196,6 +211,7 @@ fn read_line(
 
 /// Reads the line behind n rows and this tag into the builder, in place of what is there, passes the
 /// separator behind the line, and answers its tag.
+#[inline]
 fn read_row(
     line: &mut RowBuilder,
     reader: &mut BitReader,
@@ -220,6 +236,7 @@ fn read_row(
 }
 
 /// The row before a line behind n rows and this tag, where the tag wants it and there is one.
+#[inline]
 fn row_before<'a>(kept: &'a RowBuilder, tag: bool, n: u32) -> Option<RowRef<'a>>
     requires { tag ≡ false → 0 < n → IsWidth (length kept.now) }
     ensures first { n ≡ 0 → result ≡ None }
