@@ -121,7 +121,7 @@ fn zeros_in_window(reader: &BitReader) -> u32
 
 /// Passes a separator, or tells that a line begins. Where only zeros are left, or an EOL without its
 /// tag, no return to control can follow.
-#[inline]
+#[inline(always)]
 fn pass_separator(reader: &mut BitReader, coding: Coding) -> Result<Ahead, PageFault>
     ensures separator { (tag : Bool) → result ≡ Ok (Ahead.Separator tag) → (text : List Bool) × IsSeparator coding tag text × Passes reader.old reader.new text }
     ensures line { result ≡ Ok Ahead.Line → LineBegins reader.old.left }
@@ -211,7 +211,7 @@ fn read_line(
 
 /// Reads the line behind n rows and this tag into the builder, in place of what is there, passes the
 /// separator behind the line, and answers its tag.
-#[inline]
+#[inline(always)]
 fn read_row(
     line: &mut RowBuilder,
     reader: &mut BitReader,
