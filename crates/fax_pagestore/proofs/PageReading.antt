@@ -1,6 +1,5 @@
 -- A page that is being read: its rows so far, and what an exact reader answers.
 use Rattle.std.proofs.Common.{◌≡◌, ◌≢◌, ℕ, zero, suc, ◌<◌, ◌≤◌, Bool, true, false, List, [], ◌∷◌, ◌++◌, All, Option, Some, None, length, refl, sym, ◌∙◌, ap, subst, arith, append_assoc, append-nil, inl, inr, ◌⊎◌, Result, Ok, Err, IfOk, IfErr}
-use Rattle.std.proofs.lemmas.Bool.{cases_lt}
 use Rattle.std.proofs.lemmas.List.{nil_from_length, length_push}
 use Rattle.std.proofs.lemmas.List.Elements.{All-push, All-head, All-tail}
 use Rattle.fax_bits.specs.Bits.{bits_of}
@@ -15,7 +14,7 @@ use Rattle.fax_pagestore.specs.declared.fault.PageFault.TheVariants.{NoEol, BadL
 use Rattle.fax_pagestore.specs.PageRows.{most_rows}
 use Rattle.fax_pagestore.specs.Pages.{PageValue}
 use Rattle.fax_pagestore.specs.PageTexts.{IsFront, IsSeparator, InARow, SpellsRow, SpellsRows, ReadSoFar, MeansRows, MeansPage}
-use Rattle.fax_pagestore.specs.PageFaults.{RunsOut, LineBegins, last_of, FailsRow, WantsLine, Stops, FailsBehindFront, FailsPage}
+use Rattle.fax_pagestore.specs.PageFaults.{RunsOut, LineBegins, last_of, FailsRow, WantsLine, Stops, FailsBehindFront, FailsPage, row_before}
 use Rattle.fax_pagestore.proofs.ReadLemmas.{HasWidth, SpellsRow-length, row_behind, row_behind-last}
 use Rattle.fax_pagestore.proofs.PageLaws.{pages_are_unique, pages_dont_fail, faults_are_unique}
 
@@ -189,14 +188,9 @@ pub Keeps-width : (width : ℕ) (tag : Bool) (kept : Elements) (rows : List Elem
 Keeps-width width tag kept rows keeps each two some = subst (HasWidth width) (keeps two some) (last_of-width width rows each)
 
 -- The row before is known from what is kept.
-pub Knows-kept : (tag : Bool) (kept : Elements) (before : Option Elements) (rows : List Elements) (n : ℕ) → n ≡ length rows → Keeps tag kept rows
-    → (n ≡ 0 → before ≡ None) → (tag ≡ false → 0 < n → before ≡ Some kept) → Knows tag before rows
-Knows-kept tag kept before rows n size keeps first later two = elim (cases_lt 0 n) [
-  | inl some ↦ later two some ∙ sym (keeps two (omega arith))
-  | inr none ↦
-      let empty : rows ≡ [] = nil_from_length rows (omega arith) in
-      first (omega arith) ∙ ap last_of (sym empty)
-]
+pub Knows-kept : (tag : Bool) (kept : Elements) (rows : List Elements) (n : ℕ) → n ≡ length rows → Keeps tag kept rows → Knows tag (row_before n kept) rows
+Knows-kept tag kept rows zero size keeps two = ap last_of (sym (nil_from_length rows (sym size)))
+Knows-kept tag kept rows (suc n) size keeps two = sym (keeps two (omega arith))
 
 -- the same rows, with another row before that is known
 pub RowsSoFar-known : (coding : Coding) (width : ℕ) (first tag : Bool) (before other : Option Elements) (old new : Place) (rows : List Elements)

@@ -1,5 +1,5 @@
 -- Where no page can be read, and why: the fault that is met first (this project's profile).
-use Rattle.std.specs.Prelude.{◌≡◌, ℕ, ◌<◌, ◌≤◌, ◌⊎◌, Bool, true, false, List, [], ◌∷◌, ◌++◌, Option, Some, None, length, replicate}
+use Rattle.std.specs.Prelude.{◌≡◌, ℕ, zero, suc, ◌<◌, ◌≤◌, ◌⊎◌, Bool, true, false, List, [], ◌∷◌, ◌++◌, Option, Some, None, length, replicate}
 use Rattle.fax_bits.specs.Bits.{bits_of}
 use Rattle.fax_runcodes.specs.Rows.{Elements}
 use Rattle.fax_mhcode.specs.LineFaults as mh
@@ -33,6 +33,11 @@ abbrev pub last_of : List Elements → Option Elements
 last_of [] = None
 last_of (row ∷ []) = Some row
 last_of (row ∷ next ∷ rows) = last_of (next ∷ rows)
+
+-- the row before a line that stands behind so many rows, of which the last is kept
+abbrev pub row_before : ℕ → Elements → Option Elements
+row_before zero kept = None
+row_before (suc n) kept = Some kept
 
 -- no row can be read behind a separator of this tag: its line cannot, or the first line has tag 0
 abbrev pub FailsRow : ℕ → Bool → Option Elements → List Bool → Type 0

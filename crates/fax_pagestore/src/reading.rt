@@ -1,5 +1,6 @@
 //! Pages read from their texts.
-ghost use Rattle.std.specs.Prelude.{◌≡◌, ◌≢◌, ◌<◌, ◌≤◌, ◌⊎◌, ◌++◌, ◌↔◌, ℕ, Bool, List, [], length, IfOk, IfErr, IfSome, IsNone, None, Some, OnOk, Ok, Err, IsTrue, true, false, ◌∷◌, replicate};
+ghost use Rattle.std.specs.Prelude.{◌≡◌, ◌≢◌, ◌<◌, ◌≤◌, ◌⊎◌, ◌++◌, ◌↔◌, ℕ, Bool, List, [], length, IfOk, IfErr, IfSome, IsSome, IsNone, None, Some, OnOk, Ok, Err, IsTrue, true, false, ◌∷◌, replicate, take};
+ghost use Rattle.fax_bits.specs.Bits.{word_bits};
 ghost use Rattle.fax_bits.specs.Reading.{Passes};
 ghost use Rattle.fax_runcodes.specs.Rows.{Elements, IsWidth};
 ghost use Rattle.fax_runcodes.specs.Widths.{elements_of};
@@ -7,13 +8,13 @@ ghost use Rattle.fax_pagestore.specs.declared.Coding.{Coding};
 ghost use Rattle.fax_pagestore.specs.declared.fault.PageFault.{PageFault};
 ghost use Rattle.fax_pagestore.specs.Pages.{PageValue};
 ghost use Rattle.fax_pagestore.specs.PageTexts.{IsTag, IsFront, IsSeparator, InARow, SpellsRow, ReadSoFar, MeansRows, MeansPage};
-ghost use Rattle.fax_pagestore.specs.PageFaults.{RunsOut, LineBegins, FailsRow, WantsLine, Stops, FailsBehindFront, FailsPage, last_of};
+ghost use Rattle.fax_pagestore.specs.PageFaults.{RunsOut, LineBegins, FailsRow, WantsLine, Stops, FailsBehindFront, FailsPage, last_of, row_before};
 
 use crate::{Coding, Format, Page, PageFault, RowStore};
 use fax_bits::BitReader;
 use fax_mhcode::read_line_1d_into;
 use fax_mrcode::read_line_2d_into;
-use fax_runcodes::{RowBuilder, RowRef, Width};
+use fax_runcodes::{RowBuilder, Width};
 use std::alloc::Global;
 use std::mem;
 
@@ -54,6 +55,7 @@ pub fn read_page<S: RowStore>(
 /// Passes the tag behind an EOL, and answers it: `true` for a one-dimensional line, `false` for a
 /// two-dimensional one (ITU-T T.4, 4.2.2). One-dimensional coding has no tag bit, and each of its lines
 /// counts as tagged 1. `None` says that the tag bit is missing.
+#[inline]
 fn pass_tag(reader: &mut BitReader, coding: Coding) -> Option<bool>
     ensures found { IfSome result (λ tag. (text : List Bool) × IsTag coding tag text × Passes reader.old reader.new text) }
     ensures none { IsNone result → (coding ≡ Coding.Mr) × (reader.old.left ≡ []) }
@@ -61,11 +63,22 @@ fn pass_tag(reader: &mut BitReader, coding: Coding) -> Option<bool>
     match coding {
         Coding::Mh => Some(true),
         Coding::Mr => {
-            let tag = reader.peek(1)?;
+            let tag = next_bit(reader)?;
             reader.skip(1);
             Some(tag == 1)
         }
     }
+}
+
+/// The next bit as a number, or `None` where none is left.
+#[inline]
+fn next_bit(reader: &BitReader) -> Option<u64>
+    ensures found { IsSome result ↔ (1 ≤ length reader.now.left) }
+    ensures bit { IfSome result (λ bit. word_bits 1 bit ≡ take 1 reader.now.left) }
+    ensures word { IfSome result (λ bit. bit < 2) }
+{
+    let bit = reader.window() >> (WINDOW_BITS - 1);
+    reader.has(1).then_some(bit)
 }
 
 /// Passes any bits up to the first EOL, the EOL and its tag, and answers the tag. `None` says that there
@@ -108,7 +121,7 @@ fn zeros_in_window(reader: &BitReader) -> u32
 
 /// Passes a separator, or tells that a line begins. Where only zeros are left, or an EOL without its
 /// tag, no return to control can follow.
-#[inline]
+#[inline(always)]
 fn pass_separator(reader: &mut BitReader, coding: Coding) -> Result<Ahead, PageFault>
     ensures separator { (tag : Bool) → result ≡ Ok (Ahead.Separator tag) → (text : List Bool) × IsSeparator coding tag text × Passes reader.old reader.new text }
     ensures line { result ≡ Ok Ahead.Line → LineBegins reader.old.left }
@@ -152,6 +165,7 @@ fn line_begins(reader: &BitReader) -> bool
 
 /// Passes the last five of the six EOLs that end a page, behind the first and its tag. Each of the six
 /// has tag 1 (ITU-T T.4, 4.1.4 and 4.2.4).
+#[cold]
 fn pass_return_to_control(
     reader: &mut BitReader,
     coding: Coding,
@@ -172,63 +186,56 @@ fn pass_return_to_control(
     if tag { Ok(()) } else { Err(PageFault::NoRtc) }
 }
 
-/// Reads a line into the builder, in place of what is there, and answers whether it could be read. A
-/// two-dimensional line is read against the row before, and without one it cannot be.
+/// Reads the line behind n rows, of which the last is kept, into the builder, in place of what is there,
+/// and answers whether it could be read. A two-dimensional line is read against the row before, and
+/// without one it cannot be.
 fn read_line(
     line: &mut RowBuilder,
     reader: &mut BitReader,
     width: Width,
     one_dimensional: bool,
-    before: &Option<RowRef<'_>>,
+    kept: &RowBuilder,
+    n: u32,
 ) -> bool
-    ensures read { IsTrue result → (text : List Bool) × SpellsRow (elements_of width) one_dimensional before.now text line.new × Passes reader.old reader.new text }
-    ensures fails { result ≡ false → FailsRow (elements_of width) one_dimensional before.now reader.old.left }
+    requires { one_dimensional ≡ false → 0 < n → IsWidth (length kept.now) }
+    ensures read { IsTrue result → (text : List Bool) × SpellsRow (elements_of width) one_dimensional (row_before n kept.now) text line.new × Passes reader.old reader.new text }
+    ensures fails { result ≡ false → FailsRow (elements_of width) one_dimensional (row_before n kept.now) reader.old.left }
 {
     line.clear();
     if one_dimensional {
         return read_line_1d_into(line, reader, width).is_ok();
     }
-    match before {
-        Some(reference) => read_line_2d_into(line, reader, reference).is_ok(),
-        None => false,
+    if n == 0 {
+        return false;
     }
+    read_line_2d_into(line, reader, &kept.lend()).is_ok()
 }
 
 /// Reads the line behind n rows and this tag into the builder, in place of what is there, passes the
-/// separator behind the line, and answers its tag.
+/// separator behind the line, and answers its tag. Where the tag is 0 the last of the rows is kept.
+#[inline(always)]
 fn read_row(
     line: &mut RowBuilder,
     reader: &mut BitReader,
     width: Width,
     coding: Coding,
     tag: bool,
-    before: &Option<RowRef<'_>>,
+    kept: &RowBuilder,
     n: u32,
 ) -> Result<bool, PageFault>
-    ensures ok { IfOk result (λ next. (text separator : List Bool) × SpellsRow (elements_of width) tag before.now text line.new × IsSeparator coding next separator
+    requires { tag ≡ false → 0 < n → IsWidth (length kept.now) }
+    ensures ok { IfOk result (λ next. (text separator : List Bool) × SpellsRow (elements_of width) tag (row_before n kept.now) text line.new × IsSeparator coding next separator
         × Passes reader.old reader.new (text ++ separator)) }
-    ensures fault { IfErr result (λ fault. (rows : List Elements) → length rows ≡ n → (tag ≡ false → before.now ≡ last_of rows) → WantsLine rows 0 reader.old.left
+    ensures fault { IfErr result (λ fault. (rows : List Elements) → length rows ≡ n → (tag ≡ false → row_before n kept.now ≡ last_of rows) → WantsLine rows 0 reader.old.left
         → Stops coding (elements_of width) rows 0 tag reader.old.left fault) }
 {
-    if !read_line(line, reader, width, tag, before) {
+    if !read_line(line, reader, width, tag, kept, n) {
         return Err(PageFault::BadLine(n));
     }
     match pass_separator(reader, coding)? {
         Ahead::Separator(next) => Ok(next),
         Ahead::Line => Err(PageFault::BadLine(n)),
     }
-}
-
-/// The row before a line behind n rows and this tag, where the tag wants it and there is one.
-fn row_before<'a>(kept: &'a RowBuilder, tag: bool, n: u32) -> Option<RowRef<'a>>
-    requires { tag ≡ false → 0 < n → IsWidth (length kept.now) }
-    ensures first { n ≡ 0 → result ≡ None }
-    ensures later { tag ≡ false → 0 < n → result ≡ Some kept.now }
-{
-    if tag || n == 0 {
-        return None;
-    }
-    Some(kept.lend())
 }
 
 /// Reads the lines of a page behind its first EOL and the tag of that, and passes the return to control.
@@ -254,8 +261,7 @@ fn read_rows<S: RowStore>(
         if n == MOST_ROWS {
             return Err(PageFault::TooManyRows);
         }
-        let before = row_before(&kept, tag, n);
-        tag = read_row(&mut line, reader, width, coding, tag, &before, n)?;
+        tag = read_row(&mut line, reader, width, coding, tag, &kept, n)?;
         if rows.push_lent(&line.lend()).is_err() {
             return Err(PageFault::NoMemory);
         }

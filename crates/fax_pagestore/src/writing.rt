@@ -77,12 +77,12 @@ fn write_filled_line(
     requires { ForSome (option_copied reference) (λ before. length row.now ≡ length before) }
     ensures { OnOk result ((line : List Bool) × WritesRow (is_none (option_copied reference.entry)) (option_copied reference.entry) row.now line × (writer.new ≡ writer.old ++ (line ++ fill least_bits line))) }
 {
-    // no fill where an EOL has as many bits by itself
-    if least_bits <= END_OF_LINE_BITS {
-        return write_line(writer, reference, row);
-    }
     let before = writer.bits();
     write_line(writer, reference, row)?;
+    // no fill where an EOL has as many bits by itself
+    if least_bits <= END_OF_LINE_BITS {
+        return Ok(());
+    }
     let line_bits = writer.bits() - before;
     writer.zeros(fill_bits(line_bits, least_bits))
 }

@@ -1,11 +1,13 @@
 //! Rows kept side by side, in two vectors for all of them.
+ghost use Rattle.std.specs.Prelude.{◌≡◌, ◌++◌, OnOk, OnErr};
+
 #[cfg(test)]
 mod tests;
 
 use super::RowStore;
 use fax_bits::NoMemory;
 use fax_runcodes::{Row, RowRef};
-use std::alloc::Global;
+use std::alloc::{AllocError, Global};
 use std::marker::Model;
 
 /// A store of rows side by side. A row that is lent to it takes no memory of its own: the two vectors
@@ -61,7 +63,7 @@ impl RowStore for PackedRows {
         self.extents.reserve(1)?;
         let start = self.places.len();
         let (changes, width) = (row.changes(), row.width());
-        self.places.extend_from_slice(changes)?;
+        append(&mut self.places, changes)?;
         self.extents.push_reserved(Extent {
             start,
             count: changes.len() as u16,
@@ -86,4 +88,16 @@ impl RowStore for PackedRows {
         } = self.extents[i as usize];
         RowRef::from_changes(&self.places[start..start + usize::from(count)], width)
     }
+}
+
+/// Adds the changing places of a row. A white row has none, and needs no copy.
+#[inline]
+fn append(places: &mut Vec<u16>, changes: &[u16]) -> Result<(), AllocError>
+    ensures items { OnOk result (places.new.items ≡ places.old.items ++ changes.now) }
+    ensures err { OnErr result (places.new.items ≡ places.old.items) }
+{
+    if changes.is_empty() {
+        return Ok(());
+    }
+    places.extend_from_slice(changes)
 }

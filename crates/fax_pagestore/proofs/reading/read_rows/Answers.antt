@@ -4,28 +4,27 @@ use Rattle.std.proofs.lemmas.Result.{err_from_is_err_and}
 use Rattle.fax_runcodes.specs.Rows.{Elements, IsWidth}
 use Rattle.fax_runcodes.specs.Widths.{elements_of}
 use Rattle.fax_mhcode.proofs.LineLaws.{IsWidth-elements}
-use Rattle.fax_pagestore.specs.PageFaults.{last_of}
+use Rattle.fax_pagestore.specs.PageFaults.{last_of, row_before}
 use Rattle.fax_pagestore.proofs.PageReading.{RowsSoFar, RowsSoFar-row, RowsSoFar-more, RowsSoFar-known, RowsSoFar-whole, Keeps-push, Keeps-width, Knows-kept, last_of-push, full_fails, row_fails, return_fails, empty_fails}
 use Rattle.fax_pagestore.proofs.reading.read_rows.Goals as goal
-use Rattle.fax_pagestore.proofs.reading.read_rows.Goals.{After-read_row, After-push_lent}
+use Rattle.fax_pagestore.proofs.reading.read_rows.Goals.{After-len-n, After-push_lent}
 use Rattle.fax_pagestore.proofs.reading.read_rows.Given.{Over}
 
 -- the rows so far, with the row before the next line
-known : (g : Over) (c : After-read_row g)
-    → RowsSoFar c.args.coding (elements_of c.args.width) c.args.first c.args.reader.now c.loop-width.tag c.row_before-before.result c.loop-width.reader (g.S.RowStore.rows c.loop-width.rows)
+known : (g : Over) (c : After-len-n g)
+    → RowsSoFar c.args.coding (elements_of c.args.width) c.args.first c.args.reader.now c.loop-width.tag (row_before c.len-n.result c.loop-width.kept) c.loop-width.reader (g.S.RowStore.rows c.loop-width.rows)
 known g c =
-    RowsSoFar-known c.args.coding (elements_of c.args.width) c.args.first c.loop-width.tag (last_of (g.S.RowStore.rows c.loop-width.rows)) c.row_before-before.result c.args.reader.now c.loop-width.reader
-    (g.S.RowStore.rows c.loop-width.rows) c.loop-width.invariant.0
-    (Knows-kept c.loop-width.tag c.loop-width.kept c.row_before-before.result (g.S.RowStore.rows c.loop-width.rows) c.len-n.result c.len-n.ensures c.loop-width.invariant.1
-    c.row_before-before.ensures.first c.row_before-before.ensures.later)
+    RowsSoFar-known c.args.coding (elements_of c.args.width) c.args.first c.loop-width.tag (last_of (g.S.RowStore.rows c.loop-width.rows)) (row_before c.len-n.result c.loop-width.kept) c.args.reader.now
+    c.loop-width.reader (g.S.RowStore.rows c.loop-width.rows) c.loop-width.invariant.0
+    (Knows-kept c.loop-width.tag c.loop-width.kept (g.S.RowStore.rows c.loop-width.rows) c.len-n.result c.len-n.ensures c.loop-width.invariant.1)
 
 pub returns-then-n-eq-MOST_ROWS-clause-fault : goal.returns-then-n-eq-MOST_ROWS-clause-fault
 returns-then-n-eq-MOST_ROWS-clause-fault g c =
     λ _. full_fails c.args.coding (elements_of c.args.width) c.args.first c.loop-width.tag (last_of (g.S.RowStore.rows c.loop-width.rows)) c.args.reader.now c.loop-width.reader (g.S.RowStore.rows c.loop-width.rows)
     c.loop-width.invariant.0 (c.line_begins.ensures.0 c.loop-width-test.true) (sym c.len-n.ensures ∙ c.if-n-eq-MOST_ROWS.true)
 
-pub row_before-before-requires : goal.row_before-before-requires
-row_before-before-requires g c =
+pub read_row-requires : goal.read_row-requires
+read_row-requires g c =
     λ two some. subst IsWidth
     (sym (Keeps-width (elements_of c.args.width) c.loop-width.tag c.loop-width.kept (g.S.RowStore.rows c.loop-width.rows) c.loop-width.invariant.1 c.loop-width.invariant.0.each two (omega (arith, c.len-n.ensures, some))))
     (IsWidth-elements c.args.width)
@@ -34,16 +33,16 @@ pub returns-in_err-tag-clause-fault : goal.returns-in_err-tag-clause-fault
 returns-in_err-tag-clause-fault g c =
     let p = err_from_is_err_and c.from_residual-in_err-tag.result c.from_residual-in_err-tag.ensures.1 in
     rw (p.1, p.2)
-    (λ _. row_fails c.args.coding (elements_of c.args.width) c.args.first c.loop-width.tag c.row_before-before.result c.args.reader.now c.loop-width.reader (g.S.RowStore.rows c.loop-width.rows)
-    c.len-n.result c.in_err-tag.field-0.0 (known g (goal.at.returns-in_err-tag-clause-fault g c).After-read_row) (c.line_begins.ensures.0 c.loop-width-test.true)
+    (λ _. row_fails c.args.coding (elements_of c.args.width) c.args.first c.loop-width.tag (row_before c.len-n.result c.loop-width.kept) c.args.reader.now c.loop-width.reader (g.S.RowStore.rows c.loop-width.rows)
+    c.len-n.result c.in_err-tag.field-0.0 (known g (goal.at.returns-in_err-tag-clause-fault g c).After-len-n) (c.line_begins.ensures.0 c.loop-width-test.true)
     (omega (arith, c.len-n.ensures, c.if-n-eq-MOST_ROWS.false)) c.len-n.ensures c.in_err-tag.ensures.fault)
 
 pub lend-requires : goal.lend-requires
 lend-requires g c =
     let read = c.in_ok-tag.ensures.ok in
     subst IsWidth
-    (sym (RowsSoFar-row c.args.coding (elements_of c.args.width) c.args.first c.loop-width.tag c.row_before-before.result c.args.reader.now c.loop-width.reader (g.S.RowStore.rows c.loop-width.rows)
-    c.read_row.new.line read.0 (known g (goal.at.lend-requires g c).After-read_row) read.2))
+    (sym (RowsSoFar-row c.args.coding (elements_of c.args.width) c.args.first c.loop-width.tag (row_before c.len-n.result c.loop-width.kept) c.args.reader.now c.loop-width.reader (g.S.RowStore.rows c.loop-width.rows)
+    c.read_row.new.line read.0 (known g (goal.at.lend-requires g c).After-len-n) read.2))
     (IsWidth-elements c.args.width)
 
 -- what is ensured where the result is no `Err`
@@ -57,19 +56,19 @@ pushed g c no_err = where_ok c.push_lent.result no_err c.push_lent.ensures.pushe
 
 -- one row more
 more : (g : Over) (c : After-push_lent g) → false ≡ is_err c.push_lent.result
-    → RowsSoFar c.args.coding (elements_of c.args.width) c.args.first c.args.reader.now c.loop-width.tag c.row_before-before.result c.loop-width.reader (g.S.RowStore.rows c.loop-width.rows)
+    → RowsSoFar c.args.coding (elements_of c.args.width) c.args.first c.args.reader.now c.loop-width.tag (row_before c.len-n.result c.loop-width.kept) c.loop-width.reader (g.S.RowStore.rows c.loop-width.rows)
     → RowsSoFar c.args.coding (elements_of c.args.width) c.args.first c.args.reader.now c.in_ok-tag.tag (last_of (g.S.RowStore.rows c.push_lent.new.self)) c.read_row.new.reader (g.S.RowStore.rows c.push_lent.new.self)
 more g c no_err so_far =
     let read = c.in_ok-tag.ensures.ok in
     rw (pushed g c no_err)
-    (RowsSoFar-more c.args.coding (elements_of c.args.width) c.args.first c.loop-width.tag c.in_ok-tag.tag c.row_before-before.result
+    (RowsSoFar-more c.args.coding (elements_of c.args.width) c.args.first c.loop-width.tag c.in_ok-tag.tag (row_before c.len-n.result c.loop-width.kept)
     (last_of (g.S.RowStore.rows c.loop-width.rows ++ c.read_row.new.line ∷ [])) c.args.reader.now c.loop-width.reader c.read_row.new.reader
     (g.S.RowStore.rows c.loop-width.rows) c.read_row.new.line read.0 read.1 so_far (omega (arith, c.len-n.ensures, c.if-n-eq-MOST_ROWS.false)) read.2 read.3 read.4
     (λ two. last_of-push (g.S.RowStore.rows c.loop-width.rows) c.read_row.new.line))
 
 pub loop-width-preserved-then-not-tag : goal.loop-width-preserved-then-not-tag
 loop-width-preserved-then-not-tag g c =
-    let so_far = known g (goal.at.loop-width-preserved-then-not-tag g c).After-read_row in
+    let so_far = known g (goal.at.loop-width-preserved-then-not-tag g c).After-len-n in
     let at = (goal.at.loop-width-preserved-then-not-tag g c).After-push_lent in (
       more g at c.if-is_err.ensures.value so_far,
       rw (pushed g at c.if-is_err.ensures.value)
@@ -79,7 +78,7 @@ loop-width-preserved-then-not-tag g c =
 pub loop-width-preserved : goal.loop-width-preserved
 loop-width-preserved g c =
     let at = (goal.at.loop-width-preserved g c).After-push_lent in
-    let so_far = known g (goal.at.loop-width-preserved g c).After-read_row in
+    let so_far = known g (goal.at.loop-width-preserved g c).After-len-n in
     let one : c.in_ok-tag.tag ≡ true = cc in
     (more g at c.if-is_err.ensures.value so_far, λ two. cc)
 

@@ -11,12 +11,11 @@ returns c =
       line.0,
       line.1,
       filled_line c.args.least_bits c.bits-before.result c.bits.result c.fill_bits.result c.args.writer.now line.0
-          c.write_line-2.new.writer c.zeros.new.self c.bits-before.ensures line.2 c.bits.ensures c.fill_bits.ensures zeros,
+          c.write_line.new.writer c.zeros.new.self c.bits-before.ensures line.2 c.bits.ensures c.fill_bits.ensures zeros,
     ))
     c.zeros.ensures.ok
 
 pub returns-then-least_bits-le-END_OF_LINE_BITS : goal.returns-then-least_bits-le-END_OF_LINE_BITS
 returns-then-least_bits-le-END_OF_LINE_BITS c =
-    on_ok_weaker c.write_line.result
-    (λ line. (line.0, line.1, no_fill c.args.least_bits c.args.writer.now line.0 c.write_line.new.writer (omega arith) line.2))
-    c.write_line.ensures
+    let line = c.in_ok-write_line.ensures in
+    (line.0, line.1, no_fill c.args.least_bits c.args.writer.now line.0 c.write_line.new.writer (omega arith) line.2)

@@ -23,7 +23,7 @@ pub invariant_of-self-2 : goal.invariant_of-self-2
 invariant_of-self-2 c =
     let at = (goal.at.invariant_of-self-2 c).After-push_reserved in
     let few : vec_len c.push_reserved.new.self < 4294967296 = omega (arith, c.push_reserved.ensures.len, c.reserve.ensures.len, c.len.ensures, c.if-len.false) in
-    rw (c.push_reserved.ensures.items, c.reserve.ensures.items, c.in_ok-extend_from_slice.ensures.items) (
+    rw (c.push_reserved.ensures.items, c.reserve.ensures.items, c.in_ok-append.ensures.items) (
       HasExtents-push c.self.inside.places.items c.changes-changes.result.now (length c.args.row.now) c.self.inside.extents.items (extent at) (is_new at)
           c.changes-changes.ensures.rising (rw (← c.width-width.ensures.len) c.width-width.ensures.is_width) c.self.invariant.0,
       few,
@@ -32,6 +32,6 @@ invariant_of-self-2 c =
 pub returns-clause-pushed : goal.returns-clause-pushed
 returns-clause-pushed c =
     let at = (goal.at.returns-clause-pushed c).After-push_reserved in
-    rw (c.push_reserved.ensures.items, c.reserve.ensures.items, c.in_ok-extend_from_slice.ensures.items, ← c.self.view_is)
+    rw (c.push_reserved.ensures.items, c.reserve.ensures.items, c.in_ok-append.ensures.items, ← c.self.view_is)
     (rows_of-push c.self.inside.places.items c.changes-changes.result.now (length c.args.row.now) c.self.inside.extents.items (extent at) c.args.row.now (is_new at)
     c.changes-changes.ensures.painted c.self.invariant.0)
