@@ -174,7 +174,7 @@ impl Model for RoomyWriter {
 
 impl RoomyWriter {
     /// Adds the n bits of a word, at most 32, the most significant first. It takes no memory.
-    #[inline]
+    #[inline(always)]
     pub fn put(&mut self, word: u32, n: u32)
         requires few { n ≤ 32 }
         requires word { word < 2 ^ n }

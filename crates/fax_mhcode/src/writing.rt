@@ -32,7 +32,7 @@ pub fn write_lent_line_1d(writer: &mut BitWriter, row: &RowRef<'_>) -> Result<()
 
 /// Writes the runs of the row of such changing places: each reaches from one of them to the next. No run
 /// takes more than 29 bits. It takes no memory.
-#[inline]
+#[inline(always)]
 fn put_runs(writer: &mut RoomyWriter, changes: &[u16], width: u16)
     requires rising { AreRising 0 changes.now width }
     requires is_width { IsWidth width }

@@ -1,7 +1,7 @@
 -- A two-dimensional line that is being written: steps so far.
 use Rattle.std.proofs.Common.{◌≡◌, ℕ, ◌+◌, ◌-◌, ◌*◌, ◌<◌, ◌≤◌, Bool, List, [], ◌∷◌, ◌++◌, length, max, get_or, refl, sym, ◌∙◌, ap, subst, arith, inl, inr, ◌⊎◌, append_assoc, append-nil}
 use Rattle.std.proofs.lemmas.Bool.{cases_eq, cases_lt}
-use Rattle.std.proofs.lemmas.List.{get_or_default, get_or_past}
+use Rattle.std.proofs.lemmas.List.{get_or_past}
 use Rattle.fax_runcodes.specs.declared.Colour.{Colour}
 use Rattle.fax_runcodes.specs.declared.Colour.TheVariants.{White, Black}
 use Rattle.fax_runcodes.specs.Rows.{Elements, other, colour_before}
@@ -66,24 +66,17 @@ other-apart Black e = cc
 -- to the first place that doesn't lie left of `from`
 IsReferenceIndex-ahead : (ps : List ℕ) (end from : ℕ) (colour : Colour) (index ahead : ℕ) → IsReferenceIndex ps end from colour index
     → colour_after_changes ahead ≡ colour_after_changes index
-    → ((k : ℕ) → index ≤ k → k < ahead → colour_after_changes k ≡ colour_after_changes index → get_or ps k from < from) → IsReferenceIndex ps end from colour ahead
+    → ((k : ℕ) → index ≤ k → k < ahead → colour_after_changes k ≡ colour_after_changes index → get_or ps k end < from) → IsReferenceIndex ps end from colour ahead
 IsReferenceIndex-ahead ps end from colour index ahead at turns passed = record {
   turns = turns ∙ at.turns;
-  below = λ k less same. elim (cases_lt k index) [
-    | inl before ↦ at.below k before same
-    | inr later ↦
-        let left : get_or ps k from < from = passed k later less (same ∙ sym at.turns) in
-        elim (cases_lt k (length ps)) [
-          | inl there ↦ omega (arith, get_or_default ps k end from there)
-          | inr past ↦ absurd (omega (arith, get_or_past ps k from past))
-        ]
-  ];
+  below = λ k less same. elim (cases_lt k index) [ inl before ↦ at.below k before same | inr later ↦ passed k later less (same ∙ sym at.turns) ];
 }
 
-place-ahead : (ps : List ℕ) (end from index : ℕ) → from ≤ end → from ≤ get_or ps index from → from ≤ get_or ps index end
-place-ahead ps end from index le here = elim (cases_lt index (length ps)) [
-  | inl there ↦ omega (arith, get_or_default ps index end from there)
-  | inr past ↦ omega (arith, get_or_past ps index end past)
+-- a place left of one that is not past the end stands in the list
+pub place_inside : (ps : List ℕ) (index end from : ℕ) → get_or ps index end < from → from ≤ end → index < length ps
+place_inside ps index end from left le = elim (cases_lt index (length ps)) [
+  | inl there ↦ there
+  | inr past ↦ absurd (omega (arith, get_or_past ps index end past))
 ]
 
 -- further right, at the same colour
@@ -172,6 +165,12 @@ StepsSoFar-none {reference} {row} {changes} {above} {before} lines = record {
   written = IsWrittenTo-none reference row before;
 }
 
+-- the colour is that behind so many changes
+pub StepsSoFar-turned : {reference row : Elements} {changes above : List ℕ} {before after : List Bool} {from : ℕ} {colour : Colour} {index over : ℕ}
+    → StepsSoFar reference row changes above before after from colour index over → StepsSoFar reference row changes above before after from (colour_after_changes index) index over
+StepsSoFar-turned {reference} {row} {changes} {above} {before} {after} {from} {colour} {index} {over} so =
+    subst (λ c. StepsSoFar reference row changes above before after from c index over) (sym so.turns) so
+
 pub StepsSoFar-done : {reference row : Elements} {changes above : List ℕ} {before after : List Bool} {from : ℕ} {colour : Colour} {index over : ℕ}
     → StepsSoFar reference row changes above before after from colour index over → length row < from → (text : List Bool) × WritesLine reference row text × (after ≡ before ++ text)
 StepsSoFar-done {reference} {row} {changes} {above} {before} {after} {from} {colour} {index} {over} so past = WritesLine-from reference row before after from so.lines.same_width (omega (arith, so.inside)) so.written
@@ -224,7 +223,7 @@ IsAhead-at reference row changes above before after from colour index over a b b
 pub IsAhead-from : {reference row : Elements} {changes above : List ℕ} {before after : List Bool} {from : ℕ} {colour : Colour} {index over ahead width a b b' : ℕ}
     → StepsSoFar reference row changes above before after from colour index over → width ≡ length row → from ≤ width
     → ahead ≤ max over (length above + 1) → colour_after_changes ahead ≡ colour_after_changes over
-    → ((k : ℕ) → over ≤ k → k < ahead → colour_after_changes k ≡ colour_after_changes over → get_or above k from < from) → from ≤ get_or above ahead from
+    → ((k : ℕ) → over ≤ k → k < ahead → colour_after_changes k ≡ colour_after_changes over → get_or above k width < from) → from ≤ b
     → a ≡ get_or changes index width → b ≡ get_or above ahead width → b' ≡ get_or above (ahead + 1) width
     → IsAhead reference row changes above before after from colour index ahead a b b'
 IsAhead-from {reference} {row} {changes} {above} {before} {after} {from} {colour} {index} {over} {ahead} {width} {a} {b} {b'} so ew inside near turns passed found ea eb eb' =
@@ -233,12 +232,13 @@ IsAhead-from {reference} {row} {changes} {above} {before} {after} {from} {colour
       inside = so.inside;
       turns = so.turns;
       at_row = so.at_row;
-      at_reference = IsReferenceIndex-ahead above (length row) from colour over ahead so.at_reference turns passed;
+      at_reference = IsReferenceIndex-ahead above (length row) from colour over ahead so.at_reference turns (λ k le less same. subst (λ n. get_or above k n < from) ew (passed k le less same));
       few = so.few;
       few_above = omega (arith, so.few_above);
       written = so.written;
     } in
-    IsAhead-at reference row changes above before after from colour index ahead a b b' next (omega arith) (place-ahead above (length row) from ahead (omega arith) found)
+    let first : b ≡ get_or above ahead (length row) = eb ∙ ap (get_or above ahead) ew in
+    IsAhead-at reference row changes above before after from colour index ahead a b b' next (omega arith) (omega (arith, found, first))
     (ea ∙ ap (get_or changes index) ew) (eb ∙ ap (get_or above ahead) ew) (eb' ∙ ap (get_or above (ahead + 1)) ew)
 
 -- this is a2, and this a1

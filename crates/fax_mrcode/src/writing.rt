@@ -9,7 +9,6 @@ ghost use Rattle.fax_mrcode.specs.Written.{WritesLine};
 #[cfg(test)]
 mod tests;
 
-use crate::places::place_at;
 use crate::{Mode, Offset};
 use fax_bits::{BitWriter, NoMemory, RoomyWriter};
 use fax_runcodes::{Colour, Row, RowRef, put_two_runs};
@@ -46,69 +45,100 @@ pub fn write_lent_line_2d(
 /// Writes the coding steps of a line, each of which takes at most 57 bits and goes on by one element at
 /// least. The changing places of both rows are walked from left to right, those of the reference with one
 /// step back where a1 lies left of b1. It takes no memory.
-#[inline]
+#[inline(always)]
 fn put_steps(writer: &mut RoomyWriter, reference: &RowRef<'_>, row: &RowRef<'_>)
     requires same_width { length row.now ≡ length reference.now }
     requires room { 57 * (length row.now + 1) ≤ writer.old.room }
     ensures { (text : List Bool) × WritesLine reference.now row.now text × (writer.new.bits ≡ writer.old.bits ++ text) }
 {
-    let width = row.width();
+    let width = row.width() as u32;
     let (changes, above) = (row.changes(), reference.changes());
-    // a0 + 1 and the colour at a0, and where a1 and b1 stand among the changing places
-    let (mut from, mut colour) = (0, Colour::White);
+    // a0 + 1, and where a1 and b1 stand among the changing places
+    let mut from = 0;
     let (mut index, mut index_above) = (0, 0);
     while from <= width {
-        index_above = first_from(above, index_above, from);
+        let (over, b1) = first_from(above, index_above, from, width);
         let a1 = place_at(changes, index, width);
-        let b1 = place_at(above, index_above, width);
-        let b2 = place_at(above, index_above + 1, width);
+        let b2 = place_at(above, over + 1, width);
         if b2 < a1 {
             put_mode(writer, Mode::Pass);
             from = b2 + 1;
+            index_above = over;
         } else if let Some(offset) = offset_of(a1, b1) {
             put_mode(writer, Mode::Vertical(offset));
-            index_above = if a1 < b1 && index_above > 0 {
-                index_above - 1
+            index_above = if a1 < b1 && over > 0 {
+                over - 1
             } else {
-                index_above + 1
+                over + 1
             };
             from = a1 + 1;
             index += 1;
-            colour = colour.other();
         } else {
             let a2 = place_at(changes, index + 1, width);
             let (word, bits) = word_of(Mode::Horizontal);
-            let first = (a1 - from.saturating_sub(1)) as u32;
-            put_two_runs(writer, word, bits, colour, first, (a2 - a1) as u32);
+            let first = a1 - from.saturating_sub(1);
+            put_two_runs(writer, word, bits, colour_behind(index), first, a2 - a1);
             from = a2 + 1;
             index += 2;
+            index_above = over;
         }
     }
 }
 
 /// The index of the first changing place, from an index on, that changes to the same colour as the one
-/// there and doesn't lie left of a place. Every other index changes to the same colour.
+/// there and doesn't lie left of a place, and that changing place; the width stands for those past the
+/// last. Every other index changes to the same colour.
 #[inline]
-fn first_from(changes: &[u16], mut index: usize, from: u16) -> usize
-    ensures later { index ≤ result }
-    ensures near { result ≤ max index (length changes.now + 1) }
-    ensures turns { colour_after_changes result ≡ colour_after_changes index }
-    ensures passed { (k : ℕ) → index ≤ k → k < result → colour_after_changes k ≡ colour_after_changes index → slice_index_or changes.now k from < from }
-    ensures found { from ≤ slice_index_or changes.now result from }
+fn first_from(changes: &[u16], mut index: usize, from: u32, width: u32) -> (usize, u32)
+    requires { from ≤ width }
+    ensures later { index ≤ result.0 }
+    ensures near { result.0 ≤ max index (length changes.now + 1) }
+    ensures turns { colour_after_changes result.0 ≡ colour_after_changes index }
+    ensures passed { (k : ℕ) → index ≤ k → k < result.0 → colour_after_changes k ≡ colour_after_changes index → slice_index_or changes.now k width < from }
+    ensures place { result.1 ≡ slice_index_or changes.now result.0 width }
+    ensures found { from ≤ result.1 }
 {
-    while index < changes.len() && changes[index] < from {
+    let mut place = place_at(changes, index, width);
+    while place < from {
         index += 2;
+        place = place_at(changes, index, width);
     }
-    index
+    (index, place)
+}
+
+/// The changing place of an index, or the width where there is none.
+#[inline]
+fn place_at(changes: &[u16], index: usize, width: u32) -> u32
+    ensures { result ≡ slice_index_or changes.now index width }
+{
+    if index < changes.len() {
+        changes[index] as u32
+    } else {
+        width
+    }
+}
+
+/// The colour behind so many changes, white first.
+#[inline]
+fn colour_behind(changes: usize) -> Colour
+    ensures { result ≡ colour_after_changes changes }
+{
+    if changes % 2 == 0 {
+        Colour::White
+    } else {
+        Colour::Black
+    }
 }
 
 /// How far a1 lies from b1, where it is no more than three elements.
 #[inline]
-fn offset_of(a1: u16, b1: u16) -> Option<Offset>
+fn offset_of(a1: u32, b1: u32) -> Option<Offset>
+    requires a1 { a1 ≤ 2432 }
+    requires b1 { b1 ≤ 2432 }
     ensures some { IfSome result (λ offset. IsAt offset a1 b1) }
     ensures none { IsNone result → (offset : Offset) → IsAt offset a1 b1 → ⊥ }
 {
-    match i32::from(a1) - i32::from(b1) {
+    match a1 as i32 - b1 as i32 {
         -3 => Some(Offset::Left3),
         -2 => Some(Offset::Left2),
         -1 => Some(Offset::Left1),
@@ -121,7 +151,7 @@ fn offset_of(a1: u16, b1: u16) -> Option<Offset>
 }
 
 /// Writes the word of a mode. It takes no memory.
-#[inline]
+#[inline(always)]
 fn put_mode(writer: &mut RoomyWriter, mode: Mode)
     requires { 7 ≤ writer.old.room }
     ensures bits { writer.new.bits ≡ writer.old.bits ++ mode_word mode }

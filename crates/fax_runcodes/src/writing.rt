@@ -14,7 +14,7 @@ use fax_bits::RoomyWriter;
 
 /// Writes a word of n bits, at most 5, and behind it a run of a colour and a run of the other colour,
 /// each as [`crate::write_run`] does. Together they are of at most 57 bits. It takes no memory.
-#[inline]
+#[inline(always)]
 pub fn put_two_runs(
     writer: &mut RoomyWriter,
     word: u32,
@@ -77,7 +77,7 @@ fn short_run_word(colour: Colour, n: u32) -> WrittenWord
 }
 
 /// Writes the bits of a word.
-#[inline]
+#[inline(always)]
 fn put_word(writer: &mut RoomyWriter, word: WrittenWord)
     requires few { word.bits ≤ 32 }
     requires below { word.word < 2 ^ word.bits }

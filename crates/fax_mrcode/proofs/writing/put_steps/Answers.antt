@@ -1,8 +1,9 @@
 use Rattle.std.proofs.Common.{◌≡◌, ℕ, ◌+◌, ◌-◌, ◌<◌, ◌≤◌, ◌⊎◌, inl, inr, get_or, arith, refl}
+use Rattle.fax_runcodes.specs.Painted.{colour_after_changes}
 use Rattle.fax_mhcode.proofs.WriteLemmas.{most_elements}
-use Rattle.fax_mrcode.proofs.WriteLemmas.{AreLines-from, IsAhead, IsAhead-from, IsSecond-from, StepsSoFar-none, StepsSoFar-pass, StepsSoFar-vertical, StepsSoFar-horizontal, StepsSoFar-done}
+use Rattle.fax_mrcode.proofs.WriteLemmas.{AreLines-from, IsAhead, IsAhead-from, IsSecond-from, StepsSoFar-none, StepsSoFar-pass, StepsSoFar-vertical, StepsSoFar-horizontal, StepsSoFar-done, StepsSoFar-turned}
 use Rattle.fax_mrcode.proofs.writing.put_steps.Goals as goal
-use Rattle.fax_mrcode.proofs.writing.put_steps.Goals.{After-place_at-b1, then-a1-b1+then-index_above-gt0, else-a1-b1, else-a1-b1-via-then-a1-b1+else-index_above-gt0, else-a1-b1-via-else-a1-b1}
+use Rattle.fax_mrcode.proofs.writing.put_steps.Goals.{After-place_at-a1, then-a1-b1+then-over-gt0, else-a1-b1, else-a1-b1-via-then-a1-b1+else-over-gt0, else-a1-b1-via-else-a1-b1}
 
 pub loop-from-init : goal.loop-from-init
 loop-from-init c =
@@ -15,23 +16,23 @@ loop-from-init c =
 
 -- ---- the places of a step
 
-ahead : (c : After-place_at-b1) (b' : ℕ) → b' ≡ get_or c.changes-above.result.now (c.first_from-index_above.result + 1) c.width-width.result
+ahead : (c : After-place_at-a1) (b' : ℕ) → b' ≡ get_or c.changes-above.result.now (c.first_from-over.result.0 + 1) c.width-width.result
     → IsAhead c.args.reference.now c.args.row.now c.changes-changes.result.now c.changes-above.result.now c.args.writer.now.bits c.loop-from.writer.bits
-    c.loop-from.from c.loop-from.colour c.loop-from.index c.first_from-index_above.result c.place_at-a1.result c.place_at-b1.result b'
+    c.loop-from.from (colour_after_changes c.loop-from.index) c.loop-from.index c.first_from-over.result.0 c.place_at-a1.result c.first_from-over.result.1 b'
 ahead c b' e = IsAhead-from c.loop-from.invariant.so_far c.width-width.ensures.len c.loop-from-test.true
-    c.first_from-index_above.ensures.near c.first_from-index_above.ensures.turns c.first_from-index_above.ensures.passed c.first_from-index_above.ensures.found
-    c.place_at-a1.ensures c.place_at-b1.ensures e
+    c.first_from-over.ensures.near c.first_from-over.ensures.turns c.first_from-over.ensures.passed c.first_from-over.ensures.found
+    c.place_at-a1.ensures c.first_from-over.ensures.place e
 
 -- ---- pass
 
 pub loop-from-smaller-then-b2-a1 : goal.loop-from-smaller-then-b2-a1
 loop-from-smaller-then-b2-a1 c =
-    let at = ahead (goal.at.loop-from-smaller-then-b2-a1 c).After-place_at-b1 c.place_at-b2.result c.place_at-b2.ensures in
+    let at = ahead (goal.at.loop-from-smaller-then-b2-a1 c).After-place_at-a1 c.place_at-b2.result c.place_at-b2.ensures in
     omega (arith, at.b1_low, at.b2_low)
 
 pub loop-from-preserved-then-b2-a1 : goal.loop-from-preserved-then-b2-a1
 loop-from-preserved-then-b2-a1 c =
-    let at = ahead (goal.at.loop-from-preserved-then-b2-a1 c).After-place_at-b1 c.place_at-b2.result c.place_at-b2.ensures in
+    let at = ahead (goal.at.loop-from-preserved-then-b2-a1 c).After-place_at-a1 c.place_at-b2.result c.place_at-b2.ensures in
     record {
       so_far = StepsSoFar-pass at c.if-b2-a1.true c.put_mode.ensures.bits;
       room = omega (arith, c.loop-from.invariant.room, c.put_mode.ensures.room, at.b1_low, at.b2_low, at.b2_high, c.width-width.ensures.len);
@@ -39,24 +40,34 @@ loop-from-preserved-then-b2-a1 c =
 
 -- ---- vertical
 
+pub offset_of-requires-clause-a1 : goal.offset_of-requires-clause-a1
+offset_of-requires-clause-a1 c =
+    let at = ahead (goal.at.offset_of-requires-clause-a1 c).After-place_at-a1 c.place_at-b2.result c.place_at-b2.ensures in
+    omega (arith, at.a1_high, at.so_far.lines.few)
+
+pub offset_of-requires-clause-b1 : goal.offset_of-requires-clause-b1
+offset_of-requires-clause-b1 c =
+    let at = ahead (goal.at.offset_of-requires-clause-b1 c).After-place_at-a1 c.place_at-b2.result c.place_at-b2.ensures in
+    omega (arith, at.b2_low, at.b2_high, at.so_far.lines.few)
+
 pub overflow_add-from-in-Some : goal.overflow_add-from-in-Some
 overflow_add-from-in-Some c =
-    let at = ahead (goal.at.overflow_add-from-in-Some c).After-place_at-b1 c.place_at-b2.result c.place_at-b2.ensures in
+    let at = ahead (goal.at.overflow_add-from-in-Some c).After-place_at-a1 c.place_at-b2.result c.place_at-b2.ensures in
     omega (arith, at.a1_high, at.so_far.lines.few)
 
 pub loop-from-preserved-in-Some : goal.loop-from-preserved-in-Some
 loop-from-preserved-in-Some c =
-    let at = ahead (goal.at.loop-from-preserved-in-Some c).After-place_at-b1 c.place_at-b2.result c.place_at-b2.ensures in
+    let at = ahead (goal.at.loop-from-preserved-in-Some c).After-place_at-a1 c.place_at-b2.result c.place_at-b2.ensures in
     let a : ℕ = c.place_at-a1.result in
-    let b : ℕ = c.place_at-b1.result in
-    let over : ℕ = c.first_from-index_above.result in
+    let b : ℕ = c.first_from-over.result.1 in
+    let over : ℕ = c.first_from-over.result.0 in
     let moved : (c.if-a1-b1.index_above ≡ over - 1) × (a < b) × (0 < over) ⊎ (c.if-a1-b1.index_above ≡ over + 1) × ((over ≡ 0) ⊎ (b ≤ a)) =
     elim c.if-a1-b1.branch [
-      | then-a1-b1+then-index_above-gt0 w ↦ inl (w.index_above-is, w.if-a1-b1.true, w.if-index_above-gt0.true)
-      | else-a1-b1 w ↦ elim w.else-a1-b1.branch [ else-a1-b1-via-then-a1-b1+else-index_above-gt0 v ↦ inr (w.index_above-is, inl (omega arith)) | else-a1-b1-via-else-a1-b1 v ↦ inr (w.index_above-is, inr v.if-a1-b1.false) ]
+      | then-a1-b1+then-over-gt0 w ↦ inl (w.index_above-is, w.if-a1-b1.true, w.if-over-gt0.true)
+      | else-a1-b1 w ↦ elim w.else-a1-b1.branch [ else-a1-b1-via-then-a1-b1+else-over-gt0 v ↦ inr (w.index_above-is, inl (omega arith)) | else-a1-b1-via-else-a1-b1 v ↦ inr (w.index_above-is, inr v.if-a1-b1.false) ]
     ] in
     record {
-      so_far = rw c.other-colour.ensures (StepsSoFar-vertical at c.in-Some.offset c.if-b2-a1.false c.in-Some.ensures.some moved c.put_mode-in-Some.ensures.bits);
+      so_far = StepsSoFar-turned (StepsSoFar-vertical at c.in-Some.offset c.if-b2-a1.false c.in-Some.ensures.some moved c.put_mode-in-Some.ensures.bits);
       room = omega (arith, c.loop-from.invariant.room, c.put_mode-in-Some.ensures.room, at.a1_low, at.a1_high, c.width-width.ensures.len);
     }
 
@@ -64,38 +75,38 @@ loop-from-preserved-in-Some c =
 
 pub put_two_runs-requires-clause-first : goal.put_two_runs-requires-clause-first
 put_two_runs-requires-clause-first c =
-    let at = ahead (goal.at.put_two_runs-requires-clause-first c).After-place_at-b1 c.place_at-b2.result c.place_at-b2.ensures in
+    let at = ahead (goal.at.put_two_runs-requires-clause-first c).After-place_at-a1 c.place_at-b2.result c.place_at-b2.ensures in
     omega (arith, at.a1_high, at.so_far.lines.few)
 
 pub put_two_runs-requires-clause-second : goal.put_two_runs-requires-clause-second
 put_two_runs-requires-clause-second c =
-    let at = ahead (goal.at.put_two_runs-requires-clause-second c).After-place_at-b1 c.place_at-b2.result c.place_at-b2.ensures in
+    let at = ahead (goal.at.put_two_runs-requires-clause-second c).After-place_at-a1 c.place_at-b2.result c.place_at-b2.ensures in
     let second = IsSecond-from at c.width-width.ensures.len c.place_at-a2.ensures in
     omega (arith, second.high, at.so_far.lines.few)
 
 pub overflow_sub-a2 : goal.overflow_sub-a2
 overflow_sub-a2 c =
-    let at = ahead (goal.at.overflow_sub-a2 c).After-place_at-b1 c.place_at-b2.result c.place_at-b2.ensures in
+    let at = ahead (goal.at.overflow_sub-a2 c).After-place_at-a1 c.place_at-b2.result c.place_at-b2.ensures in
     (IsSecond-from at c.width-width.ensures.len c.place_at-a2.ensures).low
 
 pub overflow_add-from-in_default : goal.overflow_add-from-in_default
 overflow_add-from-in_default c =
-    let at = ahead (goal.at.overflow_add-from-in_default c).After-place_at-b1 c.place_at-b2.result c.place_at-b2.ensures in
+    let at = ahead (goal.at.overflow_add-from-in_default c).After-place_at-a1 c.place_at-b2.result c.place_at-b2.ensures in
     let second = IsSecond-from at c.width-width.ensures.len c.place_at-a2.ensures in
     omega (arith, second.high, at.so_far.lines.few)
 
 pub loop-from-smaller : goal.loop-from-smaller
 loop-from-smaller c =
-    let at = ahead (goal.at.loop-from-smaller c).After-place_at-b1 c.place_at-b2.result c.place_at-b2.ensures in
+    let at = ahead (goal.at.loop-from-smaller c).After-place_at-a1 c.place_at-b2.result c.place_at-b2.ensures in
     let second = IsSecond-from at c.width-width.ensures.len c.place_at-a2.ensures in
     omega (arith, at.a1_low, second.low)
 
 pub loop-from-preserved : goal.loop-from-preserved
 loop-from-preserved c =
-    let at = ahead (goal.at.loop-from-preserved c).After-place_at-b1 c.place_at-b2.result c.place_at-b2.ensures in
+    let at = ahead (goal.at.loop-from-preserved c).After-place_at-a1 c.place_at-b2.result c.place_at-b2.ensures in
     let second = IsSecond-from at c.width-width.ensures.len c.place_at-a2.ensures in
     record {
-      so_far = StepsSoFar-horizontal at second c.if-b2-a1.false (c.in_default.ensures.none refl) (rw (c.word_of-word.ensures.bits, c.saturating_sub.ensures) at c.put_two_runs.ensures.bits);
+      so_far = StepsSoFar-turned (StepsSoFar-horizontal at second c.if-b2-a1.false (c.in_default.ensures.none refl) (rw (c.word_of-word.ensures.bits, c.saturating_sub.ensures, c.colour_behind.ensures) at c.put_two_runs.ensures.bits));
       room = omega (arith, c.loop-from.invariant.room, c.put_two_runs.ensures.room, at.a1_low, second.low, second.high, c.width-width.ensures.len);
     }
 
