@@ -5,7 +5,7 @@ use Rattle.std.proofs.lemmas.List.{drop-drop, take-append-drop, drop_at, drop-ap
 use Rattle.fax_bits.specs.Bits.{word_bits, bit}
 use Rattle.fax_bits.specs.Reading.{Place, Passes, padded}
 use Rattle.fax_runcodes.proofs.Fronts.{begins, begins_rest}
-use Rattle.fax_mrcode.specs.declared.mode.Mode.TheVariants.{Horizontal, Vertical}
+use Rattle.fax_mrcode.specs.declared.mode.Mode.TheVariants.{Pass, Horizontal, Vertical}
 use Rattle.fax_mrcode.specs.declared.reading.verticals.VerticalWord.{VerticalWord}
 use Rattle.fax_mrcode.specs.declared.reading.verticals.TheConstants.{VERTICAL_WORDS, NOT_VERTICAL}
 use Rattle.fax_mrcode.specs.Modes.{mode_word}
@@ -162,6 +162,14 @@ horizontal_word = refl
 -- the word of horizontal mode begins a window
 pub horizontal_begins : (window : ℕ) → window / 2 ^ 53 ≡ 1 → word_bits 56 window ≡ mode_word Horizontal ++ word_bits 53 window
 horizontal_begins window e = word_bits-add 3 53 window ∙ ap (λ (n : ℕ). word_bits 3 n ++ word_bits 53 window) e ∙ ap (λ (b : List Bool). b ++ word_bits 53 window) horizontal_word
+
+pass_word : word_bits 4 1 ≡ mode_word Pass
+unfolding word_bits bit
+pass_word = refl
+
+-- the word of pass mode begins a window
+pub pass_begins : (window : ℕ) → window / 2 ^ 52 ≡ 1 → word_bits 56 window ≡ mode_word Pass ++ word_bits 52 window
+pass_begins window e = word_bits-add 4 52 window ∙ ap (λ (n : ℕ). word_bits 4 n ++ word_bits 52 window) e ∙ ap (λ (b : List Bool). b ++ word_bits 52 window) pass_word
 
 -- a terminating word spells its run
 pub word_spells : (colour : Colour) (w : Word) → Contains (terminating_words colour) w → SpellsRun colour w.word w.run

@@ -21,7 +21,7 @@ mod words;
 
 use crate::places::place_at;
 use crate::{Mode, Offset};
-use ahead::{Ahead, past, past_horizontal, short_run};
+use ahead::{Ahead, past, past_horizontal, past_pass, short_run};
 use fax_bits::BitReader;
 use fax_mhcode::LineFault;
 use fax_runcodes::{Colour, Row, RowBuilder, RowRef, read_run};
@@ -179,8 +179,8 @@ struct Near {
     ahead: Ahead,
 }
 
-/// Takes the step that the bits begin with, where they show all of it, it is no pass and its runs are
-/// short. `None` changes nothing.
+/// Takes the step that the bits begin with, where they show all of it and its runs are short.
+/// `None` changes nothing.
 #[inline]
 fn near_step(
     line: &mut RowBuilder,
@@ -204,7 +204,11 @@ fn near_step(
     let word = vertical_word(ahead.window);
     let bits = u32::from(word.bits);
     if bits == 0 {
-        return near_horizontal(line, ahead, changes, width, start);
+        return if ahead.window >> 53 == 0b001 {
+            near_horizontal(line, ahead, changes, width, start)
+        } else {
+            near_pass(line, ahead, changes, width, start)
+        };
     }
     if bits > ahead.left {
         return None;
@@ -219,6 +223,44 @@ fn near_step(
     Some(Near {
         start: next,
         ahead: past(ahead, bits),
+    })
+}
+
+/// Takes the step in pass mode that the bits begin with, where they show its word. `None` changes
+/// nothing.
+#[inline]
+fn near_pass(
+    line: &mut RowBuilder,
+    ahead: Ahead,
+    changes: &[u16],
+    width: u16,
+    start: Start,
+) -> Option<Near>
+    requires start { IsStart changes.now width line.old start }
+    requires within { start.from ≤ width }
+    requires rising { AreRising 0 changes.now width }
+    requires few { width ≤ 2432 }
+    requires window { ahead.window < 2 ^ 56 }
+    requires known { ahead.left ≤ 56 }
+    ensures next { IfSome result (λ near. IsStart changes.now width line.new near.start) }
+    ensures behind { IfSome result (λ near. ShowsBehind ahead.window ahead.left near.ahead.window near.ahead.left) }
+    ensures taken { IfSome result (λ near. (mode : Mode) × (text : List Bool) × FirstAre ahead.window ahead.left near.ahead.left (mode_word mode ++ text)
+        × TakesStep (painted Colour.White 0 changes.now width) width mode text line.old start line.new near.start) }
+    ensures none { IsNone result → line.new ≡ line.old }
+{
+    let Some(rest) = past_pass(ahead) else {
+        return None;
+    };
+    let at_b1 = Start {
+        index: index_of_b1(changes, start),
+        ..start
+    };
+    let Ok(next) = pass(line, changes, width, at_b1) else {
+        return None;
+    };
+    Some(Near {
+        start: next,
+        ahead: rest,
     })
 }
 
@@ -351,6 +393,7 @@ fn pass(
     ensures ok { IfOk result (λ next. TakesStep (painted Colour.White 0 changes.now width) width Mode.Pass [] line.old start line.new next) }
     ensures fault { IfErr result (λ fault. (row : Elements) (bits : List Bool) → Completes width line.old start.from start.colour row
         → StopsIn (painted Colour.White 0 changes.now width) row Mode.Pass start.from bits fault) }
+    ensures err { OnErr result (line.new ≡ line.old) }
 {
     let b2 = place_at(changes, start.index + 1, width);
     if b2 == width {

@@ -56,6 +56,20 @@ pub(super) fn past_horizontal(ahead: Ahead) -> Option<Ahead>
     Some(past(ahead, 3))
 }
 
+/// The bits behind the word of pass mode, where they begin with it.
+#[inline]
+pub(super) fn past_pass(ahead: Ahead) -> Option<Ahead>
+    requires window { ahead.window < 2 ^ 56 }
+    requires known { ahead.left ≤ 56 }
+    ensures behind { IfSome result (λ rest. ShowsBehind ahead.window ahead.left rest.window rest.left) }
+    ensures word { IfSome result (λ rest. FirstAre ahead.window ahead.left rest.left (mode_word Mode.Pass)) }
+{
+    if ahead.window >> 52 != 0b0001 || ahead.left < 4 {
+        return None;
+    }
+    Some(past(ahead, 4))
+}
+
 /// The bits behind the first n.
 #[inline]
 pub(super) fn past(ahead: Ahead, n: u32) -> Ahead
