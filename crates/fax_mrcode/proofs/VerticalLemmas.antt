@@ -8,6 +8,7 @@ use Rattle.fax_runcodes.proofs.Fronts.{begins, begins_rest}
 use Rattle.fax_mrcode.specs.declared.mode.Mode.TheVariants.{Pass, Horizontal, Vertical}
 use Rattle.fax_mrcode.specs.declared.reading.verticals.VerticalWord.{VerticalWord}
 use Rattle.fax_mrcode.specs.declared.reading.verticals.TheConstants.{VERTICAL_WORDS, NOT_VERTICAL}
+use Rattle.fax_mrcode.specs.declared.mode.Offset.TheVariants.{Zero}
 use Rattle.fax_mrcode.specs.Modes.{mode_word}
 use Rattle.fax_runcodes.specs.Rows.{Elements}
 use Rattle.fax_mrcode.specs.declared.reading.Start.{Start}
@@ -170,6 +171,14 @@ pass_word = refl
 -- the word of pass mode begins a window
 pub pass_begins : (window : ℕ) → window / 2 ^ 52 ≡ 1 → word_bits 56 window ≡ mode_word Pass ++ word_bits 52 window
 pass_begins window e = word_bits-add 4 52 window ∙ ap (λ (n : ℕ). word_bits 4 n ++ word_bits 52 window) e ∙ ap (λ (b : List Bool). b ++ word_bits 52 window) pass_word
+
+zero_word : word_bits 1 1 ≡ mode_word (Vertical Zero)
+unfolding word_bits bit
+zero_word = refl
+
+-- the word of vertical mode with a1 at b1 begins a window
+pub zero_begins : (window : ℕ) → window / 2 ^ 55 ≡ 1 → word_bits 56 window ≡ mode_word (Vertical Zero) ++ word_bits 55 window
+zero_begins window e = word_bits-add 1 55 window ∙ ap (λ (n : ℕ). word_bits 1 n ++ word_bits 55 window) e ∙ ap (λ (b : List Bool). b ++ word_bits 55 window) zero_word
 
 -- a terminating word spells its run
 pub word_spells : (colour : Colour) (w : Word) → Contains (terminating_words colour) w → SpellsRun colour w.word w.run

@@ -21,7 +21,7 @@ mod words;
 
 use crate::places::place_at;
 use crate::{Mode, Offset};
-use ahead::{Ahead, past, past_horizontal, past_pass, short_run};
+use ahead::{Ahead, past, past_horizontal, past_pass, past_zero, short_run};
 use fax_bits::BitReader;
 use fax_mhcode::LineFault;
 use fax_runcodes::{Colour, Row, RowBuilder, RowRef, read_run};
@@ -128,7 +128,7 @@ fn read_steps(
 
 /// Reads steps as far as one window shows them, and answers where the next one starts. It is the fast
 /// way: what it leaves is read step by step.
-#[inline]
+#[inline(never)]
 fn read_near_steps(
     line: &mut RowBuilder,
     reader: &mut BitReader,
@@ -201,6 +201,9 @@ fn near_step(
         × TakesStep (painted Colour.White 0 changes.now width) width mode text line.old start line.new near.start) }
     ensures none { IsNone result → line.new ≡ line.old }
 {
+    if ahead.window >> 55 == 1 {
+        return near_zero(line, ahead, changes, width, start);
+    }
     let word = vertical_word(ahead.window);
     let bits = u32::from(word.bits);
     if bits == 0 {
@@ -223,6 +226,41 @@ fn near_step(
     Some(Near {
         start: next,
         ahead: past(ahead, bits),
+    })
+}
+
+/// Takes the step with a1 at b1 that the bits begin with, where they show its word. `None` changes
+/// nothing.
+#[inline]
+fn near_zero(
+    line: &mut RowBuilder,
+    ahead: Ahead,
+    changes: &[u16],
+    width: u16,
+    start: Start,
+) -> Option<Near>
+    requires start { IsStart changes.now width line.old start }
+    requires within { start.from ≤ width }
+    requires rising { AreRising 0 changes.now width }
+    requires few { width ≤ 2432 }
+    requires window { ahead.window < 2 ^ 56 }
+    requires known { ahead.left ≤ 56 }
+    ensures next { IfSome result (λ near. IsStart changes.now width line.new near.start) }
+    ensures behind { IfSome result (λ near. ShowsBehind ahead.window ahead.left near.ahead.window near.ahead.left) }
+    ensures taken { IfSome result (λ near. (mode : Mode) × (text : List Bool) × FirstAre ahead.window ahead.left near.ahead.left (mode_word mode ++ text)
+        × TakesStep (painted Colour.White 0 changes.now width) width mode text line.old start line.new near.start) }
+    ensures none { IsNone result → line.new ≡ line.old }
+{
+    let Some(rest) = past_zero(ahead) else {
+        return None;
+    };
+    let at_b1 = Start {
+        index: index_of_b1(changes, start),
+        ..start
+    };
+    Some(Near {
+        start: vertical_zero(line, changes, width, at_b1),
+        ahead: rest,
     })
 }
 
@@ -404,6 +442,27 @@ fn pass(
         from: b2 + 1,
         ..start
     })
+}
+
+/// Vertical mode with a1 at b1: a0 moves to b1.
+#[inline]
+fn vertical_zero(line: &mut RowBuilder, changes: &[u16], width: u16, start: Start) -> Start
+    requires start { IsStart changes.now width line.old start }
+    requires b1 { IsIndexOfB1 changes.now start.colour start.from start.index }
+    requires within { start.from ≤ width }
+    requires rising { AreRising 0 changes.now width }
+    requires few { width ≤ 2432 }
+    ensures next { IsStart changes.now width line.new result }
+    ensures taken { TakesStep (painted Colour.White 0 changes.now width) width (Mode.Vertical Offset.Zero) [] line.old start line.new result }
+{
+    let b1 = place_at(changes, start.index, width);
+    line.paint(start.colour, b1 - line.len());
+    let colour = start.colour.other();
+    Start {
+        from: b1 + 1,
+        colour,
+        index: start.index + 1,
+    }
 }
 
 /// Vertical mode: a1 lies so far from b1, and a0 moves to it.
