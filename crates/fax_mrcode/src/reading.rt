@@ -1,5 +1,5 @@
 //! Two-dimensional lines, read (ITU-T T.4, 4.2).
-ghost use Rattle.std.specs.Prelude.{List, Bool, ℕ, Ok, Err, ◌⊎◌, ◌++◌, ◌+◌, ◌<◌, ◌≤◌, ◌≡◌, ◌≢◌, [], length, replicate, IfOk, IfErr, IfSome, IsNone, OnOk, OnErr, IsOk, IsTrue, ◌^◌};
+ghost use Rattle.std.specs.Prelude.{List, Bool, ℕ, Ok, Err, ◌⊎◌, ◌++◌, ◌+◌, ◌<◌, ◌≤◌, ◌≡◌, ◌≢◌, [], length, replicate, IfOk, IfErr, IfSome, IsNone, OnOk, OnErr, IsOk, IsTrue, ◌^◌, ◌/◌};
 ghost use Rattle.fax_bits.specs.Reading.{Place, Passes};
 ghost use Rattle.fax_runcodes.specs.Rows.{Elements, other};
 ghost use Rattle.fax_runcodes.specs.Painted.{painted, AreRising};
@@ -21,7 +21,7 @@ mod words;
 
 use crate::places::place_at;
 use crate::{Mode, Offset};
-use ahead::{Ahead, past, past_horizontal, past_pass, past_zero, short_run};
+use ahead::{Ahead, past, past_horizontal, past_pass, short_run};
 use fax_bits::BitReader;
 use fax_mhcode::LineFault;
 use fax_runcodes::{Colour, Row, RowBuilder, RowRef, read_run};
@@ -201,8 +201,8 @@ fn near_step(
         × TakesStep (painted Colour.White 0 changes.now width) width mode text line.old start line.new near.start) }
     ensures none { IsNone result → line.new ≡ line.old }
 {
-    if ahead.window >> 55 == 1 {
-        return near_zero(line, ahead, changes, width, start);
+    if ahead.window >> 55 == 1 && ahead.left > 0 {
+        return Some(near_zero(line, ahead, changes, width, start));
     }
     let word = vertical_word(ahead.window);
     let bits = u32::from(word.bits);
@@ -229,39 +229,30 @@ fn near_step(
     })
 }
 
-/// Takes the step with a1 at b1 that the bits begin with, where they show its word. `None` changes
-/// nothing.
+/// Takes the step with a1 at b1, whose word is a 1.
 #[inline]
-fn near_zero(
-    line: &mut RowBuilder,
-    ahead: Ahead,
-    changes: &[u16],
-    width: u16,
-    start: Start,
-) -> Option<Near>
+fn near_zero(line: &mut RowBuilder, ahead: Ahead, changes: &[u16], width: u16, start: Start) -> Near
     requires start { IsStart changes.now width line.old start }
     requires within { start.from ≤ width }
     requires rising { AreRising 0 changes.now width }
     requires few { width ≤ 2432 }
     requires window { ahead.window < 2 ^ 56 }
     requires known { ahead.left ≤ 56 }
-    ensures next { IfSome result (λ near. IsStart changes.now width line.new near.start) }
-    ensures behind { IfSome result (λ near. ShowsBehind ahead.window ahead.left near.ahead.window near.ahead.left) }
-    ensures taken { IfSome result (λ near. (mode : Mode) × (text : List Bool) × FirstAre ahead.window ahead.left near.ahead.left (mode_word mode ++ text)
-        × TakesStep (painted Colour.White 0 changes.now width) width mode text line.old start line.new near.start) }
-    ensures none { IsNone result → line.new ≡ line.old }
+    requires some { 0 < ahead.left }
+    requires zero { ahead.window / 2 ^ 55 ≡ 1 }
+    ensures next { IsStart changes.now width line.new result.start }
+    ensures behind { ShowsBehind ahead.window ahead.left result.ahead.window result.ahead.left }
+    ensures word { FirstAre ahead.window ahead.left result.ahead.left (mode_word (Mode.Vertical Offset.Zero)) }
+    ensures taken { TakesStep (painted Colour.White 0 changes.now width) width (Mode.Vertical Offset.Zero) [] line.old start line.new result.start }
 {
-    let Some(rest) = past_zero(ahead) else {
-        return None;
-    };
     let at_b1 = Start {
         index: index_of_b1(changes, start),
         ..start
     };
-    Some(Near {
+    Near {
         start: vertical_zero(line, changes, width, at_b1),
-        ahead: rest,
-    })
+        ahead: past(ahead, 1),
+    }
 }
 
 /// Takes the step in pass mode that the bits begin with, where they show its word. `None` changes

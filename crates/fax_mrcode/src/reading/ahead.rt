@@ -3,7 +3,6 @@ ghost use Rattle.std.specs.Prelude.{List, Bool, false, drop, replicate, ◌<◌,
 ghost use Rattle.fax_bits.specs.Bits.{word_bits};
 ghost use Rattle.fax_runcodes.specs.Spelling.{SpellsRun};
 ghost use Rattle.fax_mrcode.specs.declared.mode.Mode.{Mode};
-ghost use Rattle.fax_mrcode.specs.declared.mode.Offset.{Offset};
 ghost use Rattle.fax_mrcode.specs.Modes.{mode_word};
 ghost use Rattle.fax_mrcode.specs.Windows.{ShowsBehind, FirstAre};
 
@@ -55,20 +54,6 @@ pub(super) fn past_horizontal(ahead: Ahead) -> Option<Ahead>
         return None;
     }
     Some(past(ahead, 3))
-}
-
-/// The bits behind the word of vertical mode with a1 at b1, where they begin with it.
-#[inline]
-pub(super) fn past_zero(ahead: Ahead) -> Option<Ahead>
-    requires window { ahead.window < 2 ^ 56 }
-    requires known { ahead.left ≤ 56 }
-    ensures behind { IfSome result (λ rest. ShowsBehind ahead.window ahead.left rest.window rest.left) }
-    ensures word { IfSome result (λ rest. FirstAre ahead.window ahead.left rest.left (mode_word (Mode.Vertical Offset.Zero))) }
-{
-    if ahead.window >> 55 != 1 || ahead.left < 1 {
-        return None;
-    }
-    Some(past(ahead, 1))
 }
 
 /// The bits behind the word of pass mode, where they begin with it.
