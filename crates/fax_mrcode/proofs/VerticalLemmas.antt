@@ -1,26 +1,28 @@
 -- Steps in vertical mode, read from one window: the table of their words, and what a window shows.
-use Rattle.std.proofs.Common.{◌≡◌, ℕ, zero, suc, ◌+◌, ◌-◌, ◌*◌, ◌/◌, ◌^◌, ◌<◌, ◌≤◌, ◌==◌, Bool, true, false, ◌&&◌, ◌||◌, List, [], ◌∷◌, ◌++◌, length, slice_index_or, take, drop, take_at, length-drop, replicate, min, refl, sym, ◌∙◌, ap, ap₂, arith, append-nil, append_assoc, add-zero, add-suc, suc-add, inl, inr, ◌⊎◌}
+use Rattle.std.proofs.Common.{◌≡◌, ℕ, zero, suc, ◌+◌, ◌-◌, ◌*◌, ◌/◌, ◌^◌, ◌<◌, ◌≤◌, ◌==◌, Bool, true, false, ◌&&◌, ◌||◌, List, [], ◌∷◌, ◌++◌, length, slice_index_or, take, drop, take_at, Contains, zero-add, subst, length-drop, replicate, min, refl, sym, ◌∙◌, ap, ap₂, arith, append_assoc, add-zero, add-suc, suc-add, inl, inr, ◌⊎◌}
 use Rattle.std.proofs.lemmas.Bool.{and_parts, eqb-true}
 use Rattle.std.proofs.lemmas.List.{drop-drop, take-append-drop, drop_at, drop-append-le, take-append-le, length-take-le, take-take, drop-take}
 use Rattle.fax_bits.specs.Bits.{word_bits, bit}
 use Rattle.fax_bits.specs.Reading.{Place, Passes, padded}
 use Rattle.fax_runcodes.proofs.Fronts.{begins, begins_rest}
-use Rattle.fax_mrcode.specs.declared.mode.Mode.TheVariants.{Vertical}
+use Rattle.fax_mrcode.specs.declared.mode.Mode.TheVariants.{Pass, Horizontal, Vertical}
 use Rattle.fax_mrcode.specs.declared.reading.verticals.VerticalWord.{VerticalWord}
 use Rattle.fax_mrcode.specs.declared.reading.verticals.TheConstants.{VERTICAL_WORDS, NOT_VERTICAL}
+use Rattle.fax_mrcode.specs.declared.mode.Offset.TheVariants.{Zero}
 use Rattle.fax_mrcode.specs.Modes.{mode_word}
 use Rattle.fax_runcodes.specs.Rows.{Elements}
 use Rattle.fax_mrcode.specs.declared.reading.Start.{Start}
-use Rattle.fax_mrcode.specs.Starts.{StepsSoFar}
+use Rattle.std.proofs.Math.Seq.{take-add}
+use Rattle.std.proofs.lemmas.List.Elements.{All-nil}
+use Rattle.fax_runcodes.specs.declared.Colour.{Colour}
+use Rattle.fax_runcodes.specs.CodeTables.{Word, make_up_words, terminating_words}
+use Rattle.fax_runcodes.specs.Spelling.{SpellsRun}
+use Rattle.fax_mrcode.specs.declared.mode.Mode.{Mode}
+use Rattle.fax_mrcode.specs.Windows.{Shows, ShowsBehind, FirstAre}
+use Rattle.fax_mrcode.specs.Starts.{TakesStep}
 use Rattle.fax_mrcode.proofs.ModeTable.{mode_size}
 use Rattle.fax_bits.proofs.WindowLemmas.{padded-known}
 use Rattle.fax_bits.proofs.BitsLemmas.{word_bits-add, word_bits-shl, length-word_bits}
-
--- a window shows so many bits of these, whatever stands behind them
-pub record Shows (window known : ℕ) (bits : List Bool) : Type 0 where
-  pub rest : List Bool
-  pub front : word_bits 56 window ≡ take known bits ++ rest
-  pub there : known ≤ length bits
 
 -- the place n bits further on
 abbrev pub behind_place : Place → ℕ → Place
@@ -117,17 +119,77 @@ module _ (window known n : ℕ) (bits word more : List Bool) (shows : Shows wind
       ∙ ap (take n) (sym shows.front ∙ begun)
       ∙ take_at word more n size
 
-  pub Shows-next : (next : ℕ) → word_bits 56 next ≡ drop n (word_bits 56 window) ++ replicate n false → Shows next (known - n) (drop n bits)
-  Shows-next next e =
-      let long : length (take known bits) ≡ known = length-take-le known bits shows.there in
-      let parts : known ≡ n + (known - n) = omega arith in
-      let front : drop n (word_bits 56 window) ≡ take (known - n) (drop n bits) ++ shows.rest =
-      ap (drop n) shows.front ∙ drop-append-le n (take known bits) shows.rest (omega arith) ∙ ap (λ b. b ++ shows.rest) (ap (λ k. drop n (take k bits)) parts ∙ drop-take n (known - n) bits) in
-      record {
-        rest = shows.rest ++ replicate n false;
-        front = e ∙ ap (λ b. b ++ replicate n false) front ∙ append_assoc (take (known - n) (drop n bits)) shows.rest (replicate n false);
-        there = omega (arith, shows.there, length-drop n bits);
-      }
+pub Shows-next : (window known n : ℕ) (bits : List Bool) → Shows window known bits → n ≤ known → (next : ℕ) → word_bits 56 next ≡ drop n (word_bits 56 window) ++ replicate n false → Shows next (known - n) (drop n bits)
+Shows-next window known n bits shows few next e =
+    let long : length (take known bits) ≡ known = length-take-le known bits shows.there in
+    let parts : known ≡ n + (known - n) = omega arith in
+    let front : drop n (word_bits 56 window) ≡ take (known - n) (drop n bits) ++ shows.rest =
+    ap (drop n) shows.front ∙ drop-append-le n (take known bits) shows.rest (omega arith) ∙ ap (λ b. b ++ shows.rest) (ap (λ k. drop n (take k bits)) parts ∙ drop-take n (known - n) bits) in
+    record {
+      rest = shows.rest ++ replicate n false;
+      front = e ∙ ap (λ b. b ++ replicate n false) front ∙ append_assoc (take (known - n) (drop n bits)) shows.rest (replicate n false);
+      there = omega (arith, shows.there, length-drop n bits);
+    }
+
+pub ShowsBehind-next : (window known n next : ℕ) → n ≤ known → next < 2 ^ 56 → word_bits 56 next ≡ drop n (word_bits 56 window) ++ replicate n false → ShowsBehind window known next (known - n)
+ShowsBehind-next window known n next few below e =
+    let back : known - (known - n) ≡ n = omega arith in
+    record { less = omega arith; below = below; shows = λ bits s. rw back (Shows-next window known n bits s few next e) }
+
+-- the word that begins the window
+pub FirstAre-word : (window known n : ℕ) (word more : List Bool) → length word ≡ n → n ≤ known → word_bits 56 window ≡ word ++ more → FirstAre window known (known - n) word
+FirstAre-word window known n word more size few begun = λ bits s. (
+    let back : known - (known - n) ≡ n = omega arith in
+    rw back (shown_word window known n bits word more s size few begun))
+
+pub FirstAre-then : (w k w1 k1 k2 : ℕ) (s t : List Bool) → ShowsBehind w k w1 k1 → k2 ≤ k1 → FirstAre w k k1 s → FirstAre w1 k1 k2 t → FirstAre w k k2 (s ++ t)
+FirstAre-then w k w1 k1 k2 s t behind less f g = λ bits h. (
+    let sum : k - k2 ≡ (k - k1) + (k1 - k2) = omega (arith, behind.less) in
+    ap (λ (n : ℕ). take n bits) sum ∙ take-add (k - k1) (k1 - k2) bits ∙ ap₂ (λ (a b : List Bool). a ++ b) (f bits h) (g (drop (k - k1) bits) (behind.shows bits h)))
+
+pub ShowsBehind-then : (w k w1 k1 w2 k2 : ℕ) → ShowsBehind w k w1 k1 → ShowsBehind w1 k1 w2 k2 → ShowsBehind w k w2 k2
+ShowsBehind-then w k w1 k1 w2 k2 p q =
+    let sum : (k - k1) + (k1 - k2) ≡ k - k2 = omega (arith, p.less, q.less) in
+    record {
+      less = omega (arith, p.less, q.less);
+      below = q.below;
+      shows = λ bits h. subst (λ (b : List Bool). Shows w2 k2 b) (drop-drop (k1 - k2) (k - k1) bits ∙ ap (λ (n : ℕ). drop n bits) sum) (q.shows (drop (k - k1) bits) (p.shows bits h));
+    }
+
+horizontal_word : word_bits 3 1 ≡ mode_word Horizontal
+unfolding word_bits bit
+horizontal_word = refl
+
+-- the word of horizontal mode begins a window
+pub horizontal_begins : (window : ℕ) → window / 2 ^ 53 ≡ 1 → word_bits 56 window ≡ mode_word Horizontal ++ word_bits 53 window
+horizontal_begins window e = word_bits-add 3 53 window ∙ ap (λ (n : ℕ). word_bits 3 n ++ word_bits 53 window) e ∙ ap (λ (b : List Bool). b ++ word_bits 53 window) horizontal_word
+
+pass_word : word_bits 4 1 ≡ mode_word Pass
+unfolding word_bits bit
+pass_word = refl
+
+-- the word of pass mode begins a window
+pub pass_begins : (window : ℕ) → window / 2 ^ 52 ≡ 1 → word_bits 56 window ≡ mode_word Pass ++ word_bits 52 window
+pass_begins window e = word_bits-add 4 52 window ∙ ap (λ (n : ℕ). word_bits 4 n ++ word_bits 52 window) e ∙ ap (λ (b : List Bool). b ++ word_bits 52 window) pass_word
+
+zero_word : word_bits 1 1 ≡ mode_word (Vertical Zero)
+unfolding word_bits bit
+zero_word = refl
+
+-- the word of vertical mode with a1 at b1 begins a window
+pub zero_begins : (window : ℕ) → window / 2 ^ 55 ≡ 1 → word_bits 56 window ≡ mode_word (Vertical Zero) ++ word_bits 55 window
+zero_begins window e = word_bits-add 1 55 window ∙ ap (λ (n : ℕ). word_bits 1 n ++ word_bits 55 window) e ∙ ap (λ (b : List Bool). b ++ word_bits 55 window) zero_word
+
+-- a terminating word spells its run
+pub word_spells : (colour : Colour) (w : Word) → Contains (terminating_words colour) w → SpellsRun colour w.word w.run
+word_spells colour w ends = record {
+  make_up = [];
+  last = w;
+  are_make_up = All-nil (λ (m : Word). Contains (make_up_words colour) m);
+  is_terminating = ends;
+  text_is = refl;
+  run_is = sym (zero-add w.run);
+}
 
 -- ---- places
 pub behind_none : (p : Place) (k : ℕ) → behind_place p (k - k) ≡ p
@@ -140,17 +202,16 @@ skipped p q n few passes =
     let passed : p.passed + n ≡ q.passed = omega (arith, passes.place) in
     rw (left, passed) refl
 
-pub passes_shown : (p : Place) (k n next : ℕ) (word : List Bool) → n ≤ length (drop k p.left) → take n (drop k p.left) ≡ word → next ≡ k + n
-    → Passes (behind_place p k) (behind_place p next) (word ++ [])
-passes_shown p k n next word few is e =
+pub passes_shown : (p : Place) (k n next : ℕ) (text : List Bool) → n ≤ length (drop k p.left) → take n (drop k p.left) ≡ text → next ≡ k + n → Passes (behind_place p k) (behind_place p next) text
+passes_shown p k n next text few is e =
     let long : length (take n (drop k p.left)) ≡ n = length-take-le n (drop k p.left) few in
-    let size : length word ≡ n = sym (ap length is) ∙ long in
-    rw (e, append-nil) (record {
+    let size : length text ≡ n = sym (ap length is) ∙ long in
+    rw e (record {
       bits = sym (take-append-drop n (drop k p.left)) ∙ ap₂ (λ (a b : List Bool). a ++ b) is (drop-drop n k p.left);
       place = omega arith;
     })
 
--- where a step starts, b1 found
-pub StepsSoFar-at : (reference : Elements) (width : ℕ) (old new : Place) (line : Elements) (start : Start) (index : ℕ) → StepsSoFar reference width old new line start
-    → StepsSoFar reference width old new line (record { from = start.from; colour = start.colour; index = index })
-StepsSoFar-at reference width old new line start index s = record { modes = s.modes; text = s.text; passes = s.passes; steps = s.steps }
+-- the step is the same, whatever the index
+pub TakesStep-at : (reference : Elements) (width : ℕ) (mode : Mode) (text : List Bool) (before : Elements) (start : Start) (index : ℕ) (after : Elements) (next : Start)
+    → TakesStep reference width mode text before (record { from = start.from; colour = start.colour; index = index }) after next → TakesStep reference width mode text before start after next
+TakesStep-at reference width mode text before start index after next t = record { place = t.place; from_is = t.from_is; right = t.right; completes = t.completes; step = t.step }

@@ -4,5 +4,6 @@ pub mod Lines
 pub mod Modes
 pub mod Places
 pub mod Starts
+pub mod Windows
 pub mod Written
 pub mod WrittenLaws

@@ -1,7 +1,7 @@
 //! Two-dimensional lines, read (ITU-T T.4, 4.2).
-ghost use Rattle.std.specs.Prelude.{List, Bool, ℕ, Ok, Err, ◌⊎◌, ◌++◌, ◌+◌, ◌<◌, ◌≤◌, ◌≡◌, ◌≢◌, [], length, replicate, IfOk, IfErr, OnOk, OnErr, IsOk, IsTrue};
+ghost use Rattle.std.specs.Prelude.{List, Bool, ℕ, Ok, Err, ◌⊎◌, ◌++◌, ◌+◌, ◌<◌, ◌≤◌, ◌≡◌, ◌≢◌, [], length, replicate, IfOk, IfErr, IfSome, IsNone, OnOk, OnErr, IsOk, IsTrue, ◌^◌, ◌/◌};
 ghost use Rattle.fax_bits.specs.Reading.{Place, Passes};
-ghost use Rattle.fax_runcodes.specs.Rows.{Elements};
+ghost use Rattle.fax_runcodes.specs.Rows.{Elements, other};
 ghost use Rattle.fax_runcodes.specs.Painted.{painted, AreRising};
 ghost use Rattle.fax_runcodes.specs.Spelling.{SpellsRun};
 ghost use Rattle.fax_runcodes.specs.declared.Colour.{Colour};
@@ -9,9 +9,11 @@ ghost use Rattle.fax_mhcode.specs.declared.fault.LineFault.{LineFault};
 ghost use Rattle.fax_mrcode.specs.declared.mode.Mode.{Mode};
 ghost use Rattle.fax_mrcode.specs.Modes.{mode_word};
 ghost use Rattle.fax_mrcode.specs.Lines.{SpellsLine};
+ghost use Rattle.fax_mrcode.specs.Windows.{ShowsBehind, FirstAre};
 ghost use Rattle.fax_mrcode.specs.LineFaults.{FailsLine, Stops, StopsIn, StopsAtRun};
 ghost use Rattle.fax_mrcode.specs.Starts.{IsCursor, IsIndexOfB1, IsStart, Completes, TakesStep, StepsSoFar};
 
+mod ahead;
 #[cfg(test)]
 mod tests;
 mod verticals;
@@ -19,11 +21,12 @@ mod words;
 
 use crate::places::place_at;
 use crate::{Mode, Offset};
+use ahead::{Ahead, past, past_horizontal, past_pass, short_run};
 use fax_bits::BitReader;
 use fax_mhcode::LineFault;
 use fax_runcodes::{Colour, Row, RowBuilder, RowRef, read_run};
 use std::alloc::Global;
-use verticals::{behind, vertical_word};
+use verticals::vertical_word;
 use words::read_mode;
 
 /// Reads a two-dimensional line against the row before it. An `Err` leaves the reader where it stood.
@@ -113,18 +116,20 @@ fn read_steps(
         index: 0,
     };
     while start.from <= width {
-        start = read_vertical_steps(line, reader, changes, width, start);
-        if start.from <= width {
-            start = read_step(line, reader, changes, width, start)?;
-        }
+        let near = read_near_steps(line, reader, changes, width, start);
+        start = if near.from > start.from {
+            near
+        } else {
+            read_step(line, reader, changes, width, near)?
+        };
     }
     Ok(())
 }
 
-/// Reads the steps in vertical mode that begin what is left, as far as one window reaches, and answers
-/// where the next one starts. It is the fast way: what it leaves is read step by step.
-#[inline]
-fn read_vertical_steps(
+/// Reads steps as far as one window shows them, and answers where the next one starts. It is the fast
+/// way: what it leaves is read step by step.
+#[inline(never)]
+fn read_near_steps(
     line: &mut RowBuilder,
     reader: &mut BitReader,
     changes: &[u16],
@@ -144,29 +149,20 @@ fn read_vertical_steps(
     let mut window = reader.window();
     let (mut from, mut colour, mut index) = (start.from, start.colour, start.index);
     while from <= width {
-        let word = vertical_word(window);
-        let bits = u32::from(word.bits);
-        if bits == 0 || bits > left {
-            break;
-        }
-        let index_at = Start {
+        let ahead = Ahead { window, left };
+        let start = Start {
             from,
             colour,
             index,
         };
-        let at_b1 = Start {
-            from,
-            colour,
-            index: index_of_b1(changes, index_at),
-        };
-        let Ok(next) = vertical(line, changes, width, at_b1, word.offset) else {
+        let Some(near) = near_step(line, ahead, changes, width, start) else {
             break;
         };
-        from = next.from;
-        colour = next.colour;
-        index = next.index;
-        window = behind(window, bits);
-        left -= bits;
+        from = near.start.from;
+        colour = near.start.colour;
+        index = near.start.index;
+        window = near.ahead.window;
+        left = near.ahead.left;
     }
     reader.skip(known - left);
     Start {
@@ -174,6 +170,207 @@ fn read_vertical_steps(
         colour,
         index,
     }
+}
+
+/// Where the next step starts, and the bits behind this one.
+#[derive(Clone, Copy)]
+struct Near {
+    start: Start,
+    ahead: Ahead,
+}
+
+/// Takes the step that the bits begin with, where they show all of it and its runs are short.
+/// `None` changes nothing.
+#[inline]
+fn near_step(
+    line: &mut RowBuilder,
+    ahead: Ahead,
+    changes: &[u16],
+    width: u16,
+    start: Start,
+) -> Option<Near>
+    requires start { IsStart changes.now width line.old start }
+    requires within { start.from ≤ width }
+    requires rising { AreRising 0 changes.now width }
+    requires few { width ≤ 2432 }
+    requires window { ahead.window < 2 ^ 56 }
+    requires known { ahead.left ≤ 56 }
+    ensures next { IfSome result (λ near. IsStart changes.now width line.new near.start) }
+    ensures behind { IfSome result (λ near. ShowsBehind ahead.window ahead.left near.ahead.window near.ahead.left) }
+    ensures taken { IfSome result (λ near. (mode : Mode) × (text : List Bool) × FirstAre ahead.window ahead.left near.ahead.left (mode_word mode ++ text)
+        × TakesStep (painted Colour.White 0 changes.now width) width mode text line.old start line.new near.start) }
+    ensures none { IsNone result → line.new ≡ line.old }
+{
+    if ahead.window >> 55 == 1 && ahead.left > 0 {
+        return Some(near_zero(line, ahead, changes, width, start));
+    }
+    let word = vertical_word(ahead.window);
+    let bits = u32::from(word.bits);
+    if bits == 0 {
+        return if ahead.window >> 53 == 0b001 {
+            near_horizontal(line, ahead, changes, width, start)
+        } else {
+            near_pass(line, ahead, changes, width, start)
+        };
+    }
+    if bits > ahead.left {
+        return None;
+    }
+    let at_b1 = Start {
+        index: index_of_b1(changes, start),
+        ..start
+    };
+    let Ok(next) = vertical(line, changes, width, at_b1, word.offset) else {
+        return None;
+    };
+    Some(Near {
+        start: next,
+        ahead: past(ahead, bits),
+    })
+}
+
+/// Takes the step with a1 at b1, whose word is a 1.
+#[inline]
+fn near_zero(line: &mut RowBuilder, ahead: Ahead, changes: &[u16], width: u16, start: Start) -> Near
+    requires start { IsStart changes.now width line.old start }
+    requires within { start.from ≤ width }
+    requires rising { AreRising 0 changes.now width }
+    requires few { width ≤ 2432 }
+    requires window { ahead.window < 2 ^ 56 }
+    requires known { ahead.left ≤ 56 }
+    requires some { 0 < ahead.left }
+    requires zero { ahead.window / 2 ^ 55 ≡ 1 }
+    ensures next { IsStart changes.now width line.new result.start }
+    ensures behind { ShowsBehind ahead.window ahead.left result.ahead.window result.ahead.left }
+    ensures word { FirstAre ahead.window ahead.left result.ahead.left (mode_word (Mode.Vertical Offset.Zero)) }
+    ensures taken { TakesStep (painted Colour.White 0 changes.now width) width (Mode.Vertical Offset.Zero) [] line.old start line.new result.start }
+{
+    let at_b1 = Start {
+        index: index_of_b1(changes, start),
+        ..start
+    };
+    Near {
+        start: vertical_zero(line, changes, width, at_b1),
+        ahead: past(ahead, 1),
+    }
+}
+
+/// Takes the step in pass mode that the bits begin with, where they show its word. `None` changes
+/// nothing.
+#[inline]
+fn near_pass(
+    line: &mut RowBuilder,
+    ahead: Ahead,
+    changes: &[u16],
+    width: u16,
+    start: Start,
+) -> Option<Near>
+    requires start { IsStart changes.now width line.old start }
+    requires within { start.from ≤ width }
+    requires rising { AreRising 0 changes.now width }
+    requires few { width ≤ 2432 }
+    requires window { ahead.window < 2 ^ 56 }
+    requires known { ahead.left ≤ 56 }
+    ensures next { IfSome result (λ near. IsStart changes.now width line.new near.start) }
+    ensures behind { IfSome result (λ near. ShowsBehind ahead.window ahead.left near.ahead.window near.ahead.left) }
+    ensures taken { IfSome result (λ near. (mode : Mode) × (text : List Bool) × FirstAre ahead.window ahead.left near.ahead.left (mode_word mode ++ text)
+        × TakesStep (painted Colour.White 0 changes.now width) width mode text line.old start line.new near.start) }
+    ensures none { IsNone result → line.new ≡ line.old }
+{
+    let Some(rest) = past_pass(ahead) else {
+        return None;
+    };
+    let at_b1 = Start {
+        index: index_of_b1(changes, start),
+        ..start
+    };
+    let Ok(next) = pass(line, changes, width, at_b1) else {
+        return None;
+    };
+    Some(Near {
+        start: next,
+        ahead: rest,
+    })
+}
+
+/// Takes the step in horizontal mode that the bits begin with, where they show all of it and its runs
+/// are short. `None` changes nothing.
+#[inline]
+fn near_horizontal(
+    line: &mut RowBuilder,
+    ahead: Ahead,
+    changes: &[u16],
+    width: u16,
+    start: Start,
+) -> Option<Near>
+    requires start { IsStart changes.now width line.old start }
+    requires within { start.from ≤ width }
+    requires rising { AreRising 0 changes.now width }
+    requires few { width ≤ 2432 }
+    requires window { ahead.window < 2 ^ 56 }
+    requires known { ahead.left ≤ 56 }
+    ensures next { IfSome result (λ near. IsStart changes.now width line.new near.start) }
+    ensures behind { IfSome result (λ near. ShowsBehind ahead.window ahead.left near.ahead.window near.ahead.left) }
+    ensures taken { IfSome result (λ near. (mode : Mode) × (text : List Bool) × FirstAre ahead.window ahead.left near.ahead.left (mode_word mode ++ text)
+        × TakesStep (painted Colour.White 0 changes.now width) width mode text line.old start line.new near.start) }
+    ensures none { IsNone result → line.new ≡ line.old }
+{
+    let Some(runs) = past_horizontal(ahead) else {
+        return None;
+    };
+    let Some(first) = short_run(runs, start.colour) else {
+        return None;
+    };
+    let Some(second) = short_run(first.ahead, start.colour.other()) else {
+        return None;
+    };
+    let Some(next) = paint_runs(line, changes, width, start, first.run, second.run) else {
+        return None;
+    };
+    Some(Near {
+        start: next,
+        ahead: second.ahead,
+    })
+}
+
+/// Paints the runs from a0 to a1 and from a1 to a2, where a step may have them. `None` changes nothing.
+#[inline]
+fn paint_runs(
+    line: &mut RowBuilder,
+    changes: &[u16],
+    width: u16,
+    start: Start,
+    to_a1: u16,
+    to_a2: u16,
+) -> Option<Start>
+    requires start { IsStart changes.now width line.old start }
+    requires within { start.from ≤ width }
+    requires rising { AreRising 0 changes.now width }
+    requires few { width ≤ 2432 }
+    requires first { to_a1 < 64 }
+    requires second { to_a2 < 64 }
+    ensures next { IfSome result (λ next. IsStart changes.now width line.new next) }
+    ensures taken { IfSome result (λ next. (s t : List Bool) → SpellsRun start.colour s to_a1 → SpellsRun (other start.colour) t to_a2
+        → TakesStep (painted Colour.White 0 changes.now width) width Mode.Horizontal (s ++ t) line.old start line.new next) }
+    ensures none { IsNone result → line.new ≡ line.old }
+{
+    let a1 = line.len() + to_a1;
+    let a2 = a1 + to_a2;
+    if a2 > width {
+        return None;
+    }
+    if to_a1 == 0 && start.from > 0 {
+        return None;
+    }
+    if to_a2 == 0 && a1 < width {
+        return None;
+    }
+    line.paint(start.colour, to_a1);
+    line.paint(start.colour.other(), to_a2);
+    Some(Start {
+        from: a2 + 1,
+        ..start
+    })
 }
 
 /// Reads one step, and answers where the next one starts. After an `Err` the reader stands anywhere,
@@ -225,6 +422,7 @@ fn pass(
     ensures ok { IfOk result (λ next. TakesStep (painted Colour.White 0 changes.now width) width Mode.Pass [] line.old start line.new next) }
     ensures fault { IfErr result (λ fault. (row : Elements) (bits : List Bool) → Completes width line.old start.from start.colour row
         → StopsIn (painted Colour.White 0 changes.now width) row Mode.Pass start.from bits fault) }
+    ensures err { OnErr result (line.new ≡ line.old) }
 {
     let b2 = place_at(changes, start.index + 1, width);
     if b2 == width {
@@ -235,6 +433,27 @@ fn pass(
         from: b2 + 1,
         ..start
     })
+}
+
+/// Vertical mode with a1 at b1: a0 moves to b1.
+#[inline]
+fn vertical_zero(line: &mut RowBuilder, changes: &[u16], width: u16, start: Start) -> Start
+    requires start { IsStart changes.now width line.old start }
+    requires b1 { IsIndexOfB1 changes.now start.colour start.from start.index }
+    requires within { start.from ≤ width }
+    requires rising { AreRising 0 changes.now width }
+    requires few { width ≤ 2432 }
+    ensures next { IsStart changes.now width line.new result }
+    ensures taken { TakesStep (painted Colour.White 0 changes.now width) width (Mode.Vertical Offset.Zero) [] line.old start line.new result }
+{
+    let b1 = place_at(changes, start.index, width);
+    line.paint(start.colour, b1 - line.len());
+    let colour = start.colour.other();
+    Start {
+        from: b1 + 1,
+        colour,
+        index: start.index + 1,
+    }
 }
 
 /// Vertical mode: a1 lies so far from b1, and a0 moves to it.

@@ -1,5 +1,5 @@
 //! The word of vertical mode that begins bits, by a table (ITU-T T.4, table 4/T.4).
-ghost use Rattle.std.specs.Prelude.{List, Bool, false, slice_index_or, length, drop, replicate, ◌<◌, ◌≤◌, ◌≡◌, ◌++◌, ◌^◌};
+ghost use Rattle.std.specs.Prelude.{List, Bool, slice_index_or, length, ◌<◌, ◌≤◌, ◌≡◌, ◌++◌, ◌^◌};
 ghost use Rattle.fax_bits.specs.Bits.{word_bits};
 ghost use Rattle.fax_mrcode.specs.declared.mode.Mode.{Mode};
 ghost use Rattle.fax_mrcode.specs.Modes.{mode_word};
@@ -32,17 +32,6 @@ fn word_at(index: usize) -> VerticalWord
     ensures { result ≡ slice_index_or VERTICAL_WORDS index NOT_VERTICAL }
 {
     VERTICAL_WORDS[index]
-}
-
-/// A window of 56 bits without the first n, with n zeros behind the others.
-#[inline]
-pub(super) fn behind(window: u64, n: u32) -> u64
-    requires window { window < 2 ^ 56 }
-    requires few { n ≤ 56 }
-    ensures bits { word_bits 56 result ≡ drop n (word_bits 56 window) ++ replicate n false }
-    ensures window { result < 2 ^ 56 }
-{
-    (window << n) % (1 << 56)
 }
 
 /// By the first 7 bits.

@@ -1,3 +1,4 @@
+use Rattle.std.proofs.Common.{arith}
 use Rattle.std.proofs.lemmas.Result.{err_from_is_err_and}
 use Rattle.fax_runcodes.specs.declared.Colour.TheVariants.{White}
 use Rattle.fax_runcodes.specs.Painted.{painted}
@@ -5,7 +6,7 @@ use Rattle.fax_mrcode.proofs.CursorLemmas.{size}
 use Rattle.fax_mrcode.proofs.StepLemmas.{StepsSoFar-none, StepsSoFar-more, IsStart-first, SpellsLine-from, FailsLine-from}
 use Rattle.fax_mrcode.specs.Starts.{StepsSoFar}
 use Rattle.fax_mrcode.proofs.reading.read_steps.Goals as goal
-use Rattle.fax_mrcode.proofs.reading.read_steps.Goals.{After-read_vertical_steps-start}
+use Rattle.fax_mrcode.proofs.reading.read_steps.Goals.{After-read_near_steps-near}
 
 pub loop-start-init : goal.loop-start-init
 loop-start-init c = rw c.requires.empty (record {
@@ -14,27 +15,27 @@ loop-start-init c = rw c.requires.empty (record {
 })
 
 -- the steps so far, with those in vertical mode
-so_far : (c : After-read_vertical_steps-start) → StepsSoFar (painted White 0 c.args.changes.now c.args.width) c.args.width c.args.reader.now c.read_vertical_steps-start.new.reader c.read_vertical_steps-start.new.line c.read_vertical_steps-start.result
-so_far c = c.read_vertical_steps-start.ensures.so_far c.args.reader.now c.loop-start.invariant.so_far
+so_far : (c : After-read_near_steps-near) → StepsSoFar (painted White 0 c.args.changes.now c.args.width) c.args.width c.args.reader.now c.read_near_steps-near.new.reader c.read_near_steps-near.new.line c.read_near_steps-near.result
+so_far c = c.read_near_steps-near.ensures.so_far c.args.reader.now c.loop-start.invariant.so_far
 
 pub returns-in_err-start-clause-fault : goal.returns-in_err-start-clause-fault
 returns-in_err-start-clause-fault c =
     let p = err_from_is_err_and c.from_residual.result c.from_residual.ensures.1 in
-    rw (p.1, p.2) (FailsLine-from (painted White 0 c.args.changes.now c.args.width) c.args.changes.now c.args.width c.args.reader.now c.read_vertical_steps-start.new.reader c.read_vertical_steps-start.new.line c.read_vertical_steps-start.result
-    c.in_err-start.field-0.0 (size c.args.changes.now c.args.width c.requires.rising) (so_far (goal.at.returns-in_err-start-clause-fault c).After-read_vertical_steps-start) c.read_vertical_steps-start.ensures.next c.if-start-width.true
+    rw (p.1, p.2) (FailsLine-from (painted White 0 c.args.changes.now c.args.width) c.args.changes.now c.args.width c.args.reader.now c.read_near_steps-near.new.reader c.read_near_steps-near.new.line c.read_near_steps-near.result
+    c.in_err-start.field-0.0 (size c.args.changes.now c.args.width c.requires.rising) (so_far (goal.at.returns-in_err-start-clause-fault c).After-read_near_steps-near) c.read_near_steps-near.ensures.next (omega (arith, c.if-near-start.false, c.loop-start-test.true))
     c.in_err-start.ensures.fault)
 
-pub loop-start-preserved-then-start-width : goal.loop-start-preserved-then-start-width
-loop-start-preserved-then-start-width c =
+pub loop-start-preserved : goal.loop-start-preserved
+loop-start-preserved c =
     let step = c.in_ok-start.ensures.ok in
     record {
-      so_far = StepsSoFar-more (painted White 0 c.args.changes.now c.args.width) c.args.width c.args.reader.now c.read_vertical_steps-start.new.reader c.read_step.new.reader c.read_vertical_steps-start.new.line c.read_vertical_steps-start.result
-          c.read_step.new.line c.in_ok-start.start step.0 step.1 (so_far (goal.at.loop-start-preserved-then-start-width c).After-read_vertical_steps-start) c.if-start-width.true step.2 step.3;
+      so_far = StepsSoFar-more (painted White 0 c.args.changes.now c.args.width) c.args.width c.args.reader.now c.read_near_steps-near.new.reader c.read_step.new.reader c.read_near_steps-near.new.line c.read_near_steps-near.result
+          c.read_step.new.line c.in_ok-start.start step.0 step.1 (so_far (goal.at.loop-start-preserved c).After-read_near_steps-near) (omega (arith, c.if-near-start.false, c.loop-start-test.true)) step.2 step.3;
       is_start = c.in_ok-start.ensures.next;
     }
 
-pub loop-start-preserved : goal.loop-start-preserved
-loop-start-preserved c = record { so_far = so_far (goal.at.loop-start-preserved c).After-read_vertical_steps-start; is_start = c.read_vertical_steps-start.ensures.next }
+pub loop-start-preserved-then-near-start : goal.loop-start-preserved-then-near-start
+loop-start-preserved-then-near-start c = record { so_far = so_far (goal.at.loop-start-preserved-then-near-start c).After-read_near_steps-near; is_start = c.read_near_steps-near.ensures.next }
 
 pub returns-clause-ok : goal.returns-clause-ok
 returns-clause-ok c =

@@ -2,9 +2,10 @@ use Rattle.std.proofs.Common.{◌+◌, ◌-◌, ◌<◌, ◌≤◌, ◌^◌, dro
 use Rattle.fax_bits.specs.Reading.{Place}
 use Rattle.fax_runcodes.specs.declared.Colour.TheVariants.{White}
 use Rattle.fax_runcodes.specs.Painted.{painted}
+use Rattle.fax_mrcode.specs.Windows.{Shows}
 use Rattle.fax_mrcode.specs.Starts.{IsStart, StepsSoFar}
-use Rattle.fax_mrcode.proofs.VerticalLemmas.{Shows, behind_place}
-use Rattle.fax_mrcode.proofs.reading.read_vertical_steps.Given as goal
+use Rattle.fax_mrcode.proofs.VerticalLemmas.{behind_place}
+use Rattle.fax_mrcode.proofs.reading.read_near_steps.Given as goal
 
 abbrev pub invariant-loop-from : goal.invariant-loop-from
 invariant-loop-from l = record {

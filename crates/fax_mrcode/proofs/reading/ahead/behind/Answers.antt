@@ -1,7 +1,7 @@
 use Rattle.std.proofs.Common.{◌*◌, ◌%◌, ◌^◌, ◌∙◌, arith}
 use Rattle.fax_bits.proofs.BitsLemmas.{word_bits-mod}
 use Rattle.fax_mrcode.proofs.VerticalLemmas.{behind_bits}
-use Rattle.fax_mrcode.proofs.reading.verticals.behind.Goals as goal
+use Rattle.fax_mrcode.proofs.reading.ahead.behind.Goals as goal
 
 pub returns-clause-bits : goal.returns-clause-bits
 returns-clause-bits c =

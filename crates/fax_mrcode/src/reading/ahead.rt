@@ -1,0 +1,97 @@
+//! Bits ahead of a reader, in a window of 56 bits.
+ghost use Rattle.std.specs.Prelude.{List, Bool, false, drop, replicate, ◌<◌, ◌≤◌, ◌≡◌, ◌-◌, ◌++◌, ◌^◌, IfSome};
+ghost use Rattle.fax_bits.specs.Bits.{word_bits};
+ghost use Rattle.fax_runcodes.specs.Spelling.{SpellsRun};
+ghost use Rattle.fax_mrcode.specs.declared.mode.Mode.{Mode};
+ghost use Rattle.fax_mrcode.specs.Modes.{mode_word};
+ghost use Rattle.fax_mrcode.specs.Windows.{ShowsBehind, FirstAre};
+
+use fax_runcodes::{Colour, word_at};
+
+/// A window, the most significant bit first, and how many of its bits are left to read.
+#[derive(Clone, Copy)]
+pub(super) struct Ahead {
+    pub(super) window: u64,
+    pub(super) left: u32,
+}
+
+/// A run of fewer than 64 elements, and the bits behind its word.
+#[derive(Clone, Copy)]
+pub(super) struct ShortRun {
+    pub(super) run: u16,
+    pub(super) ahead: Ahead,
+}
+
+/// The run whose word the bits begin with, where it is one word.
+#[inline]
+pub(super) fn short_run(ahead: Ahead, colour: Colour) -> Option<ShortRun>
+    requires window { ahead.window < 2 ^ 56 }
+    requires known { ahead.left ≤ 56 }
+    ensures few { IfSome result (λ short. short.run < 64) }
+    ensures behind { IfSome result (λ short. ShowsBehind ahead.window ahead.left short.ahead.window short.ahead.left) }
+    ensures spelt { IfSome result (λ short. (text : List Bool) × SpellsRun colour text short.run × FirstAre ahead.window ahead.left short.ahead.left text) }
+{
+    let word = word_at(colour, ahead.window);
+    let bits = u32::from(word.bits);
+    if word.run >= 64 || bits > ahead.left {
+        return None;
+    }
+    Some(ShortRun {
+        run: word.run,
+        ahead: past(ahead, bits),
+    })
+}
+
+/// The bits behind the word of horizontal mode, where they begin with it.
+#[inline]
+pub(super) fn past_horizontal(ahead: Ahead) -> Option<Ahead>
+    requires window { ahead.window < 2 ^ 56 }
+    requires known { ahead.left ≤ 56 }
+    ensures behind { IfSome result (λ rest. ShowsBehind ahead.window ahead.left rest.window rest.left) }
+    ensures word { IfSome result (λ rest. FirstAre ahead.window ahead.left rest.left (mode_word Mode.Horizontal)) }
+{
+    if ahead.window >> 53 != 0b001 || ahead.left < 3 {
+        return None;
+    }
+    Some(past(ahead, 3))
+}
+
+/// The bits behind the word of pass mode, where they begin with it.
+#[inline]
+pub(super) fn past_pass(ahead: Ahead) -> Option<Ahead>
+    requires window { ahead.window < 2 ^ 56 }
+    requires known { ahead.left ≤ 56 }
+    ensures behind { IfSome result (λ rest. ShowsBehind ahead.window ahead.left rest.window rest.left) }
+    ensures word { IfSome result (λ rest. FirstAre ahead.window ahead.left rest.left (mode_word Mode.Pass)) }
+{
+    if ahead.window >> 52 != 0b0001 || ahead.left < 4 {
+        return None;
+    }
+    Some(past(ahead, 4))
+}
+
+/// The bits behind the first n.
+#[inline]
+pub(super) fn past(ahead: Ahead, n: u32) -> Ahead
+    requires window { ahead.window < 2 ^ 56 }
+    requires known { ahead.left ≤ 56 }
+    requires within { n ≤ ahead.left }
+    ensures left { result.left ≡ ahead.left - n }
+    ensures behind { ShowsBehind ahead.window ahead.left result.window result.left }
+{
+    Ahead {
+        window: behind(ahead.window, n),
+        left: ahead.left - n,
+    }
+}
+
+/// A window of 56 bits without the first n, with n zeros behind the others.
+#[inline]
+fn behind(window: u64, n: u32) -> u64
+    requires window { window < 2 ^ 56 }
+    requires few { n ≤ 56 }
+    ensures bits { word_bits 56 result ≡ drop n (word_bits 56 window) ++ replicate n false }
+    ensures window { result < 2 ^ 56 }
+{
+    (window << n) % (1 << 56)
+}
