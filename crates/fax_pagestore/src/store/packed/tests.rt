@@ -27,8 +27,8 @@ fn keeps_rows_side_by_side(rt: HostRuntime) -> Result<(), Fail> {
                 assert_eq!(rt; rows.lend(n).put_runs(&mut lent), Some(runs.len()));
                 assert_eq!(rt; &lent[..runs.len()], runs);
                 assert_eq!(rt; rows.row(n)?.runs()?.as_slice(), runs);
+                n += 1;
             }
-            n += 1;
         }
     }
     Ok(())
