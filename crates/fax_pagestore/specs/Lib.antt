@@ -6,4 +6,3 @@ pub mod PageTexts
 pub mod Pages
 pub mod WrittenPages
 pub mod PackedRows
-pub mod PlainRows

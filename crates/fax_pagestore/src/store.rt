@@ -4,7 +4,6 @@ ghost use Rattle.fax_runcodes.specs.Rows.{Elements};
 ghost use Rattle.fax_runcodes.specs.Widths.{elements_of};
 ghost use Rattle.fax_pagestore.specs.PageRows.{AreRows};
 
-mod lent;
 mod packed;
 
 use crate::Format;

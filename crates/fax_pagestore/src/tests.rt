@@ -284,23 +284,9 @@ fn stores_keep_rows(rt: HostRuntime) -> Result<(), Fail> {
     if rows.len() == 2 {
         assert_eq!(rt; rows.row(0)?.changes(), [].as_slice());
         assert_eq!(rt; rows.row(1)?.changes(), [0].as_slice());
+        assert_eq!(rt; rows.lend(0).changes(), [].as_slice());
+        assert_eq!(rt; rows.lend(1).changes(), [0].as_slice());
     }
-    Ok(())
-}
-
-#[test]
-fn lends_its_rows(rt: HostRuntime) -> Result<(), Fail> {
-    let page = read(
-        rt.alloc(),
-        &[EOL, MARKED, EOL, WHITE, EOL, EOL, EOL, EOL, EOL, EOL],
-        false,
-        Coding::Mh,
-    )?;
-    let mut runs = [0; 3];
-    let rows = page.rows().as_slice();
-    assert_eq!(rt; rows.len(), 2);
-    assert_eq!(rt; rows[1].lend().put_runs(&mut runs), Some(1));
-    assert_eq!(rt; runs[0], 1728);
     Ok(())
 }
 

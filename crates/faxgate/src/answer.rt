@@ -13,7 +13,7 @@ use crate::input_fault::InputFault;
 use crate::lines::{first_line, push_numbers, row_of_line};
 use crate::status::Status;
 use fax_bits::NoMemory;
-use fax_pagestore::{Coding, Format, Page, PageFault, PlainRows, RowStore, read_page, write_page};
+use fax_pagestore::{Coding, Format, PackedRows, Page, PageFault, RowStore, read_page, write_page};
 use fax_runcodes::Width;
 use hex::FromHexError;
 use std::alloc::Global;
@@ -100,7 +100,7 @@ fn lines_of_page(alloc: Global, input: Vec<u8>, options: PageOptions) -> Result<
     ensures { AnswersPage options input.items (outcome_of result) }
 {
     let octets = octets_of_hex(alloc, input)?;
-    let page = read_page::<PlainRows>(alloc, octets.as_slice(), options.format, options.coding)?;
+    let page = read_page::<PackedRows>(alloc, octets.as_slice(), options.format, options.coding)?;
     Ok(lines_of_rows(alloc, page.rows())?)
 }
 
@@ -141,7 +141,7 @@ fn lines_of_rows<S: RowStore>(alloc: Global, rows: &S) -> Result<Vec<u8>, NoMemo
 fn page_of_lines(alloc: Global, input: &[u8], options: PageOptions) -> Result<Vec<u8>, InputFault>
     ensures { AnswersRows options input.now (outcome_of result) }
 {
-    let rows: PlainRows = rows_of_lines(alloc, input, options.format.width)?;
+    let rows: PackedRows = rows_of_lines(alloc, input, options.format.width)?;
     let page = Page::new(options.format, rows);
     let octets = write_page(alloc, &page, options.coding, options.least_bits)?;
     Ok(hex_line(alloc, octets.as_slice())?)

@@ -6,7 +6,7 @@ use Rattle.faxgate.proofs.answer.page_of_lines.Goals as goal
 pub returns : goal.returns
 returns c =
     let (bits, written, padded) = c.in_ok-octets.ensures in
-    let rows = c.in_ok-rows.rows.rows.items in
+    let rows = c.in_ok-rows.rows in
     let P : PageValue → Type 0 = λ page. WritesPage c.args.options.coding page.format.fine c.args.options.least_bits page.rows bits in
     let octets = c.as_slice.result.now in (
       rows,
