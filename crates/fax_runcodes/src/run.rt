@@ -27,7 +27,7 @@ const LONGEST_RUN: u16 = 2432;
 /// Reads a run of a colour, in elements: make-up words, of which it takes any number (ITU-T T.4, 4.1.1,
 /// has at most one; more are this project's profile), and then a terminating word. An `Err` leaves the
 /// reader where it stood.
-#[inline]
+#[inline(always)]
 pub fn read_run(reader: &mut BitReader, colour: Colour) -> Result<u16, RunFault>
     ensures ok { IfOk result (λ run. (text : List Bool) × SpellsRun colour text run × Passes reader.old reader.new text) }
     ensures short { IfOk result (λ run. run ≤ longest_run) }
