@@ -1,5 +1,5 @@
 //! Rows, made of run lengths and by a builder.
-use super::{Row, RowBuilder};
+use super::{Row, RowBuilder, RowRef};
 use crate::Colour::{Black, White};
 use crate::{Colour, RowFault, Width};
 use std::test::Fail;
@@ -147,17 +147,36 @@ fn puts_pixels(rt: HostRuntime) -> Result<(), Fail> {
     let mut octets = [0x55u8; 216];
     let row = Row::from_runs(rt.alloc(), &[3, 2, 1, 12, 10, 28, 1671, 1])?;
     row.lend().put_pixels(&mut octets);
-    let front = [0x1b, 0xff, 0xc0, 0x0f, 0xff, 0xff, 0xff, 0x00];
-    assert_eq!(rt; octets[..8], front[..]);
-    for octet in &octets[8..215] {
-        assert_eq!(rt; *octet, 0);
-    }
-    assert_eq!(rt; octets[215], 0x01);
+    let mut wanted = [0u8; 216];
+    wanted[0] = 0x1b;
+    wanted[1] = 0xff;
+    wanted[2] = 0xc0;
+    wanted[3] = 0x0f;
+    wanted[4] = 0xff;
+    wanted[5] = 0xff;
+    wanted[6] = 0xff;
+    wanted[215] = 0x01;
+    assert_eq!(rt; octets, wanted);
     let row = Row::from_runs(rt.alloc(), &[0, 1720, 8])?;
     row.lend().put_pixels(&mut octets);
-    for octet in &octets[..215] {
-        assert_eq!(rt; *octet, 0xff);
-    }
-    assert_eq!(rt; octets[215], 0);
+    let mut wanted = [0xffu8; 216];
+    wanted[215] = 0;
+    assert_eq!(rt; octets, wanted);
+    Ok(())
+}
+
+#[test]
+fn lends_rows(rt: HostRuntime) -> Result<(), Fail> {
+    let row = Row::from_runs(rt.alloc(), &[3, 5, 2040])?;
+    let lent = row.lend();
+    assert_eq!(rt; lent.width(), 2048);
+    assert_eq!(rt; lent.changes(), [3, 8].as_slice());
+    let same = lent.to_row(rt.alloc())?;
+    assert_eq!(rt; same.runs()?.as_slice(), [3, 5, 2040].as_slice());
+    let again = RowRef::from_changes(lent.changes(), lent.width());
+    assert_eq!(rt;
+        again.to_row(rt.alloc())?.runs()?.as_slice(),
+        [3, 5, 2040].as_slice()
+    );
     Ok(())
 }
