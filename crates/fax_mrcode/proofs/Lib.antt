@@ -9,3 +9,4 @@ pub mod StepLemmas
 pub mod VerticalLemmas
 pub mod WriteLemmas
 pub mod WrittenLaws
+pub mod ZerosLemmas

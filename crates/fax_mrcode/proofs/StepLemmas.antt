@@ -17,9 +17,9 @@ use Rattle.fax_mrcode.specs.declared.mode.Offset.{Offset}
 use Rattle.fax_mrcode.specs.declared.reading.Start.{Start}
 use Rattle.fax_mrcode.specs.Modes.{mode_word, IsAt}
 use Rattle.fax_mrcode.specs.Places.{a1, a2, b1, b2, run_start}
-use Rattle.fax_mrcode.specs.Lines.{Step, Steps, SpellsLine}
+use Rattle.fax_mrcode.specs.Lines.{Steps, SpellsLine}
 use Rattle.fax_mrcode.specs.LineFaults.{FailsLine, Stops, StopsAtRun}
-use Rattle.fax_mrcode.specs.Starts.{IsCursor, IsIndexOfB1, IsStart, Completes, TakesStep, StepsSoFar}
+use Rattle.fax_mrcode.specs.Starts.{IsCursor, IsIndexOfB1, IsStart, Completes, TakesStep, TakesSteps, StepsSoFar}
 use Rattle.fax_mrcode.proofs.PlaceLemmas.{IsStretch, IsA1, IsA2, a1_is, a2_is}
 use Rattle.fax_mrcode.proofs.CursorLemmas.{other_apart, IsCursor-first, IsCursor-on, IsCursor-second, place_le, b1_is, b2_is, b2_right}
 
@@ -265,40 +265,68 @@ StepsSoFar-none reference width p = record { modes = []; text = []; passes = Pas
 pub IsStart-first : (ps : List ℕ) (width : ℕ) → IsStart ps width [] (record { from = 0; colour = White; index = 0 })
 IsStart-first ps width = record { size = refl; within = omega arith; first = λ e. refl; cursor = λ le. IsCursor-first ps }
 
-Steps-push : (reference row : Elements) (from : ℕ) (modes : List Mode) (text : List Bool) (middle : ℕ) → Steps reference row from modes text middle → middle ≤ length row
-    → (mode : Mode) (step : List Bool) (next : ℕ) → Step reference row middle mode step next → Steps reference row from (modes ++ mode ∷ []) (text ++ (mode_word mode ++ step)) (next + 1)
-Steps-push reference row from [] text middle (none, same) le mode step next s = (
-  omega arith,
-  step,
-  [],
-  next,
-  ap (λ b. b ++ (mode_word mode ++ step)) none ∙ sym (append-nil (mode_word mode ++ step)),
-  subst (λ n. Step reference row n mode step next) same s,
-  (refl, refl),
-)
-Steps-push reference row from (m ∷ ms) text middle (here, f, r, n, e, taken, later) le mode step next s = (
+Steps-then : (reference row : Elements) (from : ℕ) (modes : List Mode) (text : List Bool) (middle : ℕ) → Steps reference row from modes text middle
+    → (more : List Mode) (behind : List Bool) (end : ℕ) → Steps reference row middle more behind end → Steps reference row from (modes ++ more) (text ++ behind) end
+Steps-then reference row from [] text middle (none, same) more behind end later =
+    subst (λ b. Steps reference row from more b end) (ap (λ b. b ++ behind) (sym none)) (subst (λ n. Steps reference row n more behind end) same later)
+Steps-then reference row from (m ∷ ms) text middle (here, f, r, n, e, taken, rest) more behind end later = (
   here,
   f,
-  r ++ (mode_word mode ++ step),
+  r ++ behind,
   n,
-  ap (λ b. b ++ (mode_word mode ++ step)) e ∙ append_assoc (mode_word m ++ f) r (mode_word mode ++ step),
+  ap (λ b. b ++ behind) e ∙ append_assoc (mode_word m ++ f) r behind,
   taken,
-  Steps-push reference row (n + 1) ms r middle later le mode step next s,
+  Steps-then reference row (n + 1) ms r middle rest more behind end later,
 )
+
+-- one step
+pub TakesSteps-one : (reference : Elements) (width : ℕ) (mode : Mode) (text : List Bool) (before : Elements) (start : Start) (after : Elements) (next : Start) → start.from ≤ width
+    → TakesStep reference width mode text before start after next → TakesSteps reference width (mode_word mode ++ text) before start after next
+TakesSteps-one reference width mode text before start after next inside takes = record {
+  modes = mode ∷ [];
+  right = omega (arith, takes.right, takes.from_is);
+  completes = takes.completes;
+  steps = λ row c. (
+      let wide : length row ≡ width = c.same_width in (
+        omega arith,
+        text,
+        [],
+        takes.place,
+        sym (append-nil (mode_word mode ++ text)),
+        takes.step row c,
+        (refl, takes.from_is),
+      ));
+}
+
+-- steps behind others
+pub TakesSteps-then : (reference : Elements) (width : ℕ) (text more : List Bool) (before : Elements) (start : Start) (mid : Elements) (middle : Start) (after : Elements) (next : Start)
+    → TakesSteps reference width text before start mid middle → TakesSteps reference width more mid middle after next → TakesSteps reference width (text ++ more) before start after next
+TakesSteps-then reference width text more before start mid middle after next first later = record {
+  modes = first.modes ++ later.modes;
+  right = omega (arith, first.right, later.right);
+  completes = λ row c. first.completes row (later.completes row c);
+  steps = λ row c. Steps-then reference row start.from first.modes text middle.from (first.steps row (later.completes row c)) later.modes more next.from (later.steps row c);
+}
+
+-- the steps are the same, whatever the index
+pub TakesSteps-at : (reference : Elements) (width : ℕ) (text : List Bool) (before : Elements) (start : Start) (index : ℕ) (after : Elements) (next : Start)
+    → TakesSteps reference width text before (record { from = start.from; colour = start.colour; index = index }) after next → TakesSteps reference width text before start after next
+TakesSteps-at reference width text before start index after next t = record { modes = t.modes; right = t.right; completes = t.completes; steps = t.steps }
+
+pub StepsSoFar-then : (reference : Elements) (width : ℕ) (old mid new : Place) (line : Elements) (start : Start) (after : Elements) (next : Start) (text : List Bool)
+    → StepsSoFar reference width old mid line start → Passes mid new text → TakesSteps reference width text line start after next → StepsSoFar reference width old new after next
+StepsSoFar-then reference width old mid new line start after next text so_far passes takes = record {
+  modes = so_far.modes ++ takes.modes;
+  text = so_far.text ++ text;
+  passes = Passes-then old mid new so_far.text text so_far.passes passes;
+  steps = λ row c. Steps-then reference row 0 so_far.modes so_far.text start.from (so_far.steps row (takes.completes row c)) takes.modes text next.from (takes.steps row c);
+}
 
 pub StepsSoFar-more : (reference : Elements) (width : ℕ) (old mid new : Place) (line : Elements) (start : Start) (after : Elements) (next : Start) (mode : Mode) (text : List Bool)
     → StepsSoFar reference width old mid line start → start.from ≤ width → Passes mid new (mode_word mode ++ text) → TakesStep reference width mode text line start after next
     → StepsSoFar reference width old new after next
-StepsSoFar-more reference width old mid new line start after next mode text so_far inside passes takes = record {
-  modes = so_far.modes ++ mode ∷ [];
-  text = so_far.text ++ (mode_word mode ++ text);
-  passes = Passes-then old mid new so_far.text (mode_word mode ++ text) so_far.passes passes;
-  steps = λ row c. (
-      let before = takes.completes row c in
-      let wide : length row ≡ width = c.same_width in
-      subst (λ n. Steps reference row 0 (so_far.modes ++ mode ∷ []) (so_far.text ++ (mode_word mode ++ text)) n) (sym takes.from_is)
-      (Steps-push reference row 0 so_far.modes so_far.text start.from (so_far.steps row before) (omega arith) mode text takes.place (takes.step row c)));
-}
+StepsSoFar-more reference width old mid new line start after next mode text so_far inside passes takes =
+    StepsSoFar-then reference width old mid new line start after next (mode_word mode ++ text) so_far passes (TakesSteps-one reference width mode text line start after next inside takes)
 
 -- the line, once a0 is the width
 pub SpellsLine-from : (reference : Elements) (ps : List ℕ) (width : ℕ) (old new : Place) (line : Elements) (start : Start) → length reference ≡ width → StepsSoFar reference width old new line start → IsStart ps width line start

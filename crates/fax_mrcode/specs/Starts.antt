@@ -44,6 +44,14 @@ pub record TakesStep (reference : Elements) (width : ℕ) (mode : Mode) (text : 
   pub completes : (row : Elements) → Completes width after next.from next.colour row → Completes width before start.from start.colour row
   pub step : (row : Elements) → Completes width after next.from next.colour row → Step reference row start.from mode text place
 
+-- Steps with this text were taken from one start to the next: each row that the line may become behind
+-- them is one that it might become before them, and has these steps.
+pub record TakesSteps (reference : Elements) (width : ℕ) (text : List Bool) (before : Elements) (start : Start) (after : Elements) (next : Start) : Type 0 where
+  pub modes : List Mode
+  pub right : start.from < next.from
+  pub completes : (row : Elements) → Completes width after next.from next.colour row → Completes width before start.from start.colour row
+  pub steps : (row : Elements) → Completes width after next.from next.colour row → Steps reference row start.from modes text next.from
+
 -- From old to new steps were passed that each row has which the line may become.
 pub record StepsSoFar (reference : Elements) (width : ℕ) (old new : Place) (line : Elements) (start : Start) : Type 0 where
   pub modes : List Mode

@@ -1,8 +1,8 @@
 //! Two-dimensional lines, read (ITU-T T.4, 4.2).
-ghost use Rattle.std.specs.Prelude.{List, Bool, ℕ, Ok, Err, ◌⊎◌, ◌++◌, ◌+◌, ◌<◌, ◌≤◌, ◌≡◌, ◌≢◌, [], length, replicate, IfOk, IfErr, IfSome, IsNone, OnOk, OnErr, IsOk, IsTrue, ◌^◌, ◌/◌};
+ghost use Rattle.std.specs.Prelude.{List, Bool, true, ℕ, Ok, Err, ◌⊎◌, ◌++◌, ◌+◌, ◌<◌, ◌≤◌, ◌≡◌, ◌≢◌, [], length, replicate, IfOk, IfErr, IfSome, IsNone, OnOk, OnErr, IsOk, IsTrue, ◌^◌, ◌/◌};
 ghost use Rattle.fax_bits.specs.Reading.{Place, Passes};
 ghost use Rattle.fax_runcodes.specs.Rows.{Elements, other};
-ghost use Rattle.fax_runcodes.specs.Painted.{painted, AreRising};
+ghost use Rattle.fax_runcodes.specs.Painted.{painted, AreRising, colour_after_changes};
 ghost use Rattle.fax_runcodes.specs.Spelling.{SpellsRun};
 ghost use Rattle.fax_runcodes.specs.declared.Colour.{Colour};
 ghost use Rattle.fax_mhcode.specs.declared.fault.LineFault.{LineFault};
@@ -11,7 +11,7 @@ ghost use Rattle.fax_mrcode.specs.Modes.{mode_word};
 ghost use Rattle.fax_mrcode.specs.Lines.{SpellsLine};
 ghost use Rattle.fax_mrcode.specs.Windows.{ShowsBehind, FirstAre};
 ghost use Rattle.fax_mrcode.specs.LineFaults.{FailsLine, Stops, StopsIn, StopsAtRun};
-ghost use Rattle.fax_mrcode.specs.Starts.{IsCursor, IsIndexOfB1, IsStart, Completes, TakesStep, StepsSoFar};
+ghost use Rattle.fax_mrcode.specs.Starts.{IsCursor, IsIndexOfB1, IsStart, Completes, TakesStep, TakesSteps, StepsSoFar};
 
 mod ahead;
 #[cfg(test)]
@@ -21,7 +21,7 @@ mod words;
 
 use crate::places::place_at;
 use crate::{Mode, Offset};
-use ahead::{Ahead, past, past_horizontal, past_pass, short_run};
+use ahead::{Ahead, ones, past, past_horizontal, past_pass, short_run};
 use fax_bits::BitReader;
 use fax_mhcode::LineFault;
 use fax_runcodes::{Colour, Row, RowBuilder, RowRef, read_run};
@@ -179,8 +179,8 @@ struct Near {
     ahead: Ahead,
 }
 
-/// Takes the step that the bits begin with, where they show all of it and its runs are short.
-/// `None` changes nothing.
+/// Takes the step that the bits begin with, where they show all of it and its runs are short, and with
+/// a step whose a1 is at b1 those like it behind it. `None` changes nothing.
 #[inline]
 fn near_step(
     line: &mut RowBuilder,
@@ -197,12 +197,12 @@ fn near_step(
     requires known { ahead.left ≤ 56 }
     ensures next { IfSome result (λ near. IsStart changes.now width line.new near.start) }
     ensures behind { IfSome result (λ near. ShowsBehind ahead.window ahead.left near.ahead.window near.ahead.left) }
-    ensures taken { IfSome result (λ near. (mode : Mode) × (text : List Bool) × FirstAre ahead.window ahead.left near.ahead.left (mode_word mode ++ text)
-        × TakesStep (painted Colour.White 0 changes.now width) width mode text line.old start line.new near.start) }
+    ensures taken { IfSome result (λ near. (text : List Bool) × FirstAre ahead.window ahead.left near.ahead.left text
+        × TakesSteps (painted Colour.White 0 changes.now width) width text line.old start line.new near.start) }
     ensures none { IsNone result → line.new ≡ line.old }
 {
     if ahead.window >> 55 == 1 && ahead.left > 0 {
-        return Some(near_zero(line, ahead, changes, width, start));
+        return Some(near_zeros(line, ahead, changes, width, start));
     }
     let word = vertical_word(ahead.window);
     let bits = u32::from(word.bits);
@@ -229,9 +229,16 @@ fn near_step(
     })
 }
 
-/// Takes the step with a1 at b1, whose word is a 1.
+/// Takes the steps with a1 at b1 that the bits begin with, whose words are a 1 each: the first, and
+/// those behind it as far as the reference has changing places for them.
 #[inline]
-fn near_zero(line: &mut RowBuilder, ahead: Ahead, changes: &[u16], width: u16, start: Start) -> Near
+fn near_zeros(
+    line: &mut RowBuilder,
+    ahead: Ahead,
+    changes: &[u16],
+    width: u16,
+    start: Start,
+) -> Near
     requires start { IsStart changes.now width line.old start }
     requires within { start.from ≤ width }
     requires rising { AreRising 0 changes.now width }
@@ -242,16 +249,23 @@ fn near_zero(line: &mut RowBuilder, ahead: Ahead, changes: &[u16], width: u16, s
     requires zero { ahead.window / 2 ^ 55 ≡ 1 }
     ensures next { IsStart changes.now width line.new result.start }
     ensures behind { ShowsBehind ahead.window ahead.left result.ahead.window result.ahead.left }
-    ensures word { FirstAre ahead.window ahead.left result.ahead.left (mode_word (Mode.Vertical Offset.Zero)) }
-    ensures taken { TakesStep (painted Colour.White 0 changes.now width) width (Mode.Vertical Offset.Zero) [] line.old start line.new result.start }
+    ensures taken { (text : List Bool) × FirstAre ahead.window ahead.left result.ahead.left text
+        × TakesSteps (painted Colour.White 0 changes.now width) width text line.old start line.new result.start }
 {
     let at_b1 = Start {
         index: index_of_b1(changes, start),
         ..start
     };
+    let steps = (ones(ahead) as usize).min(changes.len().saturating_sub(at_b1.index));
+    if steps < 2 || start.from == 0 {
+        return Near {
+            start: vertical_zero(line, changes, width, at_b1),
+            ahead: past(ahead, 1),
+        };
+    }
     Near {
-        start: vertical_zero(line, changes, width, at_b1),
-        ahead: past(ahead, 1),
+        start: vertical_zeros(line, changes, width, at_b1, steps),
+        ahead: past(ahead, steps as u32),
     }
 }
 
@@ -453,6 +467,49 @@ fn vertical_zero(line: &mut RowBuilder, changes: &[u16], width: u16, start: Star
         from: b1 + 1,
         colour,
         index: start.index + 1,
+    }
+}
+
+/// So many steps in vertical mode with a1 at b1, right of the first element: a0 moves on by so many
+/// changing places of the reference.
+#[inline]
+fn vertical_zeros(
+    line: &mut RowBuilder,
+    changes: &[u16],
+    width: u16,
+    start: Start,
+    steps: usize,
+) -> Start
+    requires start { IsStart changes.now width line.old start }
+    requires b1 { IsIndexOfB1 changes.now start.colour start.from start.index }
+    requires within { start.from ≤ width }
+    requires rising { AreRising 0 changes.now width }
+    requires few { width ≤ 2432 }
+    requires right { 0 < start.from }
+    requires some { 0 < steps }
+    requires there { start.index + steps ≤ length changes.now }
+    ensures next { IsStart changes.now width line.new result }
+    ensures taken { TakesSteps (painted Colour.White 0 changes.now width) width (replicate steps true) line.old start line.new result }
+{
+    let index = start.index + steps;
+    let a0 = changes[index - 1];
+    line.paint_turning(start.colour, &changes[start.index..index - 1], a0);
+    Start {
+        from: a0 + 1,
+        colour: colour_to_b1(index),
+        index,
+    }
+}
+
+/// The colour up to the changing place of an index: each change of the reference ends a stretch of it.
+#[inline]
+fn colour_to_b1(index: usize) -> Colour
+    ensures { result ≡ colour_after_changes index }
+{
+    if index % 2 == 0 {
+        Colour::White
+    } else {
+        Colour::Black
     }
 }
 

@@ -122,3 +122,35 @@ pub rising_count : (from : ℕ) (ps : List ℕ) (end : ℕ) → AreRising from p
 unfolding AreRising
 rising_count from [] end r = let here : from ≤ end = r in omega arith
 rising_count from (p ∷ ps) end r = let rest : p + 1 + length ps ≤ end = rising_count (p + 1) ps end r.1 in let here : from ≤ p = r.0 in omega arith
+
+-- ---- changing places behind others
+pub rising_join : (from : ℕ) (ps : List ℕ) (mid : ℕ) (qs : List ℕ) (end : ℕ) → AreRising from ps mid → AreRising mid qs end → AreRising from (ps ++ qs) end
+unfolding AreRising
+rising_join from [] mid qs end r s = rising_lower mid from qs end r s
+rising_join from (p ∷ ps) mid qs end r s = (r.0, rising_join (p + 1) ps mid qs end r.1 s)
+
+-- the colour does not change where they meet
+pub painted-join : (colour : Colour) (from : ℕ) (ps : List ℕ) (mid : ℕ) (qs : List ℕ) (end : ℕ) → AreRising from ps mid → AreRising mid qs end
+    → painted colour from (ps ++ qs) end ≡ painted colour from ps mid ++ painted (colour_behind colour ps) mid qs end
+unfolding painted AreRising
+painted-join colour from [] mid [] end r s =
+    let sum : end - from ≡ (mid - from) + (end - mid) = omega arith in
+    ap (λ (n : ℕ). replicate n colour) sum ∙ sym (replicate-append-replicate (mid - from) (end - mid) colour)
+painted-join colour from [] mid (q ∷ qs) end r s =
+    let here : mid ≤ q = s.0 in
+    let sum : q - from ≡ (mid - from) + (q - mid) = omega arith in
+    ap (λ (n : ℕ). replicate n colour ++ painted (other colour) q qs end) sum
+    ∙ ap (λ (es : Elements). es ++ painted (other colour) q qs end) (sym (replicate-append-replicate (mid - from) (q - mid) colour))
+    ∙ append_assoc (replicate (mid - from) colour) (replicate (q - mid) colour) (painted (other colour) q qs end)
+painted-join colour from (p ∷ ps) mid qs end r s =
+    ap (λ (es : Elements). replicate (p - from) colour ++ es) (painted-join (other colour) p ps mid qs end (rising_lower (p + 1) p ps mid (omega arith) r.1) s)
+    ∙ sym (append_assoc (replicate (p - from) colour) (painted (other colour) p ps mid) (painted (colour_behind (other colour) ps) mid qs end))
+
+-- the colour changes where they meet
+pub painted-turn : (colour : Colour) (from : ℕ) (ps : List ℕ) (mid : ℕ) (qs : List ℕ) (end : ℕ)
+    → painted colour from (ps ++ mid ∷ qs) end ≡ painted colour from ps mid ++ painted (other (colour_behind colour ps)) mid qs end
+unfolding painted
+painted-turn colour from [] mid qs end = refl
+painted-turn colour from (p ∷ ps) mid qs end =
+    ap (λ (es : Elements). replicate (p - from) colour ++ es) (painted-turn (other colour) p ps mid qs end)
+    ∙ sym (append_assoc (replicate (p - from) colour) (painted (other colour) p ps mid) (painted (other (colour_behind (other colour) ps)) mid qs end))

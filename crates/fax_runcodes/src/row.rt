@@ -8,6 +8,7 @@ mod painting;
 mod pixels;
 #[cfg(test)]
 mod tests;
+mod turning;
 
 use crate::{Colour, RowFault};
 use fax_bits::NoMemory;

@@ -1,5 +1,5 @@
 //! Bits ahead of a reader, in a window of 56 bits.
-ghost use Rattle.std.specs.Prelude.{List, Bool, false, drop, replicate, ◌<◌, ◌≤◌, ◌≡◌, ◌-◌, ◌++◌, ◌^◌, IfSome};
+ghost use Rattle.std.specs.Prelude.{List, Bool, true, false, drop, replicate, ◌<◌, ◌≤◌, ◌≡◌, ◌-◌, ◌++◌, ◌^◌, IfSome};
 ghost use Rattle.fax_bits.specs.Bits.{word_bits};
 ghost use Rattle.fax_runcodes.specs.Spelling.{SpellsRun};
 ghost use Rattle.fax_mrcode.specs.declared.mode.Mode.{Mode};
@@ -68,6 +68,17 @@ pub(super) fn past_pass(ahead: Ahead) -> Option<Ahead>
         return None;
     }
     Some(past(ahead, 4))
+}
+
+/// How many ones the bits begin with.
+#[inline]
+pub(super) fn ones(ahead: Ahead) -> u32
+    requires { ahead.window < 2 ^ 56 }
+    ensures few { result ≤ ahead.left }
+    ensures ones { (more : List Bool) × (word_bits 56 ahead.window ≡ replicate result true ++ more) }
+{
+    let zeros_for_ones = (1u64 << 56) - 1 - ahead.window;
+    (zeros_for_ones.leading_zeros() - 8).min(ahead.left)
 }
 
 /// The bits behind the first n.

@@ -7,7 +7,7 @@ use std::test::Fail;
 #[test]
 fn reads_line_after_line_into_one_builder(rt: HostRuntime) -> Result<(), Fail> {
     // the runs of the reference, the octets, how many bits are passed, and the changing places of the row
-    let cases: [(&[u16], &[u8], u128, &[u16]); 7] = [
+    let cases: [(&[u16], &[u8], u128, &[u16]); 10] = [
         // V0
         (&[1728], &[0x80], 1, &[]),
         // horizontal with white 0 and black 3, V0
@@ -20,6 +20,12 @@ fn reads_line_after_line_into_one_builder(rt: HostRuntime) -> Result<(), Fail> {
         (&[4, 1, 1723], &[0x18], 5, &[]),
         // VR1, V0
         (&[4, 1, 1723], &[0x70], 4, &[5]),
+        // V0 five times
+        (&[4, 1, 1, 1, 1721], &[0xff], 5, &[4, 5, 6, 7]),
+        // V0 three times, VR1, V0
+        (&[4, 1, 1, 1, 1721], &[0xee], 7, &[4, 5, 6, 8]),
+        // V0 three times, the first at the first element
+        (&[0, 3, 1725], &[0xe0], 3, &[0, 3]),
         // Horizontal with white 12 and black 1, VL3 from 21, V0 at 20, V0 at 21, V0: the place 20 lies
         // left of b1 and right of a1.
         (

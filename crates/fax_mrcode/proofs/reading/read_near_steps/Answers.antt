@@ -1,9 +1,8 @@
-use Rattle.std.proofs.Common.{◌+◌, ◌-◌, ◌≤◌, ◌≡◌, ◌++◌, drop, length, refl, ◌∙◌, arith}
+use Rattle.std.proofs.Common.{◌+◌, ◌-◌, ◌≤◌, ◌≡◌, drop, length, refl, ◌∙◌, arith}
 use Rattle.std.proofs.lemmas.List.{drop-drop}
 use Rattle.fax_runcodes.specs.declared.Colour.TheVariants.{White}
 use Rattle.fax_runcodes.specs.Painted.{painted}
-use Rattle.fax_mrcode.specs.Modes.{mode_word}
-use Rattle.fax_mrcode.proofs.StepLemmas.{StepsSoFar-more}
+use Rattle.fax_mrcode.proofs.StepLemmas.{StepsSoFar-then}
 use Rattle.fax_mrcode.proofs.VerticalLemmas.{Shows-first, behind_place, behind_none, skipped, passes_shown}
 use Rattle.fax_mrcode.proofs.reading.read_near_steps.Goals as goal
 use Rattle.fax_mrcode.proofs.reading.read_near_steps.Goals.{After-skip, else-loop-from-test, then-loop-from-test+in_default}
@@ -35,12 +34,12 @@ loop-from-preserved c =
       below = behind.below;
       shows = rw (next, ← drop-drop n passed c.args.reader.now.left) (behind.shows bits held.shows);
       is_start = c.in-Some.ensures.next;
-      right = omega (arith, held.right, taken.3.right, taken.3.from_is);
-      so_far = λ old so_far. StepsSoFar-more (painted White 0 c.args.changes.now c.args.width) c.args.width old (behind_place c.args.reader.now passed) (behind_place c.args.reader.now (c.known-known.result - near.ahead.left))
-          c.loop-from.line (record { from = c.loop-from.from; colour = c.loop-from.colour; index = c.loop-from.index }) c.near_step.new.line near.start taken.0 taken.1
-          (held.so_far old so_far) c.loop-from-test.true
-          (passes_shown c.args.reader.now passed n (c.known-known.result - near.ahead.left) (mode_word taken.0 ++ taken.1) (omega arith) (taken.2 bits held.shows) next)
-          taken.3;
+      right = omega (arith, held.right, taken.2.right);
+      so_far = λ old so_far. StepsSoFar-then (painted White 0 c.args.changes.now c.args.width) c.args.width old (behind_place c.args.reader.now passed) (behind_place c.args.reader.now (c.known-known.result - near.ahead.left))
+          c.loop-from.line (record { from = c.loop-from.from; colour = c.loop-from.colour; index = c.loop-from.index }) c.near_step.new.line near.start taken.0
+          (held.so_far old so_far)
+          (passes_shown c.args.reader.now passed n (c.known-known.result - near.ahead.left) taken.0 (omega arith) (taken.1 bits held.shows) next)
+          taken.2;
     }
 
 same_line : (c : After-skip) → c.loop-from-test.line ≡ c.loop-from.line
