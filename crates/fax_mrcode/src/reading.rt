@@ -256,16 +256,18 @@ fn near_zeros(
         index: index_of_b1(changes, start),
         ..start
     };
-    let steps = (ones(ahead) as usize).min(changes.len().saturating_sub(at_b1.index));
-    if steps < 2 || start.from == 0 {
-        return Near {
-            start: vertical_zero(line, changes, width, at_b1),
-            ahead: past(ahead, 1),
-        };
+    if ahead.window >> 54 == 0b11 && start.from > 0 {
+        let steps = (ones(ahead) as usize).min(changes.len().saturating_sub(at_b1.index));
+        if steps > 0 {
+            return Near {
+                start: vertical_zeros(line, changes, width, at_b1, steps),
+                ahead: past(ahead, steps as u32),
+            };
+        }
     }
     Near {
-        start: vertical_zeros(line, changes, width, at_b1, steps),
-        ahead: past(ahead, steps as u32),
+        start: vertical_zero(line, changes, width, at_b1),
+        ahead: past(ahead, 1),
     }
 }
 
