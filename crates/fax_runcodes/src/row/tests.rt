@@ -124,12 +124,16 @@ fn paints_pairs_and_puts_runs(rt: HostRuntime) -> Result<(), Fail> {
 }
 
 #[test]
+#[tactic(auto, unfolding(crate::specs::Painted::AreRising))]
 fn paints_elements_that_turn(rt: HostRuntime) -> Result<(), Fail> {
     let mut builder = RowBuilder::new(rt.alloc())?;
     let mut runs = [9; 8];
     builder.paint_turning(Black, &[3, 5], 6);
+    assert_eq!(rt; builder.len(), 6);
     builder.paint_turning(Black, &[], 16);
+    assert_eq!(rt; builder.len(), 16);
     builder.paint_turning(White, &[1000], 2048);
+    assert_eq!(rt; builder.len(), 2048);
     assert_eq!(rt; builder.lend().put_runs(&mut runs), Some(6));
     assert_eq!(rt; runs, [0, 3, 2, 11, 984, 1048, 9, 9]);
     Ok(())
