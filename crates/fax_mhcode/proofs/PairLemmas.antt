@@ -1,30 +1,17 @@
 -- A white word and a black one in one window.
-use Rattle.std.proofs.Common.{◌≡◌, ℕ, ◌+◌, ◌-◌, ◌<◌, ◌≤◌, Bool, false, List, [], ◌++◌, length, take, drop, replicate, refl, sym, ◌∙◌, ap, ap₂, subst, arith, append_assoc, length-append, length-take-le, Contains, zero-add, add-zero}
+use Rattle.std.proofs.Common.{◌≡◌, ℕ, ◌+◌, ◌-◌, ◌<◌, ◌≤◌, Bool, false, List, ◌++◌, length, take, drop, replicate, refl, sym, ◌∙◌, ap, ap₂, subst, arith, append_assoc, length-append, length-take-le, add-zero}
 use Rattle.std.proofs.lemmas.List.{drop-append-le, drop-drop, drop-take, length-drop, replicate-append-replicate, take-append-drop}
-use Rattle.std.proofs.lemmas.List.Elements.{All-nil}
 use Rattle.std.proofs.Math.Seq.{take-append_seam}
 use Rattle.fax_bits.specs.Reading.{Place, Passes}
-use Rattle.fax_runcodes.specs.declared.Colour.{Colour}
 use Rattle.fax_runcodes.specs.declared.Colour.TheVariants.{White, Black}
-use Rattle.fax_runcodes.specs.CodeTables.{Word, make_up_words, terminating_words}
 use Rattle.fax_runcodes.specs.Pairs.{IsPairAt}
 use Rattle.fax_runcodes.specs.declared.tables.WordPair.{WordPair}
 use Rattle.fax_runcodes.specs.Rows.{Elements}
 use Rattle.fax_runcodes.specs.Spelling.{SpellsRun}
 use Rattle.fax_runcodes.proofs.ReadLemmas.{front_of}
+use Rattle.fax_runcodes.proofs.RunAtLemmas.{short_spelt}
 use Rattle.fax_mhcode.specs.Pairs.{GoesOn, RunsSoFar, SpellsPair}
 use Rattle.fax_mhcode.proofs.LineLemmas.{RunsSoFar-more, length-paint}
-
--- a terminating word spells its run
-word_spells : (colour : Colour) (w : Word) → Contains (terminating_words colour) w → SpellsRun colour w.word w.run
-word_spells colour w ends = record {
-  make_up = [];
-  last = w;
-  are_make_up = All-nil (λ (m : Word). Contains (make_up_words colour) m);
-  is_terminating = ends;
-  text_is = refl;
-  run_is = sym (zero-add w.run);
-}
 
 -- the pair that a shifted window begins with stands in the bits behind those that were used
 pub pair_spelt : (left window behind : List Bool) (used : ℕ) (found : WordPair) → take 56 left ≡ window → length window ≡ 56
@@ -43,8 +30,8 @@ pair_spelt left window behind used found front wide is_behind within at =
       white_text = at.white.word;
       black_text = at.black.word;
       rest = drop (length both) (drop used window) ++ drop 56 left;
-      white_spelt = subst (λ (n : ℕ). SpellsRun White at.white.word n) at.white_is (word_spells White at.white at.begins.white_ends);
-      black_spelt = subst (λ (n : ℕ). SpellsRun Black at.black.word n) at.black_is (word_spells Black at.black at.begins.black_ends);
+      white_spelt = subst (λ (n : ℕ). SpellsRun White at.white.word n) at.white_is (short_spelt White at.white at.begins.white_ends);
+      black_spelt = subst (λ (n : ℕ). SpellsRun Black at.black.word n) at.black_is (short_spelt Black at.black at.begins.black_ends);
       bits_are = behind_used ∙ ap (λ (bits : List Bool). bits ++ drop 56 left) there ∙ append_assoc both (drop (length both) (drop used window)) (drop 56 left);
       size_is = sym at.bits_is;
     }

@@ -1,5 +1,5 @@
 -- Steps in vertical mode, read from one window: the table of their words, and what a window shows.
-use Rattle.std.proofs.Common.{◌≡◌, ℕ, zero, suc, ◌+◌, ◌-◌, ◌*◌, ◌/◌, ◌^◌, ◌<◌, ◌≤◌, ◌==◌, Bool, true, false, ◌&&◌, ◌||◌, List, [], ◌∷◌, ◌++◌, length, slice_index_or, take, drop, take_at, Contains, zero-add, subst, length-drop, replicate, min, refl, sym, ◌∙◌, ap, ap₂, arith, append_assoc, add-zero, add-suc, suc-add, inl, inr, ◌⊎◌}
+use Rattle.std.proofs.Common.{◌≡◌, ℕ, zero, suc, ◌+◌, ◌-◌, ◌/◌, ◌^◌, ◌<◌, ◌≤◌, ◌==◌, Bool, true, false, ◌&&◌, ◌||◌, List, [], ◌∷◌, ◌++◌, length, slice_index_or, take, drop, take_at, subst, length-drop, replicate, min, refl, sym, ◌∙◌, ap, ap₂, arith, append_assoc, add-zero, add-suc, suc-add, inl, inr, ◌⊎◌}
 use Rattle.std.proofs.lemmas.Bool.{and_parts, eqb-true}
 use Rattle.std.proofs.lemmas.List.{drop-drop, take-append-drop, drop_at, drop-append-le, take-append-le, length-take-le, take-take, drop-take}
 use Rattle.fax_bits.specs.Bits.{word_bits, bit}
@@ -13,16 +13,12 @@ use Rattle.fax_mrcode.specs.Modes.{mode_word}
 use Rattle.fax_runcodes.specs.Rows.{Elements}
 use Rattle.fax_mrcode.specs.declared.reading.Start.{Start}
 use Rattle.std.proofs.Math.Seq.{take-add}
-use Rattle.std.proofs.lemmas.List.Elements.{All-nil}
-use Rattle.fax_runcodes.specs.declared.Colour.{Colour}
-use Rattle.fax_runcodes.specs.CodeTables.{Word, make_up_words, terminating_words}
-use Rattle.fax_runcodes.specs.Spelling.{SpellsRun}
 use Rattle.fax_mrcode.specs.declared.mode.Mode.{Mode}
 use Rattle.fax_mrcode.specs.Windows.{Shows, ShowsBehind, FirstAre}
 use Rattle.fax_mrcode.specs.Starts.{TakesStep}
 use Rattle.fax_mrcode.proofs.ModeTable.{mode_size}
 use Rattle.fax_bits.proofs.WindowLemmas.{padded-known}
-use Rattle.fax_bits.proofs.BitsLemmas.{word_bits-add, word_bits-shl, length-word_bits}
+use Rattle.fax_bits.proofs.BitsLemmas.{word_bits-add}
 
 -- the place n bits further on
 abbrev pub behind_place : Place → ℕ → Place
@@ -92,16 +88,6 @@ module _ (window : ℕ) (below : window < 2 ^ 56) (entry : VerticalWord) (is : e
       rw whole (said (word_bits 7 (window / 2 ^ 49)) (word_bits 49 window) entry of_seven some)
 
 -- ---- what a window shows
--- a window without its first bits
-pub behind_bits : (window n : ℕ) → n ≤ 56 → word_bits 56 (window * 2 ^ n) ≡ drop n (word_bits 56 window) ++ replicate n false
-behind_bits window n few =
-    let high = word_bits n (window * 2 ^ n / 2 ^ 56) in
-    let low = word_bits 56 (window * 2 ^ n) in
-    let size : 56 + n ≡ n + 56 = omega arith in
-    let long : length (word_bits 56 window) ≡ 56 = length-word_bits 56 window in
-    sym (drop_at high low n (length-word_bits n (window * 2 ^ n / 2 ^ 56)))
-    ∙ ap (drop n) (sym (word_bits-add n 56 (window * 2 ^ n)) ∙ ap (λ (k : ℕ). word_bits k (window * 2 ^ n)) (sym size) ∙ word_bits-shl 56 n window)
-    ∙ drop-append-le n (word_bits 56 window) (replicate n false) (omega arith)
 
 -- at first it shows what is known
 pub Shows-first : (window known : ℕ) (bits : List Bool) → known ≡ min 56 (length bits) → word_bits 56 window ≡ padded 56 bits → Shows window known (drop (known - known) bits)
@@ -179,17 +165,6 @@ zero_word = refl
 -- the word of vertical mode with a1 at b1 begins a window
 pub zero_begins : (window : ℕ) → window / 2 ^ 55 ≡ 1 → word_bits 56 window ≡ mode_word (Vertical Zero) ++ word_bits 55 window
 zero_begins window e = word_bits-add 1 55 window ∙ ap (λ (n : ℕ). word_bits 1 n ++ word_bits 55 window) e ∙ ap (λ (b : List Bool). b ++ word_bits 55 window) zero_word
-
--- a terminating word spells its run
-pub word_spells : (colour : Colour) (w : Word) → Contains (terminating_words colour) w → SpellsRun colour w.word w.run
-word_spells colour w ends = record {
-  make_up = [];
-  last = w;
-  are_make_up = All-nil (λ (m : Word). Contains (make_up_words colour) m);
-  is_terminating = ends;
-  text_is = refl;
-  run_is = sym (zero-add w.run);
-}
 
 -- ---- places
 pub behind_none : (p : Place) (k : ℕ) → behind_place p (k - k) ≡ p

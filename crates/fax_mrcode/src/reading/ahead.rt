@@ -6,6 +6,7 @@ ghost use Rattle.fax_mrcode.specs.declared.mode.Mode.{Mode};
 ghost use Rattle.fax_mrcode.specs.Modes.{mode_word};
 ghost use Rattle.fax_mrcode.specs.Windows.{ShowsBehind, FirstAre};
 
+use fax_bits::behind;
 use fax_runcodes::{Colour, word_at};
 
 /// A window, the most significant bit first, and how many of its bits are left to read.
@@ -94,15 +95,4 @@ pub(super) fn past(ahead: Ahead, n: u32) -> Ahead
         window: behind(ahead.window, n),
         left: ahead.left - n,
     }
-}
-
-/// A window of 56 bits without the first n, with n zeros behind the others.
-#[inline]
-fn behind(window: u64, n: u32) -> u64
-    requires window { window < 2 ^ 56 }
-    requires few { n ≤ 56 }
-    ensures bits { word_bits 56 result ≡ drop n (word_bits 56 window) ++ replicate n false }
-    ensures window { result < 2 ^ 56 }
-{
-    (window << n) % (1 << 56)
 }
