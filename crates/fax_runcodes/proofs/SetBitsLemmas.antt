@@ -1,5 +1,5 @@
 -- Bits set in octets, from one place to another.
-use Rattle.std.proofs.Common.{◌≡◌, ◌≢◌, ℕ, zero, suc, ◌+◌, ◌-◌, ◌*◌, ◌/◌, ◌%◌, ◌^◌, ◌<◌, ◌≤◌, ◌==◌, Bool, true, false, cond, leb, List, ◌++◌, length, take, drop, get_or, set, replicate, min, max, refl, sym, ◌∙◌, ap, arith, ◌⊎◌, inl, inr, length-append, length-drop, length-set, bit_and, bit_or}
+use Rattle.std.proofs.Common.{◌≡◌, ◌≢◌, ℕ, zero, suc, ◌+◌, ◌-◌, ◌*◌, ◌/◌, ◌%◌, ◌<◌, ◌≤◌, ◌==◌, Bool, true, false, cond, leb, List, ◌++◌, length, take, drop, get_or, set, replicate, min, max, refl, sym, ◌∙◌, ap, arith, ◌⊎◌, inl, inr, length-append, length-drop, length-set, bit_and, bit_or}
 use Rattle.std.specs.Int.{bit_at}
 use Rattle.std.proofs.lemmas.Bool.{cases_lt, cases_eq, eqb-true, eq-eqb, le-leb}
 use Rattle.std.proofs.lemmas.Bool.Decides.{leb_tells}
@@ -8,6 +8,7 @@ use Rattle.std.proofs.lemmas.List.{ext_get_or, get_or-set_same, get_or-set_other
 use borrow.Rule.Slice.PartMut.{put_mid, post_of}
 use Rattle.fax_bits.specs.Bits.{bit, bits_of}
 use Rattle.fax_bits.proofs.BitsLemmas.{bits_of_at, length-bits_of}
+use Rattle.fax_runcodes.specs.declared.row.pixels.TheConstants.{BITS_FROM, BITS_UP_TO}
 
 -- ---- tests of each number below another, which compute
 all_below : ℕ → (ℕ → Bool) → Bool
@@ -39,12 +40,12 @@ same_is true b h = sym h
 same_is false true h = cc
 same_is false false h = refl
 
--- ---- masks: the bits from r on, and those up to t, the most significant first
-head_bits : all_below 8 (λ r. all_below 8 (λ m. same (bit (255 / 2 ^ r) (7 - m)) (leb r m))) ≡ true
+-- ---- the tables of masks: the bits from r on, and those up to t, the most significant first
+head_bits : all_below 8 (λ r. all_below 8 (λ m. same (bit (get_or BITS_FROM r 0) (7 - m)) (leb r m))) ≡ true
 unfolding bit all_below same
 head_bits = refl
 
-tail_bits : all_below 8 (λ t. all_below 8 (λ m. same (bit (255 * 2 ^ (7 - t) % 256) (7 - m)) (leb m t))) ≡ true
+tail_bits : all_below 8 (λ t. all_below 8 (λ m. same (bit (get_or BITS_UP_TO t 0) (7 - m)) (leb m t))) ≡ true
 unfolding bit all_below same
 tail_bits = refl
 
@@ -52,13 +53,13 @@ ones_bits : all_below 8 (λ m. bit 255 (7 - m)) ≡ true
 unfolding bit all_below
 ones_bits = refl
 
-pub head_bit : (r m : ℕ) → r < 8 → m < 8 → bit (255 / 2 ^ r) (7 - m) ≡ leb r m
-head_bit r m hr hm = same_is (bit (255 / 2 ^ r) (7 - m)) (leb r m)
-    (all_below_at 8 (λ n. same (bit (255 / 2 ^ r) (7 - n)) (leb r n)) (all_below_at 8 (λ q. all_below 8 (λ n. same (bit (255 / 2 ^ q) (7 - n)) (leb q n))) head_bits r hr) m hm)
+pub head_bit : (r m : ℕ) → r < 8 → m < 8 → bit (get_or BITS_FROM r 0) (7 - m) ≡ leb r m
+head_bit r m hr hm = same_is (bit (get_or BITS_FROM r 0) (7 - m)) (leb r m)
+    (all_below_at 8 (λ n. same (bit (get_or BITS_FROM r 0) (7 - n)) (leb r n)) (all_below_at 8 (λ q. all_below 8 (λ n. same (bit (get_or BITS_FROM q 0) (7 - n)) (leb q n))) head_bits r hr) m hm)
 
-pub tail_bit : (t m : ℕ) → t < 8 → m < 8 → bit (255 * 2 ^ (7 - t) % 256) (7 - m) ≡ leb m t
-tail_bit t m ht hm = same_is (bit (255 * 2 ^ (7 - t) % 256) (7 - m)) (leb m t)
-    (all_below_at 8 (λ n. same (bit (255 * 2 ^ (7 - t) % 256) (7 - n)) (leb n t)) (all_below_at 8 (λ q. all_below 8 (λ n. same (bit (255 * 2 ^ (7 - q) % 256) (7 - n)) (leb n q))) tail_bits t ht) m hm)
+pub tail_bit : (t m : ℕ) → t < 8 → m < 8 → bit (get_or BITS_UP_TO t 0) (7 - m) ≡ leb m t
+tail_bit t m ht hm = same_is (bit (get_or BITS_UP_TO t 0) (7 - m)) (leb m t)
+    (all_below_at 8 (λ n. same (bit (get_or BITS_UP_TO t 0) (7 - n)) (leb n t)) (all_below_at 8 (λ q. all_below 8 (λ n. same (bit (get_or BITS_UP_TO q 0) (7 - n)) (leb n q))) tail_bits t ht) m hm)
 
 pub ones_bit : (m : ℕ) → m < 8 → bit 255 (7 - m) ≡ true
 ones_bit m hm = all_below_at 8 (λ n. bit 255 (7 - n)) ones_bits m hm
@@ -197,10 +198,10 @@ abbrev pub or_at : List ℕ → ℕ → ℕ → List ℕ
 or_at octets k mask = set octets k (bit_or (get_or octets k 0) mask)
 
 abbrev pub head : ℕ → ℕ
-head from = 255 / 2 ^ (from % 8)
+head from = get_or BITS_FROM (from % 8) 0
 
 abbrev pub tail : ℕ → ℕ
-tail to = 255 * 2 ^ (7 - (to - 1) % 8) % 256
+tail to = get_or BITS_UP_TO ((to - 1) % 8) 0
 
 gt_leb : (a b : ℕ) → b < a → leb a b ≡ false
 gt_leb a b h = elim (leb_tells a b) [ inl le ↦ let order : a ≤ b = le.1 in absurd (omega arith) | inr gt ↦ gt.0 ]

@@ -25,6 +25,12 @@ impl<'a> RowRef<'a> {
     }
 }
 
+/// The bits of an octet from a place on, the most significant first.
+const BITS_FROM: [u8; 8] = [0xff, 0x7f, 0x3f, 0x1f, 0x0f, 0x07, 0x03, 0x01];
+
+/// The bits of an octet up to a place and with it, the most significant first.
+const BITS_UP_TO: [u8; 8] = [0x80, 0xc0, 0xe0, 0xf0, 0xf8, 0xfc, 0xfe, 0xff];
+
 /// Sets the bits of octets from one place to another, the most significant bit of an octet first.
 #[inline]
 fn set_bits(octets: &mut [u8], from: u16, to: u16)
@@ -35,8 +41,8 @@ fn set_bits(octets: &mut [u8], from: u16, to: u16)
 {
     let first = usize::from(from / 8);
     let last = usize::from((to - 1) / 8);
-    let head = 0xffu8 >> (from % 8);
-    let tail = 0xffu8 << (7 - (to - 1) % 8);
+    let head = BITS_FROM[usize::from(from % 8)];
+    let tail = BITS_UP_TO[usize::from((to - 1) % 8)];
     if first == last {
         octets[first] |= head & tail;
     } else {
