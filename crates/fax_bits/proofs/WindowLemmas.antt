@@ -153,13 +153,13 @@ padded-known m known bits e = elim (cases_lt (length bits) m) [
       rw (none, append-nil, all) (padded-le m bits long)
 ]
 
--- a window without its first bits
-pub behind_bits : (window n : ℕ) → n ≤ 56 → word_bits 56 (window * 2 ^ n) ≡ drop n (word_bits 56 window) ++ replicate n false
-behind_bits window n few =
-    let high = word_bits n (window * 2 ^ n / 2 ^ 56) in
-    let low = word_bits 56 (window * 2 ^ n) in
-    let size : 56 + n ≡ n + 56 = omega arith in
-    let long : length (word_bits 56 window) ≡ 56 = length-word_bits 56 window in
-    sym (drop_at high low n (length-word_bits n (window * 2 ^ n / 2 ^ 56)))
-    ∙ ap (drop n) (sym (word_bits-add n 56 (window * 2 ^ n)) ∙ ap (λ (k : ℕ). word_bits k (window * 2 ^ n)) (sym size) ∙ word_bits-shl 56 n window)
-    ∙ drop-append-le n (word_bits 56 window) (replicate n false) (omega arith)
+-- a word without its first bits
+pub shifted_bits : (size word n : ℕ) → n ≤ size → word_bits size (word * 2 ^ n) ≡ drop n (word_bits size word) ++ replicate n false
+shifted_bits size word n few =
+    let high = word_bits n (word * 2 ^ n / 2 ^ size) in
+    let low = word_bits size (word * 2 ^ n) in
+    let same : size + n ≡ n + size = omega arith in
+    let long : length (word_bits size word) ≡ size = length-word_bits size word in
+    sym (drop_at high low n (length-word_bits n (word * 2 ^ n / 2 ^ size)))
+    ∙ ap (drop n) (sym (word_bits-add n size (word * 2 ^ n)) ∙ ap (λ (k : ℕ). word_bits k (word * 2 ^ n)) (sym same) ∙ word_bits-shl size n word)
+    ∙ drop-append-le n (word_bits size word) (replicate n false) (omega arith)

@@ -1,8 +1,11 @@
 -- A white word and a black one in one window.
-use Rattle.std.proofs.Common.{◌≡◌, ℕ, ◌+◌, ◌-◌, ◌<◌, ◌≤◌, Bool, false, List, ◌++◌, length, take, drop, replicate, refl, sym, ◌∙◌, ap, ap₂, subst, arith, append_assoc, length-append, length-take-le, add-zero}
-use Rattle.std.proofs.lemmas.List.{drop-append-le, drop-drop, drop-take, length-drop, replicate-append-replicate, take-append-drop}
+use Rattle.std.proofs.Common.{◌≡◌, ℕ, ◌+◌, ◌-◌, ◌*◌, ◌/◌, ◌%◌, ◌^◌, ◌<◌, ◌≤◌, Bool, false, List, ◌++◌, length, take, drop, replicate, refl, sym, ◌∙◌, ap, ap₂, subst, arith, append_assoc, length-append, length-take-le, add-zero}
+use Rattle.std.proofs.lemmas.List.{drop-append-le, drop-drop, drop-take, length-drop, length-replicate, replicate-append-replicate, take-append-drop, take_at}
 use Rattle.std.proofs.Math.Seq.{take-append_seam}
+use Rattle.fax_bits.specs.Bits.{word_bits}
 use Rattle.fax_bits.specs.Reading.{Place, Passes}
+use Rattle.fax_bits.proofs.BitsLemmas.{word_bits-add, word_bits-mod, word_bits-shl, length-word_bits}
+use Rattle.fax_bits.proofs.WindowLemmas.{shifted_bits}
 use Rattle.fax_runcodes.specs.declared.Colour.TheVariants.{White, Black}
 use Rattle.fax_runcodes.specs.Pairs.{IsPairAt}
 use Rattle.fax_runcodes.specs.declared.tables.WordPair.{WordPair}
@@ -37,17 +40,43 @@ pair_spelt left window behind used found front wide is_behind within at =
     }
 
 -- a window that is shifted once more
-pub behind_more : (window behind next : List Bool) (used n : ℕ) → length window ≡ 56 → used + n ≤ 56
+pub behind_more : (size : ℕ) (window behind next : List Bool) (used n : ℕ) → length window ≡ size → used + n ≤ size
     → behind ≡ drop used window ++ replicate used false → next ≡ drop n behind ++ replicate n false
     → next ≡ drop (used + n) window ++ replicate (used + n) false
-behind_more window behind next used n wide within is_behind is_next =
-    let ahead : length (drop used window) ≡ 56 - used = length-drop used window ∙ ap (λ (k : ℕ). k - used) wide in
+behind_more size window behind next used n wide within is_behind is_next =
+    let ahead : length (drop used window) ≡ size - used = length-drop used window ∙ ap (λ (k : ℕ). k - used) wide in
     is_next
     ∙ ap (λ (bits : List Bool). drop n bits ++ replicate n false) is_behind
     ∙ ap (λ (bits : List Bool). bits ++ replicate n false) (drop-append-le n (drop used window) (replicate used false) (omega arith))
     ∙ append_assoc (drop n (drop used window)) (replicate used false) (replicate n false)
     ∙ ap (λ (bits : List Bool). bits ++ (replicate used false ++ replicate n false)) (drop-drop n used window)
     ∙ ap (λ (bits : List Bool). drop (used + n) window ++ bits) (replicate-append-replicate used n false)
+
+-- ---- a window at the top of 64 bits
+abbrev pub at_top : List Bool → List Bool
+at_top window = window ++ replicate 8 false
+
+pub at_top_bits : (window : ℕ) → word_bits 64 (window * 2 ^ 8 % 18446744073709551616) ≡ at_top (word_bits 56 window)
+at_top_bits window = word_bits-mod 64 64 (window * 2 ^ 8) (omega arith) ∙ word_bits-shl 56 8 window
+
+pub shifted_top : (rest n : ℕ) → n ≤ 64 → word_bits 64 (rest * 2 ^ n % 18446744073709551616) ≡ drop n (word_bits 64 rest) ++ replicate n false
+shifted_top rest n few = word_bits-mod 64 64 (rest * 2 ^ n) (omega arith) ∙ shifted_bits 64 rest n few
+
+-- its first 56 bits, once it is shifted
+pub top_of : (rest : ℕ) (window : List Bool) (used : ℕ) → length window ≡ 56 → used ≤ 56 → word_bits 64 rest ≡ drop used (at_top window) ++ replicate used false
+    → word_bits 56 (rest / 2 ^ 8) ≡ drop used window ++ replicate used false
+top_of rest window used wide within is =
+    let swap : 8 + used ≡ used + 8 = omega arith in
+    let front : length (drop used window) ≡ 56 - used = length-drop used window ∙ ap (λ (n : ℕ). n - used) wide in
+    let zeros : length (replicate used false) ≡ used = length-replicate used false in
+    let all : length (drop used window ++ replicate used false) ≡ 56 = omega (arith, length-append (drop used window) (replicate used false), front, zeros) in
+    let text : word_bits 64 rest ≡ (drop used window ++ replicate used false) ++ replicate 8 false =
+    is ∙ ap (λ (bits : List Bool). bits ++ replicate used false) (drop-append-le used window (replicate 8 false) (omega (arith, wide)))
+    ∙ append_assoc (drop used window) (replicate 8 false) (replicate used false)
+    ∙ ap (λ (bits : List Bool). drop used window ++ bits) (replicate-append-replicate 8 used false ∙ ap (λ (n : ℕ). replicate n false) swap ∙ sym (replicate-append-replicate used 8 false))
+    ∙ sym (append_assoc (drop used window) (replicate used false) (replicate 8 false)) in
+    sym (take_at (word_bits 56 (rest / 2 ^ 8)) (word_bits 8 rest) 56 (length-word_bits 56 (rest / 2 ^ 8)))
+    ∙ ap (take 56) (sym (word_bits-add 56 8 rest) ∙ text) ∙ take_at (drop used window ++ replicate used false) (replicate 8 false) 56 all
 
 -- the place behind the first bits of what is left
 abbrev pub behind_first : ℕ → Place → Place

@@ -4,7 +4,7 @@ ghost use Rattle.fax_bits.specs.Bits.{word_bits};
 ghost use Rattle.fax_bits.specs.Reading.{Place, Passes};
 ghost use Rattle.fax_mhcode.specs.Pairs.{GoesOn};
 
-use fax_bits::{BitReader, behind};
+use fax_bits::BitReader;
 use fax_runcodes::{RowBuilder, pair_at};
 
 /// How many pairs are looked for in one window of 56 bits. The words of each have 11 bits at most.
@@ -54,9 +54,11 @@ fn paint_pairs(line: &mut RowBuilder, window: u64, left: u16) -> Painted
     ensures bits { result.bits ≤ 55 }
     ensures fewer { IsTrue result.goes_on → result.left < left }
 {
-    let (mut rest, mut bits, mut left) = (window, 0, left);
+    // What is left of the window, at the top of 64 bits.
+    let mut rest = window << 8;
+    let (mut bits, mut left) = (0, left);
     for _ in 0..PAIRS {
-        let Some(pair) = pair_at(rest) else {
+        let Some(pair) = pair_at(rest >> 8) else {
             return Painted {
                 bits,
                 left,
@@ -75,7 +77,7 @@ fn paint_pairs(line: &mut RowBuilder, window: u64, left: u16) -> Painted
         left -= white + black;
         let used = u32::from(pair.bits);
         bits += used;
-        rest = behind(rest, used);
+        rest <<= used;
     }
     Painted {
         bits,

@@ -33,11 +33,12 @@ impl CodeWord {
     }
 }
 
-/// A white word with a black one behind it, both of runs that are short and not empty: the lengths of the
-/// runs, in elements, and how many bits both words have.
+/// A white word with a black one behind it, both of runs that are short and not empty: how many bits both
+/// words have, and the lengths of the runs, in elements. The bits stand first, since the next look-up waits
+/// for them.
 #[derive(Clone, Copy, PartialEq, Eq, Debug)]
 pub struct WordPair {
+    pub bits: u16,
     pub white: u8,
     pub black: u8,
-    pub bits: u16,
 }

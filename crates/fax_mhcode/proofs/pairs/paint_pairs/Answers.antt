@@ -1,18 +1,29 @@
-use Rattle.std.proofs.Common.{◌≡◌, ◌++◌, replicate, refl, ◌+◌, ◌-◌, ◌<◌, ◌≤◌, length, drop, arith, sym, ◌∙◌, ap, length-take}
+use Rattle.std.proofs.Common.{◌≡◌, ◌++◌, replicate, refl, ◌+◌, ◌-◌, ◌*◌, ◌/◌, ◌%◌, ◌^◌, ◌<◌, ◌≤◌, false, length, drop, arith, sym, ◌∙◌, ap, append-nil, length-append, length-take}
+use Rattle.std.proofs.lemmas.List.{length-replicate}
 use Rattle.fax_bits.specs.Bits.{word_bits}
 use Rattle.fax_bits.proofs.BitsLemmas.{length-word_bits}
 use Rattle.fax_runcodes.specs.Rows.{Elements}
 use Rattle.fax_runcodes.specs.declared.Colour.TheVariants.{White, Black}
 use Rattle.fax_mhcode.specs.Pairs.{SpellsPair}
 use Rattle.fax_mhcode.proofs.LineLemmas.{length-paint}
-use Rattle.fax_mhcode.proofs.PairLemmas.{GoesOn-pair, GoesOn-then, behind_first, behind_more, first_passes, pair_spelt, rest_passes}
+use Rattle.fax_mhcode.proofs.PairLemmas.{GoesOn-pair, GoesOn-then, at_top, at_top_bits, behind_first, behind_more, first_passes, nothing_passed, pair_spelt, rest_passes, shifted_top, top_of}
 use Rattle.fax_mhcode.proofs.pairs.paint_pairs.Goals as goal
+
+pub loop-init : goal.loop-init
+loop-init c = record {
+  goes_on = λ here there front passed width start so_far is. rw (nothing_passed here there passed) so_far;
+  rest_is = at_top_bits c.args.window ∙ sym (append-nil (at_top (word_bits 56 c.args.window)));
+  left = refl;
+  bits = omega arith;
+  fewer = omega arith;
+}
 
 pub loop-preserved : goal.loop-preserved
 loop-preserved c =
     let so_far = c.loop.invariant in
     let window = word_bits 56 c.args.window in
     let wide : length window ≡ 56 = length-word_bits 56 c.args.window in
+    let top : length (at_top window) ≡ 64 = omega (arith, length-append window (replicate 8 false), length-replicate 8 false, wide) in
     let at = c.in-Some.ensures.some in
     let few : c.from-used.result ≤ 11 = omega (arith, at.bits_is, at.begins.few, c.from-used.ensures) in
     let used : c.loop.bits + 11 ≤ 56 = omega (arith, so_far.bits, c.loop-test.true) in
@@ -28,14 +39,13 @@ loop-preserved c =
           let enough : 56 ≤ length here.left = omega (arith, sym (length-take 56 here.left) ∙ ap length front ∙ wide) in
           let spelt : SpellsPair (drop c.loop.bits here.left) c.from-white.result c.from-black.result c.from-used.result =
           rw (c.from-white.ensures, c.from-black.ensures, c.from-used.ensures)
-          (pair_spelt here.left window (word_bits 56 c.loop.rest) c.loop.bits c.in-Some.pair front wide so_far.rest_is used at) in
+          (pair_spelt here.left window (word_bits 56 (c.loop.rest / 2 ^ 8)) c.loop.bits c.in-Some.pair front wide (top_of c.loop.rest window c.loop.bits wide (omega (arith, used)) so_far.rest_is) used at) in
           GoesOn-then here (behind_first c.loop.bits here) there c.args.line.now c.loop.line c.paint_pair.new.self c.args.left c.loop.left (c.loop.left - (c.from-white.result + c.from-black.result)) (sym room)
           (so_far.goes_on here (behind_first c.loop.bits here) front (first_passes here c.loop.bits (omega (arith, enough, used))))
           (GoesOn-pair (behind_first c.loop.bits here) there c.loop.line c.paint_pair.new.self c.from-white.result c.from-black.result c.from-used.result c.loop.left (c.loop.left - (c.from-white.result + c.from-black.result)) c.paint_pair.ensures
           spelt (rest_passes here there c.loop.bits c.from-used.result (omega (arith, enough, used, few)) passed) black_some (omega (arith, fits)))
           );
-      rest_is = (behind_more window (word_bits 56 c.loop.rest) (word_bits 56 c.behind-rest.result) c.loop.bits c.from-used.result wide (omega (arith, used, few, c.from-used.ensures)) so_far.rest_is c.behind-rest.ensures.bits);
-      below = c.behind-rest.ensures.window;
+      rest_is = behind_more 64 (at_top window) (word_bits 64 c.loop.rest) (word_bits 64 (c.loop.rest * 2 ^ c.from-used.result % 18446744073709551616)) c.loop.bits c.from-used.result top (omega (arith, used, few)) so_far.rest_is (shifted_top c.loop.rest c.from-used.result (omega (arith, few)));
       left = omega (arith, room, fits, longer, longest);
       bits = omega (arith, so_far.bits, few);
       fewer = omega (arith, so_far.fewer, white_some, fits);
