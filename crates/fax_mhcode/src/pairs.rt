@@ -65,7 +65,7 @@ fn paint_pairs(line: &mut RowBuilder, window: u64, left: u16) -> Painted
                 goes_on: false,
             };
         };
-        let (white, black) = (u16::from(pair.white), u16::from(pair.black));
+        let (white, black) = (u16::from(pair.white), pair.black);
         if white + black > left {
             return Painted {
                 bits,

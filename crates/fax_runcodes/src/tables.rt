@@ -34,11 +34,11 @@ impl CodeWord {
 }
 
 /// A white word with a black one behind it, both of runs that are short and not empty: how many bits both
-/// words have, and the lengths of the runs, in elements. The bits stand first, since the next look-up waits
-/// for them.
+/// words have, and the lengths of the runs, in elements. It is loaded as four octets, and its bits stand in
+/// the lowest, since the next look-up waits for them.
 #[derive(Clone, Copy, PartialEq, Eq, Debug)]
 pub struct WordPair {
-    pub bits: u16,
+    pub bits: u8,
     pub white: u8,
-    pub black: u8,
+    pub black: u16,
 }
