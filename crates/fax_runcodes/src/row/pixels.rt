@@ -43,10 +43,10 @@ fn set_bits(octets: &mut [u8], from: u16, to: u16)
     let last = usize::from((to - 1) / 8);
     let head = BITS_FROM[usize::from(from % 8)];
     let tail = BITS_UP_TO[usize::from((to - 1) % 8)];
-    if first == last {
-        octets[first] |= head & tail;
-    } else {
-        octets[first] |= head;
+    // Where the bits end is hard to foresee, so the mask of the first octet is chosen without a branch.
+    let mask = if first == last { head & tail } else { head };
+    octets[first] |= mask;
+    if last > first {
         octets[last] |= tail;
         if last > first + 1 {
             octets[first + 1..last].fill(0xff);
