@@ -10,11 +10,12 @@ ghost use Rattle.fax_pagestore.specs.Pages.{PageValue};
 ghost use Rattle.fax_pagestore.specs.PageTexts.{IsTag, IsFront, IsSeparator, InARow, SpellsRow, ReadSoFar, MeansRows, MeansPage};
 ghost use Rattle.fax_pagestore.specs.PageFaults.{RunsOut, LineBegins, FailsRow, WantsLine, Stops, FailsBehindFront, FailsPage, last_of, row_before};
 
+use crate::white::pass_white_row;
 use crate::{Coding, Format, Page, PageFault, RowStore};
 use fax_bits::BitReader;
 use fax_mhcode::read_line_1d_into;
 use fax_mrcode::read_line_2d_into;
-use fax_runcodes::{RowBuilder, Width};
+use fax_runcodes::{Colour, RowBuilder, Width};
 use std::alloc::Global;
 use std::mem;
 
@@ -25,7 +26,7 @@ const MOST_ROWS: u32 = 20_000;
 const EOL_ZEROS: u32 = 11;
 
 /// The bits of a reader's window.
-const WINDOW_BITS: u32 = 56;
+pub(crate) const WINDOW_BITS: u32 = 56;
 
 /// The EOLs of a return to control behind its first (ITU-T T.4, 4.1.4 and 4.2.4).
 const FURTHER_EOLS: u32 = 5;
@@ -223,12 +224,17 @@ fn read_row(
     kept: &RowBuilder,
     n: u32,
 ) -> Result<bool, PageFault>
-    requires { tag ≡ false → 0 < n → IsWidth (length kept.now) }
+    requires { tag ≡ false → 0 < n → length kept.now ≡ elements_of width }
     ensures ok { IfOk result (λ next. (text separator : List Bool) × SpellsRow (elements_of width) tag (row_before n kept.now) text line.new × IsSeparator coding next separator
         × Passes reader.old reader.new (text ++ separator)) }
     ensures fault { IfErr result (λ fault. (rows : List Elements) → length rows ≡ n → (tag ≡ false → row_before n kept.now ≡ last_of rows) → WantsLine rows 0 reader.old.left
         → Stops coding (elements_of width) rows 0 tag reader.old.left fault) }
 {
+    if let Some(next) = pass_white_row(reader, width, coding, tag, kept, n) {
+        line.clear();
+        line.paint(Colour::White, width.elements());
+        return Ok(next);
+    }
     if !read_line(line, reader, width, tag, kept, n) {
         return Err(PageFault::BadLine(n));
     }

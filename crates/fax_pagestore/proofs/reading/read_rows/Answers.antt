@@ -25,9 +25,8 @@ returns-then-n-eq-MOST_ROWS-clause-fault g c =
 
 pub read_row-requires : goal.read_row-requires
 read_row-requires g c =
-    λ two some. subst IsWidth
-    (sym (Keeps-width (elements_of c.args.width) c.loop-width.tag c.loop-width.kept (g.S.RowStore.rows c.loop-width.rows) c.loop-width.invariant.1 c.loop-width.invariant.0.each two (omega (arith, c.len-n.ensures, some))))
-    (IsWidth-elements c.args.width)
+    λ two some.
+    Keeps-width (elements_of c.args.width) c.loop-width.tag c.loop-width.kept (g.S.RowStore.rows c.loop-width.rows) c.loop-width.invariant.1 c.loop-width.invariant.0.each two (omega (arith, c.len-n.ensures, some))
 
 pub returns-in_err-tag-clause-fault : goal.returns-in_err-tag-clause-fault
 returns-in_err-tag-clause-fault g c =
