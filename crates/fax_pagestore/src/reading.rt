@@ -1,7 +1,7 @@
 //! Pages read from their texts.
 ghost use Rattle.std.specs.Prelude.{◌≡◌, ◌≢◌, ◌<◌, ◌≤◌, ◌⊎◌, ◌++◌, ◌↔◌, ℕ, Bool, List, [], length, IfOk, IfErr, IfSome, IsSome, IsNone, None, Some, OnOk, Ok, Err, IsTrue, true, false, ◌∷◌, replicate, take};
 ghost use Rattle.fax_bits.specs.Bits.{word_bits};
-ghost use Rattle.fax_bits.specs.Reading.{Passes};
+ghost use Rattle.fax_bits.specs.Reading.{Passes, padded};
 ghost use Rattle.fax_runcodes.specs.Rows.{Elements, IsWidth};
 ghost use Rattle.fax_runcodes.specs.Widths.{elements_of};
 ghost use Rattle.fax_pagestore.specs.declared.Coding.{Coding};
@@ -164,6 +164,16 @@ fn line_begins(reader: &BitReader) -> bool
     zeros_in_window(reader) < EOL_ZEROS
 }
 
+/// The window of a reader, where a line begins there.
+#[inline]
+fn line_ahead(reader: &BitReader) -> Option<u64>
+    ensures begins { IsSome result ↔ LineBegins reader.now.left }
+    ensures window { IfSome result (λ window. word_bits 56 window ≡ padded 56 reader.now.left) }
+{
+    let window = reader.window();
+    line_begins(reader).then_some(window)
+}
+
 /// Passes the last five of the six EOLs that end a page, behind the first and its tag. Each of the six
 /// has tag 1 (ITU-T T.4, 4.1.4 and 4.2.4).
 #[cold]
@@ -198,7 +208,7 @@ fn read_line(
     kept: &RowBuilder,
     n: u32,
 ) -> bool
-    requires { one_dimensional ≡ false → 0 < n → IsWidth (length kept.now) }
+    requires { 0 < n → IsWidth (length kept.now) }
     ensures read { IsTrue result → (text : List Bool) × SpellsRow (elements_of width) one_dimensional (row_before n kept.now) text line.new × Passes reader.old reader.new text }
     ensures fails { result ≡ false → FailsRow (elements_of width) one_dimensional (row_before n kept.now) reader.old.left }
 {
@@ -212,34 +222,39 @@ fn read_line(
     read_line_2d_into(line, reader, &kept.lend()).is_ok()
 }
 
-/// Reads the line behind n rows and this tag into the builder, in place of what is there, passes the
-/// separator behind the line, and answers its tag. Where the tag is 0 the last of the rows is kept.
+/// Reads the row behind n rows and this tag, passes the separator behind its line, and answers the tag of
+/// that. The row is kept in place of the one before. Where the tag is 0 that is the last of the rows.
 #[inline(always)]
 fn read_row(
+    kept: &mut RowBuilder,
     line: &mut RowBuilder,
     reader: &mut BitReader,
+    window: u64,
     width: Width,
     coding: Coding,
     tag: bool,
-    kept: &RowBuilder,
     n: u32,
 ) -> Result<bool, PageFault>
-    requires { tag ≡ false → 0 < n → length kept.now ≡ elements_of width }
-    ensures ok { IfOk result (λ next. (text separator : List Bool) × SpellsRow (elements_of width) tag (row_before n kept.now) text line.new × IsSeparator coding next separator
+    requires window { word_bits 56 window ≡ padded 56 reader.old.left }
+    requires width { 0 < n → length kept.old ≡ elements_of width }
+    ensures ok { IfOk result (λ next. (text separator : List Bool) × SpellsRow (elements_of width) tag (row_before n kept.old) text kept.new × IsSeparator coding next separator
         × Passes reader.old reader.new (text ++ separator)) }
-    ensures fault { IfErr result (λ fault. (rows : List Elements) → length rows ≡ n → (tag ≡ false → row_before n kept.now ≡ last_of rows) → WantsLine rows 0 reader.old.left
+    ensures fault { IfErr result (λ fault. (rows : List Elements) → length rows ≡ n → (tag ≡ false → row_before n kept.old ≡ last_of rows) → WantsLine rows 0 reader.old.left
         → Stops coding (elements_of width) rows 0 tag reader.old.left fault) }
 {
-    if let Some(next) = pass_white_row(reader, width, coding, tag, kept, n) {
-        line.clear();
-        line.paint(Colour::White, width.elements());
+    if let Some(next) = pass_white_row(reader, window, width, coding, tag, kept, n) {
+        kept.clear();
+        kept.paint(Colour::White, width.elements());
         return Ok(next);
     }
     if !read_line(line, reader, width, tag, kept, n) {
         return Err(PageFault::BadLine(n));
     }
     match pass_separator(reader, coding)? {
-        Ahead::Separator(next) => Ok(next),
+        Ahead::Separator(next) => {
+            mem::swap(line, kept);
+            Ok(next)
+        }
         Ahead::Line => Err(PageFault::BadLine(n)),
     }
 }
@@ -259,20 +274,17 @@ fn read_rows<S: RowStore>(
 {
     let mut rows = S::empty(alloc);
     let mut line = RowBuilder::new(alloc)?;
-    // the row before, where the next line is two-dimensional
+    // the row before
     let mut kept = RowBuilder::new(alloc)?;
     let mut tag = first;
-    while line_begins(reader) {
+    while let Some(window) = line_ahead(reader) {
         let n = rows.len();
         if n == MOST_ROWS {
             return Err(PageFault::TooManyRows);
         }
-        tag = read_row(&mut line, reader, width, coding, tag, &kept, n)?;
-        if rows.push_lent(&line.lend()).is_err() {
+        tag = read_row(&mut kept, &mut line, reader, window, width, coding, tag, n)?;
+        if rows.push_lent(&kept.lend()).is_err() {
             return Err(PageFault::NoMemory);
-        }
-        if !tag {
-            mem::swap(&mut line, &mut kept);
         }
     }
     pass_return_to_control(reader, coding, tag)?;

@@ -1,7 +1,7 @@
 //! Rows that are white throughout, each passed in one step with the EOL behind it.
 ghost use Rattle.std.specs.Prelude.{◌≡◌, ◌<◌, ◌≤◌, ◌++◌, List, Bool, true, false, IfSome, IsNone, length, replicate};
 ghost use Rattle.fax_bits.specs.Bits.{word_bits};
-ghost use Rattle.fax_bits.specs.Reading.{Passes};
+ghost use Rattle.fax_bits.specs.Reading.{Passes, padded};
 ghost use Rattle.fax_runcodes.specs.declared.Colour.TheVariants.{White};
 ghost use Rattle.fax_runcodes.specs.Widths.{elements_of};
 ghost use Rattle.fax_mhcode.specs.Lines as mh;
@@ -63,7 +63,7 @@ fn white_line(width: Width) -> LineAndEol
 /// rows is kept, and without a row that is white too there is no such line.
 #[inline(always)]
 fn white_line_behind(width: Width, tag: bool, kept: &RowBuilder, n: u32) -> Option<LineAndEol>
-    requires { tag ≡ false → 0 < n → length kept.now ≡ elements_of width }
+    requires { 0 < n → length kept.now ≡ elements_of width }
     ensures spelt { IfSome result (λ line. (text : List Bool) × SpellsRow (elements_of width) tag (row_before n kept.now) text (replicate (elements_of width) White)
         × (word_bits line.bits line.word ≡ text ++ end_of_line)) }
     ensures few { IfSome result (λ line. line.bits ≤ 32) }
@@ -78,23 +78,25 @@ fn white_line_behind(width: Width, tag: bool, kept: &RowBuilder, n: u32) -> Opti
 }
 
 /// Passes a white line behind n rows and this tag, the EOL that follows it with no fill, and the tag of
-/// that, and answers the tag. `None` says that the bits may begin with something else, and passes nothing.
+/// that, and answers the tag. The window is the reader's. `None` says that the bits may begin with
+/// something else, and passes nothing.
 #[inline(always)]
 pub(crate) fn pass_white_row(
     reader: &mut BitReader,
+    window: u64,
     width: Width,
     coding: Coding,
     tag: bool,
     kept: &RowBuilder,
     n: u32,
 ) -> Option<bool>
-    requires { tag ≡ false → 0 < n → length kept.now ≡ elements_of width }
+    requires window { word_bits 56 window ≡ padded 56 reader.old.left }
+    requires width { 0 < n → length kept.now ≡ elements_of width }
     ensures some { IfSome result (λ next. (text separator : List Bool) × SpellsRow (elements_of width) tag (row_before n kept.now) text (replicate (elements_of width) White)
         × IsSeparator coding next separator × Passes reader.old reader.new (text ++ separator)) }
     ensures none { IsNone result → reader.new ≡ reader.old }
 {
     let line = white_line_behind(width, tag, kept, n)?;
-    let window = reader.window();
     if !reader.has(WINDOW_BITS) || window >> (WINDOW_BITS - line.bits) != line.word {
         return None;
     }

@@ -12,7 +12,7 @@ use Rattle.fax_pagestore.proofs.reading.read_row.Goals as goal
 use Rattle.fax_pagestore.proofs.reading.read_row.Goals.{After-pass_separator}
 
 pub read_line-requires : goal.read_line-requires
-read_line-requires c = λ two some. subst IsWidth (sym (c.requires two some)) (IsWidth-elements c.args.width)
+read_line-requires c = λ some. subst IsWidth (sym (c.requires.width some)) (IsWidth-elements c.args.width)
 
 pub returns-then-not-read_line-clause-fault : goal.returns-then-not-read_line-clause-fault
 returns-then-not-read_line-clause-fault c =

@@ -13,22 +13,22 @@ returns-in-Mh-clause-some c =
       line.1,
       untagged_eol,
       subst (Passes c.args.reader.now c.skip.new.self)
-          (front_is c.window-window.result c.in_ok-line.line.bits c.in_ok-line.line.word c.args.reader.now.left (line.0 ++ end_of_line) (omega (arith, c.in_ok-line.ensures.few))
-          (c.if-not-has.ensures.0 refl) c.window-window.ensures.bits c.if-window-line.false line.2)
+          (front_is c.args.window c.in_ok-line.line.bits c.in_ok-line.line.word c.args.reader.now.left (line.0 ++ end_of_line) (omega (arith, c.in_ok-line.ensures.few))
+          (c.if-not-has.ensures.0 refl) c.requires.window c.if-window-line.false line.2)
           c.skip.ensures,
     )
 
 pub returns-in-Mr-clause-some : goal.returns-in-Mr-clause-some
 returns-in-Mr-clause-some c =
     let line = c.in_ok-line.ensures.spelt in
-    let tag : Bool = c.window-window.result / 2 ^ (56 - c.in_ok-line.line.bits - 1) % 2 == 1 in
+    let tag : Bool = c.args.window / 2 ^ (56 - c.in_ok-line.line.bits - 1) % 2 == 1 in
     rw c.in-Mr.is (
       line.0,
       end_of_line ++ tag ∷ [],
       line.1,
       tagged_eol tag,
       subst (Passes c.args.reader.now c.skip-in-Mr.new.self)
-          (front_and_bit c.window-window.result c.in_ok-line.line.bits c.in_ok-line.line.word c.args.reader.now.left (line.0 ++ end_of_line) (omega (arith, c.in_ok-line.ensures.few))
-          (c.if-not-has.ensures.0 refl) c.window-window.ensures.bits c.if-window-line.false line.2 ∙ append_assoc line.0 end_of_line (tag ∷ []))
+          (front_and_bit c.args.window c.in_ok-line.line.bits c.in_ok-line.line.word c.args.reader.now.left (line.0 ++ end_of_line) (omega (arith, c.in_ok-line.ensures.few))
+          (c.if-not-has.ensures.0 refl) c.requires.window c.if-window-line.false line.2 ∙ append_assoc line.0 end_of_line (tag ∷ []))
           c.skip-in-Mr.ensures,
     )
