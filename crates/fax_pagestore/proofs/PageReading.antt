@@ -173,23 +173,38 @@ RowsSoFar-more coding width first tag next before after old mid new rows row lin
   known = Knows-push next after rows row k;
 }
 
--- ---- the row before, kept
+-- ---- the row before, kept where the next tag wants it
 
--- The last row is kept where there is one.
-abbrev pub Keeps : Elements → List Elements → Type 0
-Keeps kept rows = 0 < length rows → last_of rows ≡ Some kept
+-- The last row is kept where the tag wants it and there is one.
+abbrev pub Keeps : Bool → Elements → List Elements → Type 0
+Keeps tag kept rows = tag ≡ false → 0 < length rows → last_of rows ≡ Some kept
 
-pub Keeps-push : (row : Elements) (rows : List Elements) → Keeps row (rows ++ row ∷ [])
-Keeps-push row rows some = last_of-push rows row
+pub Keeps-push : (tag : Bool) (kept row : Elements) (rows : List Elements) → (tag ≡ false → kept ≡ row) → Keeps tag kept (rows ++ row ∷ [])
+Keeps-push tag kept row rows same two some = last_of-push rows row ∙ ap (λ (r : Elements). Some r) (sym (same two))
 
 -- What is kept has the width.
-pub Keeps-width : (width : ℕ) (kept : Elements) (rows : List Elements) → Keeps kept rows → All (λ row. length row ≡ width) rows → 0 < length rows → length kept ≡ width
-Keeps-width width kept rows keeps each some = subst (HasWidth width) (keeps some) (last_of-width width rows each)
+pub Keeps-width : (width : ℕ) (tag : Bool) (kept : Elements) (rows : List Elements) → Keeps tag kept rows → All (λ row. length row ≡ width) rows
+    → tag ≡ false → 0 < length rows → length kept ≡ width
+Keeps-width width tag kept rows keeps each two some = subst (HasWidth width) (keeps two some) (last_of-width width rows each)
 
 -- The row before is known from what is kept.
-pub Knows-kept : (tag : Bool) (kept : Elements) (rows : List Elements) (n : ℕ) → n ≡ length rows → Keeps kept rows → Knows tag (row_before n kept) rows
+pub Knows-kept : (tag : Bool) (kept : Elements) (rows : List Elements) (n : ℕ) → n ≡ length rows → Keeps tag kept rows → Knows tag (row_before n kept) rows
 Knows-kept tag kept rows zero size keeps two = ap last_of (sym (nil_from_length rows (sym size)))
-Knows-kept tag kept rows (suc n) size keeps two = sym (keeps (omega arith))
+Knows-kept tag kept rows (suc n) size keeps two = sym (keeps two (omega arith))
+
+-- The rows with one more, whose line and separator were passed.
+pub RowsSoFar-pushed : (coding : Coding) (width : ℕ) (first tag next : Bool) (before : Option Elements) (old mid new : Place) (rows all : List Elements) (row : Elements)
+    → RowsSoFar coding width first old tag before mid rows → length rows ≢ most_rows → all ≡ rows ++ row ∷ []
+    → (line separator : List Bool) × SpellsRow width tag before line row × IsSeparator coding next separator × Passes mid new (line ++ separator)
+    → RowsSoFar coding width first old next (last_of all) new all
+RowsSoFar-pushed coding width first tag next before old mid new rows all row r room pushed read =
+    rw pushed
+    (RowsSoFar-more coding width first tag next before (last_of (rows ++ row ∷ [])) old mid new rows row read.0 read.1 r room read.2 read.3 read.4 (λ two. last_of-push rows row))
+
+-- where nothing was passed and the same row is kept
+pub RowsSoFar-still : (coding : Coding) (width : ℕ) (first tag : Bool) (n : ℕ) (old mid new : Place) (kept same : Elements) (rows : List Elements)
+    → RowsSoFar coding width first old tag (row_before n kept) mid rows → (new ≡ mid) × (same ≡ kept) → RowsSoFar coding width first old tag (row_before n same) new rows
+RowsSoFar-still coding width first tag n old mid new kept same rows r (place, row) = rw (place, row) r
 
 -- the same rows, with another row before that is known
 pub RowsSoFar-known : (coding : Coding) (width : ℕ) (first tag : Bool) (before other : Option Elements) (old new : Place) (rows : List Elements)

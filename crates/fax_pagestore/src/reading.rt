@@ -15,7 +15,7 @@ use crate::{Coding, Format, Page, PageFault, RowStore};
 use fax_bits::BitReader;
 use fax_mhcode::read_line_1d_into;
 use fax_mrcode::read_line_2d_into;
-use fax_runcodes::{Colour, RowBuilder, Width};
+use fax_runcodes::{RowBuilder, Width};
 use std::alloc::Global;
 use std::mem;
 
@@ -208,7 +208,7 @@ fn read_line(
     kept: &RowBuilder,
     n: u32,
 ) -> bool
-    requires { 0 < n → IsWidth (length kept.now) }
+    requires { one_dimensional ≡ false → 0 < n → IsWidth (length kept.now) }
     ensures read { IsTrue result → (text : List Bool) × SpellsRow (elements_of width) one_dimensional (row_before n kept.now) text line.new × Passes reader.old reader.new text }
     ensures fails { result ≡ false → FailsRow (elements_of width) one_dimensional (row_before n kept.now) reader.old.left }
 {
@@ -222,39 +222,29 @@ fn read_line(
     read_line_2d_into(line, reader, &kept.lend()).is_ok()
 }
 
-/// Reads the row behind n rows and this tag, passes the separator behind its line, and answers the tag of
-/// that. The row is kept in place of the one before. Where the tag is 0 that is the last of the rows.
+/// Reads the line behind n rows and this tag into the builder, in place of what is there, passes the
+/// separator behind the line, and answers its tag. Where the tag is 0 the last of the rows is kept.
 #[inline(always)]
 fn read_row(
-    kept: &mut RowBuilder,
     line: &mut RowBuilder,
     reader: &mut BitReader,
-    window: u64,
     width: Width,
     coding: Coding,
     tag: bool,
+    kept: &RowBuilder,
     n: u32,
 ) -> Result<bool, PageFault>
-    requires window { word_bits 56 window ≡ padded 56 reader.old.left }
-    requires width { 0 < n → length kept.old ≡ elements_of width }
-    ensures ok { IfOk result (λ next. (text separator : List Bool) × SpellsRow (elements_of width) tag (row_before n kept.old) text kept.new × IsSeparator coding next separator
+    requires { tag ≡ false → 0 < n → IsWidth (length kept.now) }
+    ensures ok { IfOk result (λ next. (text separator : List Bool) × SpellsRow (elements_of width) tag (row_before n kept.now) text line.new × IsSeparator coding next separator
         × Passes reader.old reader.new (text ++ separator)) }
-    ensures fault { IfErr result (λ fault. (rows : List Elements) → length rows ≡ n → (tag ≡ false → row_before n kept.old ≡ last_of rows) → WantsLine rows 0 reader.old.left
+    ensures fault { IfErr result (λ fault. (rows : List Elements) → length rows ≡ n → (tag ≡ false → row_before n kept.now ≡ last_of rows) → WantsLine rows 0 reader.old.left
         → Stops coding (elements_of width) rows 0 tag reader.old.left fault) }
 {
-    if let Some(next) = pass_white_row(reader, window, width, coding, tag, kept, n) {
-        kept.clear();
-        kept.paint(Colour::White, width.elements());
-        return Ok(next);
-    }
     if !read_line(line, reader, width, tag, kept, n) {
         return Err(PageFault::BadLine(n));
     }
     match pass_separator(reader, coding)? {
-        Ahead::Separator(next) => {
-            mem::swap(line, kept);
-            Ok(next)
-        }
+        Ahead::Separator(next) => Ok(next),
         Ahead::Line => Err(PageFault::BadLine(n)),
     }
 }
@@ -274,7 +264,7 @@ fn read_rows<S: RowStore>(
 {
     let mut rows = S::empty(alloc);
     let mut line = RowBuilder::new(alloc)?;
-    // the row before
+    // the row before, where the next line is two-dimensional
     let mut kept = RowBuilder::new(alloc)?;
     let mut tag = first;
     while let Some(window) = line_ahead(reader) {
@@ -282,9 +272,19 @@ fn read_rows<S: RowStore>(
         if n == MOST_ROWS {
             return Err(PageFault::TooManyRows);
         }
-        tag = read_row(&mut kept, &mut line, reader, window, width, coding, tag, n)?;
-        if rows.push_lent(&kept.lend()).is_err() {
+        if let Some(next) = pass_white_row(&mut kept, reader, window, width, coding, tag, n) {
+            if rows.push_lent(&kept.lend()).is_err() {
+                return Err(PageFault::NoMemory);
+            }
+            tag = next;
+            continue;
+        }
+        tag = read_row(&mut line, reader, width, coding, tag, &kept, n)?;
+        if rows.push_lent(&line.lend()).is_err() {
             return Err(PageFault::NoMemory);
+        }
+        if !tag {
+            mem::swap(&mut line, &mut kept);
         }
     }
     pass_return_to_control(reader, coding, tag)?;

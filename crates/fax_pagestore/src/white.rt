@@ -12,7 +12,7 @@ ghost use Rattle.fax_pagestore.specs.PageFaults.{row_before};
 use crate::Coding;
 use crate::reading::WINDOW_BITS;
 use fax_bits::BitReader;
-use fax_runcodes::{RowBuilder, Width};
+use fax_runcodes::{Colour, RowBuilder, Width};
 
 /// The bits of a white line and of the EOL behind it, with no fill between them, as a number of so many
 /// bits, the first the most significant.
@@ -63,7 +63,7 @@ fn white_line(width: Width) -> LineAndEol
 /// rows is kept, and without a row that is white too there is no such line.
 #[inline(always)]
 fn white_line_behind(width: Width, tag: bool, kept: &RowBuilder, n: u32) -> Option<LineAndEol>
-    requires { 0 < n → length kept.now ≡ elements_of width }
+    requires { tag ≡ false → 0 < n → length kept.now ≡ elements_of width }
     ensures spelt { IfSome result (λ line. (text : List Bool) × SpellsRow (elements_of width) tag (row_before n kept.now) text (replicate (elements_of width) White)
         × (word_bits line.bits line.word ≡ text ++ end_of_line)) }
     ensures few { IfSome result (λ line. line.bits ≤ 32) }
@@ -78,28 +78,30 @@ fn white_line_behind(width: Width, tag: bool, kept: &RowBuilder, n: u32) -> Opti
 }
 
 /// Passes a white line behind n rows and this tag, the EOL that follows it with no fill, and the tag of
-/// that, and answers the tag. The window is the reader's. `None` says that the bits may begin with
-/// something else, and passes nothing.
+/// that, and answers the tag. The row is kept in place of the one before. The window is the reader's.
+/// `None` says that the bits may begin with something else, and changes nothing.
 #[inline(always)]
 pub(crate) fn pass_white_row(
+    kept: &mut RowBuilder,
     reader: &mut BitReader,
     window: u64,
     width: Width,
     coding: Coding,
     tag: bool,
-    kept: &RowBuilder,
     n: u32,
 ) -> Option<bool>
     requires window { word_bits 56 window ≡ padded 56 reader.old.left }
-    requires width { 0 < n → length kept.now ≡ elements_of width }
-    ensures some { IfSome result (λ next. (text separator : List Bool) × SpellsRow (elements_of width) tag (row_before n kept.now) text (replicate (elements_of width) White)
-        × IsSeparator coding next separator × Passes reader.old reader.new (text ++ separator)) }
-    ensures none { IsNone result → reader.new ≡ reader.old }
+    requires width { tag ≡ false → 0 < n → length kept.old ≡ elements_of width }
+    ensures some { IfSome result (λ next. (text separator : List Bool) × SpellsRow (elements_of width) tag (row_before n kept.old) text kept.new × IsSeparator coding next separator
+        × Passes reader.old reader.new (text ++ separator)) }
+    ensures none { IsNone result → (reader.new ≡ reader.old) × (kept.new ≡ kept.old) }
 {
     let line = white_line_behind(width, tag, kept, n)?;
     if !reader.has(WINDOW_BITS) || window >> (WINDOW_BITS - line.bits) != line.word {
         return None;
     }
+    kept.clear();
+    kept.paint(Colour::White, width.elements());
     match coding {
         Coding::Mh => {
             reader.skip(line.bits);

@@ -7,7 +7,7 @@ use Rattle.fax_pagestore.proofs.white.pass_white_row.Goals as goal
 pub returns-in-Mh-clause-some : goal.returns-in-Mh-clause-some
 returns-in-Mh-clause-some c =
     let line = c.in_ok-line.ensures.spelt in
-    rw c.in-Mh.is (
+    rw (c.in-Mh.is, c.paint.ensures, c.clear.ensures, c.elements.ensures) (
       line.0,
       end_of_line,
       line.1,
@@ -22,7 +22,7 @@ pub returns-in-Mr-clause-some : goal.returns-in-Mr-clause-some
 returns-in-Mr-clause-some c =
     let line = c.in_ok-line.ensures.spelt in
     let tag : Bool = c.args.window / 2 ^ (56 - c.in_ok-line.line.bits - 1) % 2 == 1 in
-    rw c.in-Mr.is (
+    rw (c.in-Mr.is, c.paint.ensures, c.clear.ensures, c.elements.ensures) (
       line.0,
       end_of_line ++ tag ∷ [],
       line.1,

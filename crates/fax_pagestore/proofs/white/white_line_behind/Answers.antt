@@ -20,7 +20,7 @@ pub returns-then-is_empty-clause-spelt : goal.returns-then-is_empty-clause-spelt
 returns-then-is_empty-clause-spelt c =
     let painted_is = rw c.lend.ensures at c.changes.ensures.painted in (
       true ∷ [],
-      white_behind (elements_of c.args.width) c.args.n c.args.tag c.args.kept.now c.changes.result.now c.if-tag.false c.if-n-gt0.true (c.requires c.if-n-gt0.true) painted_is
+      white_behind (elements_of c.args.width) c.args.n c.args.tag c.args.kept.now c.changes.result.now c.if-tag.false c.if-n-gt0.true (c.requires c.if-tag.false c.if-n-gt0.true) painted_is
           (no_places c.changes.result.now c.if-is_empty.ensures),
       word_of_vertical,
     )
