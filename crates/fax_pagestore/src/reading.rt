@@ -273,16 +273,12 @@ fn read_rows<S: RowStore>(
             return Err(PageFault::TooManyRows);
         }
         if let Some(next) = pass_white_row(&mut kept, reader, window, width, coding, tag, n) {
-            if rows.push_lent(&kept.lend()).is_err() {
-                return Err(PageFault::NoMemory);
-            }
+            rows.push_lent(&kept.lend())?;
             tag = next;
             continue;
         }
         tag = read_row(&mut line, reader, width, coding, tag, &kept, n)?;
-        if rows.push_lent(&line.lend()).is_err() {
-            return Err(PageFault::NoMemory);
-        }
+        rows.push_lent(&line.lend())?;
         if !tag {
             mem::swap(&mut line, &mut kept);
         }

@@ -1,5 +1,4 @@
-use Rattle.std.proofs.Common.{◌≡◌, ◌<◌, length, [], ◌∷◌, ◌++◌, Result, Ok, Err, OnOk, true, false, arith, refl, sym, ap, ◌∙◌, subst}
-use Rattle.std.specs.Result.{is_err}
+use Rattle.std.proofs.Common.{◌≡◌, ◌<◌, length, [], ◌∷◌, ◌++◌, true, false, arith, refl, sym, ap, ◌∙◌, subst}
 use Rattle.std.proofs.lemmas.Result.{err_from_is_err_and}
 use Rattle.fax_bits.specs.Reading.{Place}
 use Rattle.fax_runcodes.specs.Rows.{Elements, IsWidth}
@@ -34,11 +33,6 @@ pass_white_row-requires-clause-width g c = kept_width g (goal.at.pass_white_row-
 
 -- ---- a white row
 
--- what is ensured where the result is no `Err`
-where_ok : {T E P : Type 0} → (result : Result T E) → false ≡ is_err result → OnOk result P → P
-where_ok (Ok x) e h = h
-where_ok (Err y) e h = cc
-
 pub lend-requires : goal.lend-requires
 lend-requires g c =
     let read = c.in-Some-pass_white_row.ensures.some in
@@ -50,7 +44,7 @@ lend-requires g c =
 pub loop-window-preserved-in-Some-pass_white_row : goal.loop-window-preserved-in-Some-pass_white_row
 loop-window-preserved-in-Some-pass_white_row g c =
     let pushed : g.S.RowStore.rows c.push_lent.new.self ≡ g.S.RowStore.rows c.loop-window.rows ++ c.pass_white_row.new.kept ∷ [] =
-    where_ok c.push_lent.result c.if-is_err.ensures.value c.push_lent.ensures.pushed ∙ ap (λ (row : Elements). g.S.RowStore.rows c.loop-window.rows ++ row ∷ []) c.lend.ensures in (
+    c.in_ok-push_lent.ensures.pushed ∙ ap (λ (row : Elements). g.S.RowStore.rows c.loop-window.rows ++ row ∷ []) c.lend.ensures in (
       RowsSoFar-pushed c.args.coding (elements_of c.args.width) c.args.first c.loop-window.tag c.in-Some-pass_white_row.next (row_before c.len-n.result c.loop-window.kept) c.args.reader.now c.loop-window.reader
           c.pass_white_row.new.reader (g.S.RowStore.rows c.loop-window.rows) (g.S.RowStore.rows c.push_lent.new.self) c.pass_white_row.new.kept (known g (goal.at.loop-window-preserved-in-Some-pass_white_row g c).After-len-n)
           (omega (arith, c.len-n.ensures, c.if-n-eq-MOST_ROWS.false)) pushed c.in-Some-pass_white_row.ensures.some,
@@ -93,25 +87,24 @@ lend-requires-in-Some g c =
     (IsWidth-elements c.args.width)
 
 -- the rows with the one that was pushed
-pushed : (g : Over) (c : After-push_lent-in-Some g) → false ≡ is_err c.push_lent-in-Some.result
+pushed : (g : Over) (c : After-push_lent-in-Some g) → g.S.RowStore.rows c.push_lent-in-Some.new.self ≡ g.S.RowStore.rows c.loop-window.rows ++ c.lend-in-Some.result ∷ []
     → g.S.RowStore.rows c.push_lent-in-Some.new.self ≡ g.S.RowStore.rows c.loop-window.rows ++ c.read_row.new.line ∷ []
-pushed g c no_err =
-    where_ok c.push_lent-in-Some.result no_err c.push_lent-in-Some.ensures.pushed ∙ ap (λ (row : Elements). g.S.RowStore.rows c.loop-window.rows ++ row ∷ []) c.lend-in-Some.ensures
+pushed g c added = added ∙ ap (λ (row : Elements). g.S.RowStore.rows c.loop-window.rows ++ row ∷ []) c.lend-in-Some.ensures
 
 -- one row more
-more : (g : Over) (c : After-push_lent-in-Some g) → false ≡ is_err c.push_lent-in-Some.result
+more : (g : Over) (c : After-push_lent-in-Some g) → g.S.RowStore.rows c.push_lent-in-Some.new.self ≡ g.S.RowStore.rows c.loop-window.rows ++ c.read_row.new.line ∷ []
     → RowsSoFar c.args.coding (elements_of c.args.width) c.args.first c.args.reader.now c.loop-window.tag (row_before c.len-n.result c.pass_white_row.new.kept) c.pass_white_row.new.reader (g.S.RowStore.rows c.loop-window.rows)
     → RowsSoFar c.args.coding (elements_of c.args.width) c.args.first c.args.reader.now c.in_ok-tag.tag (last_of (g.S.RowStore.rows c.push_lent-in-Some.new.self)) c.read_row.new.reader (g.S.RowStore.rows c.push_lent-in-Some.new.self)
-more g c no_err so_far =
+more g c added so_far =
     RowsSoFar-pushed c.args.coding (elements_of c.args.width) c.args.first c.loop-window.tag c.in_ok-tag.tag (row_before c.len-n.result c.pass_white_row.new.kept) c.args.reader.now c.pass_white_row.new.reader
     c.read_row.new.reader (g.S.RowStore.rows c.loop-window.rows) (g.S.RowStore.rows c.push_lent-in-Some.new.self) c.read_row.new.line so_far (omega (arith, c.len-n.ensures, c.if-n-eq-MOST_ROWS.false))
-    (pushed g c no_err) c.in_ok-tag.ensures.ok
+    added c.in_ok-tag.ensures.ok
 
 pub loop-window-preserved-then-not-tag : goal.loop-window-preserved-then-not-tag
 loop-window-preserved-then-not-tag g c =
     let at = goal.at.loop-window-preserved-then-not-tag g c in (
-      more g at.After-push_lent-in-Some c.if-is_err-2.ensures.value (known_still g at.After-read_row (known g at.After-len-n)),
-      rw (pushed g at.After-push_lent-in-Some c.if-is_err-2.ensures.value)
+      more g at.After-push_lent-in-Some (pushed g at.After-push_lent-in-Some c.in_ok-push_lent-2.ensures.pushed) (known_still g at.After-read_row (known g at.After-len-n)),
+      rw (pushed g at.After-push_lent-in-Some c.in_ok-push_lent-2.ensures.pushed)
           (Keeps-push c.in_ok-tag.tag c.swap.new.y c.read_row.new.line (g.S.RowStore.rows c.loop-window.rows) (λ two. c.swap.ensures.y_after)),
     )
 
@@ -119,7 +112,7 @@ pub loop-window-preserved : goal.loop-window-preserved
 loop-window-preserved g c =
     let at = goal.at.loop-window-preserved g c in
     let one : c.in_ok-tag.tag ≡ true = c.if-not-tag.false in
-    (more g at.After-push_lent-in-Some c.if-is_err-2.ensures.value (known_still g at.After-read_row (known g at.After-len-n)), λ two. cc)
+    (more g at.After-push_lent-in-Some (pushed g at.After-push_lent-in-Some c.in_ok-push_lent-2.ensures.pushed) (known_still g at.After-read_row (known g at.After-len-n)), λ two. cc)
 
 pub returns-in_err-pass_return_to_control-clause-fault : goal.returns-in_err-pass_return_to_control-clause-fault
 returns-in_err-pass_return_to_control-clause-fault g c =
