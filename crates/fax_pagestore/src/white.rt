@@ -22,31 +22,35 @@ struct LineAndEol {
     bits: u32,
 }
 
-/// The make-up word of 1728, the terminating word of 0 and the EOL (ITU-T T.4, tables 2/T.4 and 3a/T.4, and 4.1.2).
+/// The make-up word of 1728, the terminating word of 0 and the EOL (ITU-T T.4, tables 3a/T.4 and 2/T.4,
+/// and 4.1.2).
 const WHITE_1728: LineAndEol = LineAndEol {
     word: 0b010011011_00110101_000000000001,
     bits: 29,
 };
 
-/// The make-up word of 2048, the terminating word of 0 and the EOL (ITU-T T.4, tables 2/T.4 and 3b/T.4, and 4.1.2).
+/// The make-up word of 2048, the terminating word of 0 and the EOL (ITU-T T.4, tables 3b/T.4 and 2/T.4,
+/// and 4.1.2).
 const WHITE_2048: LineAndEol = LineAndEol {
     word: 0b000000010011_00110101_000000000001,
     bits: 32,
 };
 
-/// The make-up word of 2432, the terminating word of 0 and the EOL (ITU-T T.4, tables 2/T.4 and 3b/T.4, and 4.1.2).
+/// The make-up word of 2432, the terminating word of 0 and the EOL (ITU-T T.4, tables 3b/T.4 and 2/T.4,
+/// and 4.1.2).
 const WHITE_2432: LineAndEol = LineAndEol {
     word: 0b000000011101_00110101_000000000001,
     bits: 32,
 };
 
-/// A two-dimensional line that is white like the row before, V0, and the EOL (ITU-T T.4, table 4/T.4 and 4.1.2).
+/// A two-dimensional line that is white like the row before, which is V0, and the EOL (ITU-T T.4, table
+/// 4/T.4 and 4.1.2).
 const WHITE_AGAIN: LineAndEol = LineAndEol {
     word: 0b1_000000000001,
     bits: 13,
 };
 
-/// A one-dimensional line that is white throughout, as it is mostly written, and an EOL.
+/// A one-dimensional line that is white throughout, in two words, and an EOL.
 #[inline(always)]
 fn white_line(width: Width) -> LineAndEol
     ensures spelt { (text : List Bool) × mh.SpellsLine (elements_of width) text (replicate (elements_of width) White) × (word_bits result.bits result.word ≡ text ++ end_of_line) }
