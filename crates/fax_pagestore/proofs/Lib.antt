@@ -5,5 +5,6 @@ pub mod PageReading
 pub mod ReadLemmas
 pub mod RowsWritten
 pub mod TextLemmas
+pub mod WhiteLemmas
 pub mod WritingLemmas
 pub mod WrittenLemmas

@@ -192,6 +192,20 @@ pub Knows-kept : (tag : Bool) (kept : Elements) (rows : List Elements) (n : ℕ)
 Knows-kept tag kept rows zero size keeps two = ap last_of (sym (nil_from_length rows (sym size)))
 Knows-kept tag kept rows (suc n) size keeps two = sym (keeps two (omega arith))
 
+-- The rows with one more, whose line and separator were passed.
+pub RowsSoFar-pushed : (coding : Coding) (width : ℕ) (first tag next : Bool) (before : Option Elements) (old mid new : Place) (rows all : List Elements) (row : Elements)
+    → RowsSoFar coding width first old tag before mid rows → length rows ≢ most_rows → all ≡ rows ++ row ∷ []
+    → (line separator : List Bool) × SpellsRow width tag before line row × IsSeparator coding next separator × Passes mid new (line ++ separator)
+    → RowsSoFar coding width first old next (last_of all) new all
+RowsSoFar-pushed coding width first tag next before old mid new rows all row r room pushed read =
+    rw pushed
+    (RowsSoFar-more coding width first tag next before (last_of (rows ++ row ∷ [])) old mid new rows row read.0 read.1 r room read.2 read.3 read.4 (λ two. last_of-push rows row))
+
+-- where nothing was passed and the same row is kept
+pub RowsSoFar-still : (coding : Coding) (width : ℕ) (first tag : Bool) (n : ℕ) (old mid new : Place) (kept same : Elements) (rows : List Elements)
+    → RowsSoFar coding width first old tag (row_before n kept) mid rows → (new ≡ mid) × (same ≡ kept) → RowsSoFar coding width first old tag (row_before n same) new rows
+RowsSoFar-still coding width first tag n old mid new kept same rows r (place, row) = rw (place, row) r
+
 -- the same rows, with another row before that is known
 pub RowsSoFar-known : (coding : Coding) (width : ℕ) (first tag : Bool) (before other : Option Elements) (old new : Place) (rows : List Elements)
     → RowsSoFar coding width first old tag before new rows → Knows tag other rows → RowsSoFar coding width first old tag other new rows

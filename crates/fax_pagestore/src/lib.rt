@@ -8,6 +8,7 @@ mod reading;
 mod store;
 #[cfg(test)]
 mod tests;
+mod white;
 mod writing;
 
 pub use fault::PageFault;

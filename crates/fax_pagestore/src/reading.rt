@@ -1,7 +1,7 @@
 //! Pages read from their texts.
 ghost use Rattle.std.specs.Prelude.{◌≡◌, ◌≢◌, ◌<◌, ◌≤◌, ◌⊎◌, ◌++◌, ◌↔◌, ℕ, Bool, List, [], length, IfOk, IfErr, IfSome, IsSome, IsNone, None, Some, OnOk, Ok, Err, IsTrue, true, false, ◌∷◌, replicate, take};
 ghost use Rattle.fax_bits.specs.Bits.{word_bits};
-ghost use Rattle.fax_bits.specs.Reading.{Passes};
+ghost use Rattle.fax_bits.specs.Reading.{Passes, padded};
 ghost use Rattle.fax_runcodes.specs.Rows.{Elements, IsWidth};
 ghost use Rattle.fax_runcodes.specs.Widths.{elements_of};
 ghost use Rattle.fax_pagestore.specs.declared.Coding.{Coding};
@@ -10,6 +10,7 @@ ghost use Rattle.fax_pagestore.specs.Pages.{PageValue};
 ghost use Rattle.fax_pagestore.specs.PageTexts.{IsTag, IsFront, IsSeparator, InARow, SpellsRow, ReadSoFar, MeansRows, MeansPage};
 ghost use Rattle.fax_pagestore.specs.PageFaults.{RunsOut, LineBegins, FailsRow, WantsLine, Stops, FailsBehindFront, FailsPage, last_of, row_before};
 
+use crate::white::pass_white_row;
 use crate::{Coding, Format, Page, PageFault, RowStore};
 use fax_bits::BitReader;
 use fax_mhcode::read_line_1d_into;
@@ -25,7 +26,7 @@ const MOST_ROWS: u32 = 20_000;
 const EOL_ZEROS: u32 = 11;
 
 /// The bits of a reader's window.
-const WINDOW_BITS: u32 = 56;
+pub(crate) const WINDOW_BITS: u32 = 56;
 
 /// The EOLs of a return to control behind its first (ITU-T T.4, 4.1.4 and 4.2.4).
 const FURTHER_EOLS: u32 = 5;
@@ -163,6 +164,16 @@ fn line_begins(reader: &BitReader) -> bool
     zeros_in_window(reader) < EOL_ZEROS
 }
 
+/// The window of a reader, where a line begins there.
+#[inline]
+fn line_ahead(reader: &BitReader) -> Option<u64>
+    ensures begins { IsSome result ↔ LineBegins reader.now.left }
+    ensures window { IfSome result (λ window. word_bits 56 window ≡ padded 56 reader.now.left) }
+{
+    let window = reader.window();
+    line_begins(reader).then_some(window)
+}
+
 /// Passes the last five of the six EOLs that end a page, behind the first and its tag. Each of the six
 /// has tag 1 (ITU-T T.4, 4.1.4 and 4.2.4).
 #[cold]
@@ -256,15 +267,18 @@ fn read_rows<S: RowStore>(
     // the row before, where the next line is two-dimensional
     let mut kept = RowBuilder::new(alloc)?;
     let mut tag = first;
-    while line_begins(reader) {
+    while let Some(window) = line_ahead(reader) {
         let n = rows.len();
         if n == MOST_ROWS {
             return Err(PageFault::TooManyRows);
         }
-        tag = read_row(&mut line, reader, width, coding, tag, &kept, n)?;
-        if rows.push_lent(&line.lend()).is_err() {
-            return Err(PageFault::NoMemory);
+        if let Some(next) = pass_white_row(&mut kept, reader, window, width, coding, tag, n) {
+            rows.push_lent(&kept.lend())?;
+            tag = next;
+            continue;
         }
+        tag = read_row(&mut line, reader, width, coding, tag, &kept, n)?;
+        rows.push_lent(&line.lend())?;
         if !tag {
             mem::swap(&mut line, &mut kept);
         }

@@ -180,8 +180,38 @@ fn reads_lines_in_two_dimensions(rt: HostRuntime) -> Result<(), Fail> {
 }
 
 #[test]
+fn reads_white_rows_of_each_width(rt: HostRuntime) -> Result<(), Fail> {
+    let cases = [
+        (Width::W1728, WHITE),
+        (Width::W2048, "00000001001100110101"),
+        (Width::W2432, "00000001110100110101"),
+    ];
+    for (width, white) in cases {
+        let tagged = [
+            EOL_1, white, EOL_0, AS_WHITE, EOL_0, AS_WHITE, "000", EOL_1, white, EOL_1, EOL_1,
+            EOL_1, EOL_1, EOL_1, EOL_1,
+        ];
+        let untagged = [
+            EOL, white, EOL, white, EOL, white, "000", EOL, white, EOL, EOL, EOL, EOL, EOL, EOL,
+        ];
+        for (coding, texts) in [(Coding::Mr, tagged), (Coding::Mh, untagged)] {
+            let octets = octets_of(rt.alloc(), &texts)?;
+            let format = Format { width, fine: true };
+            let page: Page<PackedRows> = read_page(rt.alloc(), octets.as_slice(), format, coding)?;
+            assert_eq!(rt; page.rows().len(), 4, "in {texts:?}");
+            for i in 0..page.rows().len() {
+                let row = page.rows().lend(i);
+                assert_eq!(rt; row.width(), width.elements(), "in row {i}");
+                assert_eq!(rt; row.changes(), [].as_slice(), "in row {i}");
+            }
+        }
+    }
+    Ok(())
+}
+
+#[test]
 fn says_why_it_reads_no_page(rt: HostRuntime) -> Result<(), Fail> {
-    let cases: [(Coding, &[&str], PageFault); 14] = [
+    let cases: [(Coding, &[&str], PageFault); 15] = [
         (Coding::Mh, &[], PageFault::NoEol),
         (Coding::Mh, &[WHITE], PageFault::NoEol),
         (Coding::Mh, &["0000", EOL], PageFault::NoRtc),
@@ -207,6 +237,8 @@ fn says_why_it_reads_no_page(rt: HostRuntime) -> Result<(), Fail> {
         ),
         // only zeros behind a line
         (Coding::Mr, &[EOL_1, WHITE], PageFault::NoRtc),
+        // an EOL without its tag behind a line
+        (Coding::Mr, &[EOL_1, WHITE, EOL], PageFault::NoRtc),
         // an EOL behind one with tag 0, and the sixth with tag 0
         (
             Coding::Mr,

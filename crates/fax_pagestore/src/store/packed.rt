@@ -56,6 +56,7 @@ impl RowStore for PackedRows {
         Ok(())
     }
 
+    #[inline(always)]
     fn push_lent(&mut self, row: &RowRef<'_>) -> Result<(), NoMemory> {
         if self.extents.len() >= u32::MAX as usize {
             return Err(NoMemory);
@@ -99,5 +100,14 @@ fn append(places: &mut Vec<u16>, changes: &[u16]) -> Result<(), AllocError>
     if changes.is_empty() {
         return Ok(());
     }
+    append_some(places, changes)
+}
+
+/// Adds them, out of the way of white rows.
+#[inline(never)]
+fn append_some(places: &mut Vec<u16>, changes: &[u16]) -> Result<(), AllocError>
+    ensures items { OnOk result (places.new.items ≡ places.old.items ++ changes.now) }
+    ensures err { OnErr result (places.new.items ≡ places.old.items) }
+{
     places.extend_from_slice(changes)
 }
