@@ -46,7 +46,8 @@ pub fn write_lent_line_2d(
 
 /// Writes the coding steps of a line, each of which takes at most 57 bits and goes on by one element at
 /// least. The changing places of both rows are walked from left to right, those of the reference with one
-/// step back where a1 lies left of b1. It takes no memory.
+/// step back where the place before b1 lies right of a1. Where both rows have the next places alike, as
+/// many steps are written at once. It takes no memory.
 #[inline(always)]
 fn put_steps(writer: &mut RoomyWriter, reference: &RowRef<'_>, row: &RowRef<'_>)
     requires same_width { length row.now ≡ length reference.now }

@@ -175,7 +175,11 @@ fn writes_places_alike(rt: HostRuntime) -> Result<(), Fail> {
         }
         // VR1, V0
         put_digits(&mut want, "0111")?;
-        assert_eq!(rt; octets.as_slice(), want.finish().as_slice(), "after {alike}");
+        assert_eq!(rt;
+            octets.as_slice(),
+            want.finish().as_slice(),
+            "after {alike}"
+        );
     }
     Ok(())
 }
