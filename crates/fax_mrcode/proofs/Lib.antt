@@ -9,4 +9,5 @@ pub mod StepLemmas
 pub mod VerticalLemmas
 pub mod WriteLemmas
 pub mod WrittenLaws
+pub mod WrittenZeros
 pub mod ZerosLemmas

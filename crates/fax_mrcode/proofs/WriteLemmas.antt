@@ -84,7 +84,7 @@ IsReferenceIndex-further : (ps : List ℕ) (end from further : ℕ) (colour : Co
 IsReferenceIndex-further ps end from further colour index le at = record { turns = at.turns; below = λ k less same. omega (arith, at.below k less same) }
 
 -- on to the next place, at the other colour
-IsReferenceIndex-on : (ps : List ℕ) (end from further : ℕ) (colour : Colour) (index : ℕ) → AreRising 0 ps end → (index ≡ 0) ⊎ (get_or ps index end < further)
+IsReferenceIndex-on : (ps : List ℕ) (end from further : ℕ) (colour : Colour) (index : ℕ) → AreRising 0 ps end → (index ≡ 0) ⊎ (get_or ps (index - 1) end < further)
     → IsReferenceIndex ps end from colour index → IsReferenceIndex ps end further (other colour) (index + 1)
 IsReferenceIndex-on ps end from further colour index rising passed at = record {
   turns = colour_after-next index ∙ ap other at.turns;
@@ -92,10 +92,20 @@ IsReferenceIndex-on ps end from further colour index rising passed at = record {
     | inl here ↦ other-apart colour (sym at.turns ∙ ap colour_after_changes (sym here) ∙ same)
     | inr apart ↦ elim passed [
       | inl none ↦ absurd (omega arith)
-      | inr left ↦ omega (arith, place_order ps end rising k index (omega arith))
+      | inr left ↦ omega (arith, place_order ps end rising k (index - 1) (omega arith))
     ]
   ];
 }
+
+-- on to the second place from here, at the same colour
+IsReferenceIndex-second : (ps : List ℕ) (end from further : ℕ) (colour : Colour) (index : ℕ) → AreRising 0 ps end → get_or ps (index + 1) end < further
+    → IsReferenceIndex ps end from colour index → IsReferenceIndex ps end further colour (index + 2)
+IsReferenceIndex-second ps end from further colour index rising passed at =
+    let twice : index + 1 + 1 ≡ index + 2 = omega arith in
+    record {
+      turns = ap colour_after_changes (sym twice) ∙ colour_after-next (index + 1) ∙ ap other (colour_after-next index) ∙ other-other (colour_after_changes index) ∙ at.turns;
+      below = λ k less same. omega (arith, place_order ps end rising k (index + 1) (omega arith));
+    }
 
 -- back to the place before, at the other colour
 IsReferenceIndex-back : (ps : List ℕ) (end from further : ℕ) (colour : Colour) (index : ℕ) → AreRising 0 ps end → 0 < index → from ≤ further
@@ -109,11 +119,14 @@ IsReferenceIndex-back ps end from further colour index rising some le at =
           omega (arith, at.below (k + 1) (omega arith) away, place_order ps end rising k (k + 1) (omega arith));
     }
 
--- where the line goes on behind a vertical mode
+-- where the line goes on behind a vertical mode: back to the place before b1, or, where there is none
+-- or it doesn't lie right of a1, on to the place behind b1
+abbrev pub IsIndexBehind : (ps : List ℕ) (end a index next : ℕ) → Type 0
+IsIndexBehind ps end a index next = (next ≡ index - 1) × (0 < index) × (a < get_or ps (index - 1) end) ⊎ (next ≡ index + 1) × ((index ≡ 0) ⊎ (get_or ps (index - 1) end ≤ a))
+
 pub IsReferenceIndex-other : (ps : List ℕ) (end from a : ℕ) (colour : Colour) (index next : ℕ) → AreRising 0 ps end → from ≤ a
-    → (next ≡ index - 1) × (a < get_or ps index end) × (0 < index) ⊎ (next ≡ index + 1) × ((index ≡ 0) ⊎ (get_or ps index end ≤ a))
-    → IsReferenceIndex ps end from colour index → IsReferenceIndex ps end (a + 1) (other colour) next
-IsReferenceIndex-other ps end from a colour index next rising le (inl (e, left, some)) at = rw e (IsReferenceIndex-back ps end from (a + 1) colour index rising some (omega arith) at)
+    → IsIndexBehind ps end a index next → IsReferenceIndex ps end from colour index → IsReferenceIndex ps end (a + 1) (other colour) next
+IsReferenceIndex-other ps end from a colour index next rising le (inl (e, some, left)) at = rw e (IsReferenceIndex-back ps end from (a + 1) colour index rising some (omega arith) at)
 IsReferenceIndex-other ps end from a colour index next rising le (inr (e, inl none)) at = rw e (IsReferenceIndex-on ps end from (a + 1) colour index rising (inl none) at)
 IsReferenceIndex-other ps end from a colour index next rising le (inr (e, inr right)) at = rw e (IsReferenceIndex-on ps end from (a + 1) colour index rising (inr (omega arith)) at)
 
@@ -194,7 +207,7 @@ pub record IsAhead (reference row : Elements) (changes above : List ℕ) (before
   pub b2_low : b ≤ b'
   pub b2_high : b' ≤ length row
 
-IsAhead-at : (reference row : Elements) (changes above : List ℕ) (before after : List Bool) (from : ℕ) (colour : Colour) (index over a b b' : ℕ)
+pub IsAhead-at : (reference row : Elements) (changes above : List ℕ) (before after : List Bool) (from : ℕ) (colour : Colour) (index over a b b' : ℕ)
     → StepsSoFar reference row changes above before after from colour index over → from ≤ length row → from ≤ get_or above over (length row)
     → a ≡ get_or changes index (length row) → b ≡ get_or above over (length row) → b' ≡ get_or above (over + 1) (length row)
     → IsAhead reference row changes above before after from colour index over a b b'
@@ -264,7 +277,7 @@ IsSecond-from {reference} {row} {changes} {above} {before} {after} {from} {colou
 
 module _ {reference row : Elements} {changes above : List ℕ} {before mid after : List Bool} {from : ℕ} {colour : Colour} {index over a b b' : ℕ}
     (at : IsAhead reference row changes above before mid from colour index over a b b') where
-  pub StepsSoFar-pass : b' < a → after ≡ mid ++ mode_word Pass → StepsSoFar reference row changes above before after (b' + 1) colour index over
+  pub StepsSoFar-pass : b' < a → after ≡ mid ++ mode_word Pass → StepsSoFar reference row changes above before after (b' + 1) colour index (over + 2)
   StepsSoFar-pass left e =
       let so = at.so_far in
       let lines = so.lines in
@@ -273,14 +286,14 @@ module _ {reference row : Elements} {changes above : List ℕ} {before mid after
         inside = omega (arith, at.b2_high);
         turns = so.turns;
         at_row = record { below = λ k less. omega (arith, so.at_row.below k less, at.b1_low, at.b2_low); above = λ le. omega (arith, at.a_is) };
-        at_reference = IsReferenceIndex-further above (length row) from (b' + 1) colour over (omega (arith, at.b1_low, at.b2_low)) so.at_reference;
+        at_reference = IsReferenceIndex-second above (length row) from (b' + 1) colour over lines.rising_above (omega (arith, at.b'_is)) so.at_reference;
         few = omega (arith, so.few, at.b1_low, at.b2_low);
-        few_above = omega (arith, so.few_above, at.b1_low, at.b2_low);
+        few_above = omega (arith, so.few_above, at.b1_low, at.a1_high, at.b_is, at.b'_is, place_apart above (length row) lines.rising_above over (over + 1) (omega (arith, at.b_is, at.b2_low, at.a1_high)) (omega arith));
         written = IsWrittenTo-more reference row before mid after from Pass [] b' at.inside so.written (omega (arith, at.a1_is, at.b2_is), refl, sym at.b2_is)
             (e ∙ ap (λ (t : List Bool). mid ++ t) (sym (append-nil (mode_word Pass))));
       }
 
-  pub StepsSoFar-vertical : {next : ℕ} (offset : Offset) → a ≤ b' → IsAt offset a b → (next ≡ over - 1) × (a < b) × (0 < over) ⊎ (next ≡ over + 1) × ((over ≡ 0) ⊎ (b ≤ a))
+  pub StepsSoFar-vertical : {next : ℕ} (offset : Offset) → a ≤ b' → IsAt offset a b → IsIndexBehind above (length row) a over next
       → after ≡ mid ++ mode_word (Vertical offset) → StepsSoFar reference row changes above before after (a + 1) (other colour) (index + 1) next
   StepsSoFar-vertical {next} offset right is_at moved e =
       let so = at.so_far in
@@ -294,7 +307,7 @@ module _ {reference row : Elements} {changes above : List ℕ} {before mid after
           below = λ k less. omega (arith, at.a_is, place_order changes (length row) lines.rising k index (omega arith));
           above = λ le. omega (arith, at.a_is, place_apart changes (length row) lines.rising index (index + 1) (omega (arith, at.a_is)) (omega arith));
         };
-        at_reference = IsReferenceIndex-other above (length row) from a colour over next lines.rising_above at.a1_low (subst (λ n. (next ≡ over - 1) × (a < n) × (0 < over) ⊎ (next ≡ over + 1) × ((over ≡ 0) ⊎ (n ≤ a))) at.b_is moved) so.at_reference;
+        at_reference = IsReferenceIndex-other above (length row) from a colour over next lines.rising_above at.a1_low moved so.at_reference;
         few = omega (arith, so.few, at.a1_low);
         few_above = omega (arith, so.few_above, at.a1_low);
         written = IsWrittenTo-more reference row before mid after from (Vertical offset) [] a at.inside so.written

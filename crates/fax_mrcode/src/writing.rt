@@ -1,15 +1,17 @@
 //! Two-dimensional lines, written.
-ghost use Rattle.std.specs.Prelude.{List, Bool, ℕ, ◌++◌, ◌+◌, ◌*◌, ◌^◌, ◌≡◌, ◌<◌, ◌≤◌, length, max, slice_index_or, IfSome, IsNone, OnOk, OnErr};
+ghost use Rattle.std.specs.Prelude.{List, Bool, true, ℕ, ◌⊎◌, ◌++◌, ◌+◌, ◌-◌, ◌*◌, ◌^◌, ◌≡◌, ◌<◌, ◌≤◌, length, max, replicate, slice_index_or, IfSome, IsNone, OnOk, OnErr};
 ghost use Rattle.fax_bits.specs.Bits.{word_bits};
 ghost use Rattle.fax_runcodes.specs.Painted.{colour_after_changes};
 ghost use Rattle.fax_mrcode.specs.declared.mode.Offset.{Offset};
 ghost use Rattle.fax_mrcode.specs.Modes.{IsAt, mode_word};
 ghost use Rattle.fax_mrcode.specs.Written.{WritesLine};
 
+mod alike;
 #[cfg(test)]
 mod tests;
 
 use crate::{Mode, Offset};
+use alike::places_alike;
 use fax_bits::{BitWriter, NoMemory, RoomyWriter};
 use fax_runcodes::{Colour, Row, RowRef, put_two_runs};
 
@@ -44,7 +46,8 @@ pub fn write_lent_line_2d(
 
 /// Writes the coding steps of a line, each of which takes at most 57 bits and goes on by one element at
 /// least. The changing places of both rows are walked from left to right, those of the reference with one
-/// step back where a1 lies left of b1. It takes no memory.
+/// step back where the place before b1 lies right of a1. Where both rows have the next places alike, as
+/// many steps are written at once. It takes no memory.
 #[inline(always)]
 fn put_steps(writer: &mut RoomyWriter, reference: &RowRef<'_>, row: &RowRef<'_>)
     requires same_width { length row.now ≡ length reference.now }
@@ -63,16 +66,20 @@ fn put_steps(writer: &mut RoomyWriter, reference: &RowRef<'_>, row: &RowRef<'_>)
         if b2 < a1 {
             put_mode(writer, Mode::Pass);
             from = b2 + 1;
-            index_above = over;
+            index_above = over + 2;
         } else if let Some(offset) = offset_of(a1, b1) {
-            put_mode(writer, Mode::Vertical(offset));
-            index_above = if a1 < b1 && over > 0 {
-                over - 1
+            let zeros = places_alike(changes, index, above, over);
+            if zeros > 0 {
+                put_zeros(writer, zeros as u32);
+                from = place_at(changes, index + zeros - 1, width) + 1;
+                index += zeros;
+                index_above = over + zeros;
             } else {
-                over + 1
-            };
-            from = a1 + 1;
-            index += 1;
+                put_mode(writer, Mode::Vertical(offset));
+                from = a1 + 1;
+                index += 1;
+                index_above = index_behind(above, over, a1, width);
+            }
         } else {
             let a2 = place_at(changes, index + 1, width);
             let (word, bits) = word_of(Mode::Horizontal);
@@ -104,6 +111,21 @@ fn first_from(changes: &[u16], mut index: usize, from: u32, width: u32) -> (usiz
         place = place_at(changes, index, width);
     }
     (index, place)
+}
+
+/// From where on b1 is looked for behind a vertical mode: from the changing place before b1 on, where it
+/// lies right of a1, else from the one behind b1.
+#[inline]
+fn index_behind(above: &[u16], over: usize, a1: u32, width: u32) -> usize
+    requires { over < 2 ^ 64 - 1 }
+    ensures { (result ≡ over - 1) × (0 < over) × (a1 < slice_index_or above.now (over - 1) width)
+        ⊎ (result ≡ over + 1) × ((over ≡ 0) ⊎ (slice_index_or above.now (over - 1) width ≤ a1)) }
+{
+    if over > 0 && place_at(above, over - 1, width) > a1 {
+        over - 1
+    } else {
+        over + 1
+    }
 }
 
 /// The changing place of an index, or the width where there is none.
@@ -159,6 +181,17 @@ fn put_mode(writer: &mut RoomyWriter, mode: Mode)
 {
     let (word, bits) = word_of(mode);
     writer.put(word, bits);
+}
+
+/// Writes the words of so many vertical modes with a1 at b1, a 1 each. It takes no memory.
+#[inline(always)]
+fn put_zeros(writer: &mut RoomyWriter, steps: u32)
+    requires few { steps ≤ 28 }
+    requires room { steps ≤ writer.old.room }
+    ensures bits { writer.new.bits ≡ writer.old.bits ++ replicate steps true }
+    ensures room { writer.old.room ≤ writer.new.room + steps }
+{
+    writer.put((1 << steps) - 1, steps);
 }
 
 /// The word of a mode (ITU-T T.4, table 4/T.4), and how many bits it has.

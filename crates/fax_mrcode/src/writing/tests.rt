@@ -156,6 +156,35 @@ fn writes_rows_that_change_at_each_element(rt: HostRuntime) -> Result<(), Fail> 
 }
 
 #[test]
+fn writes_places_alike(rt: HostRuntime) -> Result<(), Fail> {
+    // so many changes in both rows at the same places, and then one by one element further right
+    for alike in [0, 1, 3, 4, 5, 8, 27, 28, 29, 31, 32, 33, 56, 61] {
+        let mut above = [1; 64];
+        let mut runs = [1; 64];
+        above[alike] = 10;
+        above[alike + 1] = 1718 - alike as u16;
+        runs[alike] = 11;
+        runs[alike + 1] = 1717 - alike as u16;
+        let reference = Row::from_runs(rt.alloc(), &above[..alike + 2])?;
+        let row = Row::from_runs(rt.alloc(), &runs[..alike + 2])?;
+        let octets = octets_of_line(&rt, rt.alloc(), &reference, &row)?;
+        let mut want = BitWriter::new(rt.alloc());
+        put_digits(&mut want, "101")?;
+        for _ in 0..alike {
+            put_digits(&mut want, "1")?;
+        }
+        // VR1, V0
+        put_digits(&mut want, "0111")?;
+        assert_eq!(rt;
+            octets.as_slice(),
+            want.finish().as_slice(),
+            "after {alike}"
+        );
+    }
+    Ok(())
+}
+
+#[test]
 fn writes_a_lent_row(rt: HostRuntime) -> Result<(), Fail> {
     let reference = Row::from_runs(rt.alloc(), &[4, 1, 1723])?;
     let row = Row::from_runs(rt.alloc(), &[2, 2, 1724])?;

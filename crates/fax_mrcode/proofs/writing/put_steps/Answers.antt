@@ -1,9 +1,10 @@
-use Rattle.std.proofs.Common.{◌≡◌, ℕ, ◌+◌, ◌-◌, ◌<◌, ◌≤◌, ◌⊎◌, inl, inr, get_or, arith, refl}
+use Rattle.std.proofs.Common.{◌≡◌, ℕ, ◌+◌, ◌≤◌, get_or, arith, refl}
 use Rattle.fax_runcodes.specs.Painted.{colour_after_changes}
 use Rattle.fax_mhcode.proofs.WriteLemmas.{most_elements}
 use Rattle.fax_mrcode.proofs.WriteLemmas.{AreLines-from, IsAhead, IsAhead-from, IsSecond-from, StepsSoFar-none, StepsSoFar-pass, StepsSoFar-vertical, StepsSoFar-horizontal, StepsSoFar-done, StepsSoFar-turned}
+use Rattle.fax_mrcode.proofs.WrittenZeros.{zeros_from}
 use Rattle.fax_mrcode.proofs.writing.put_steps.Goals as goal
-use Rattle.fax_mrcode.proofs.writing.put_steps.Goals.{After-place_at-a1, then-a1-b1+then-over-gt0, else-a1-b1, else-a1-b1-via-then-a1-b1+else-over-gt0, else-a1-b1-via-else-a1-b1}
+use Rattle.fax_mrcode.proofs.writing.put_steps.Goals.{After-place_at-a1}
 
 pub loop-from-init : goal.loop-from-init
 loop-from-init c =
@@ -50,25 +51,43 @@ offset_of-requires-clause-b1 c =
     let at = ahead (goal.at.offset_of-requires-clause-b1 c).After-place_at-a1 c.place_at-b2.result c.place_at-b2.ensures in
     omega (arith, at.b2_low, at.b2_high, at.so_far.lines.few)
 
-pub overflow_add-from-in-Some : goal.overflow_add-from-in-Some
-overflow_add-from-in-Some c =
-    let at = ahead (goal.at.overflow_add-from-in-Some c).After-place_at-a1 c.place_at-b2.result c.place_at-b2.ensures in
+pub overflow_add-from-else-zeros-gt0 : goal.overflow_add-from-else-zeros-gt0
+overflow_add-from-else-zeros-gt0 c =
+    let at = ahead (goal.at.overflow_add-from-else-zeros-gt0 c).After-place_at-a1 c.place_at-b2.result c.place_at-b2.ensures in
     omega (arith, at.a1_high, at.so_far.lines.few)
 
-pub loop-from-preserved-in-Some : goal.loop-from-preserved-in-Some
-loop-from-preserved-in-Some c =
-    let at = ahead (goal.at.loop-from-preserved-in-Some c).After-place_at-a1 c.place_at-b2.result c.place_at-b2.ensures in
-    let a : ℕ = c.place_at-a1.result in
-    let b : ℕ = c.first_from-over.result.1 in
-    let over : ℕ = c.first_from-over.result.0 in
-    let moved : (c.if-a1-b1.index_above ≡ over - 1) × (a < b) × (0 < over) ⊎ (c.if-a1-b1.index_above ≡ over + 1) × ((over ≡ 0) ⊎ (b ≤ a)) =
-    elim c.if-a1-b1.branch [
-      | then-a1-b1+then-over-gt0 w ↦ inl (w.index_above-is, w.if-a1-b1.true, w.if-over-gt0.true)
-      | else-a1-b1 w ↦ elim w.else-a1-b1.branch [ else-a1-b1-via-then-a1-b1+else-over-gt0 v ↦ inr (w.index_above-is, inl (omega arith)) | else-a1-b1-via-else-a1-b1 v ↦ inr (w.index_above-is, inr v.if-a1-b1.false) ]
-    ] in
+pub loop-from-preserved-else-zeros-gt0 : goal.loop-from-preserved-else-zeros-gt0
+loop-from-preserved-else-zeros-gt0 c =
+    let at = ahead (goal.at.loop-from-preserved-else-zeros-gt0 c).After-place_at-a1 c.place_at-b2.result c.place_at-b2.ensures in
     record {
-      so_far = StepsSoFar-turned (StepsSoFar-vertical at c.in-Some.offset c.if-b2-a1.false c.in-Some.ensures.some moved c.put_mode-in-Some.ensures.bits);
-      room = omega (arith, c.loop-from.invariant.room, c.put_mode-in-Some.ensures.room, at.a1_low, at.a1_high, c.width-width.ensures.len);
+      so_far = StepsSoFar-turned (StepsSoFar-vertical at c.in-Some.offset c.if-b2-a1.false c.in-Some.ensures.some (rw c.width-width.ensures.len at c.index_behind-index_above.ensures) c.put_mode-else-zeros-gt0.ensures.bits);
+      room = omega (arith, c.loop-from.invariant.room, c.put_mode-else-zeros-gt0.ensures.room, at.a1_low, at.a1_high, c.width-width.ensures.len);
+    }
+
+-- ---- several vertical modes with a1 at b1
+
+pub overflow_add-from-then-zeros-gt0 : goal.overflow_add-from-then-zeros-gt0
+overflow_add-from-then-zeros-gt0 c =
+    let at = ahead (goal.at.overflow_add-from-then-zeros-gt0 c).After-place_at-a1 c.place_at-b2.result c.place_at-b2.ensures in
+    let zeros = c.places_alike-zeros.ensures in
+    let taken = zeros_from c.places_alike-zeros.result at c.width-width.ensures.len c.if-zeros-gt0.true zeros.inside zeros.inside_above zeros.alike c.place_at-from.ensures in
+    omega (arith, taken.2, at.so_far.lines.few, c.width-width.ensures.len)
+
+pub loop-from-smaller-then-zeros-gt0 : goal.loop-from-smaller-then-zeros-gt0
+loop-from-smaller-then-zeros-gt0 c =
+    let at = ahead (goal.at.loop-from-smaller-then-zeros-gt0 c).After-place_at-a1 c.place_at-b2.result c.place_at-b2.ensures in
+    let zeros = c.places_alike-zeros.ensures in
+    let taken = zeros_from c.places_alike-zeros.result at c.width-width.ensures.len c.if-zeros-gt0.true zeros.inside zeros.inside_above zeros.alike c.place_at-from.ensures in
+    omega (arith, taken.1, taken.2, c.if-zeros-gt0.true)
+
+pub loop-from-preserved-then-zeros-gt0 : goal.loop-from-preserved-then-zeros-gt0
+loop-from-preserved-then-zeros-gt0 c =
+    let at = ahead (goal.at.loop-from-preserved-then-zeros-gt0 c).After-place_at-a1 c.place_at-b2.result c.place_at-b2.ensures in
+    let zeros = c.places_alike-zeros.ensures in
+    let taken = zeros_from c.places_alike-zeros.result at c.width-width.ensures.len c.if-zeros-gt0.true zeros.inside zeros.inside_above zeros.alike c.place_at-from.ensures in
+    record {
+      so_far = rw c.put_zeros.ensures.bits taken.0;
+      room = omega (arith, c.loop-from.invariant.room, c.put_zeros.ensures.room, taken.1, taken.2);
     }
 
 -- ---- horizontal
