@@ -8,14 +8,15 @@ use Rattle.fax_runcodes.proofs.Fronts.{begins, begins_rest}
 use Rattle.fax_mrcode.specs.declared.mode.Mode.TheVariants.{Pass, Horizontal, Vertical}
 use Rattle.fax_mrcode.specs.declared.reading.verticals.VerticalWord.{VerticalWord}
 use Rattle.fax_mrcode.specs.declared.reading.verticals.TheConstants.{VERTICAL_WORDS, NOT_VERTICAL}
-use Rattle.fax_mrcode.specs.declared.mode.Offset.TheVariants.{Zero}
+use Rattle.fax_mrcode.specs.declared.mode.Offset.{Offset}
+use Rattle.fax_mrcode.specs.declared.mode.Offset.TheVariants.{Left3, Left2, Left1, Zero, Right1, Right2, Right3}
 use Rattle.fax_mrcode.specs.Modes.{mode_word}
 use Rattle.fax_runcodes.specs.Rows.{Elements}
 use Rattle.fax_mrcode.specs.declared.reading.Start.{Start}
 use Rattle.std.proofs.Math.Seq.{take-add}
 use Rattle.fax_mrcode.specs.declared.mode.Mode.{Mode}
 use Rattle.fax_mrcode.specs.Windows.{Shows, ShowsBehind, FirstAre}
-use Rattle.fax_mrcode.specs.Starts.{TakesStep}
+use Rattle.fax_mrcode.specs.Starts.{IsBack, TakesStep}
 use Rattle.fax_mrcode.proofs.ModeTable.{mode_size}
 use Rattle.fax_bits.proofs.WindowLemmas.{padded-known}
 use Rattle.fax_bits.proofs.BitsLemmas.{word_bits-add}
@@ -25,9 +26,28 @@ abbrev pub behind_place : Place → ℕ → Place
 behind_place p n = record { passed = p.passed + n; left = drop n p.left }
 
 -- ---- the table
+-- how far back the next b1 is looked for
+abbrev pub back_of : Offset → ℕ
+back_of Left3 = 2
+back_of Left2 = 2
+back_of Left1 = 2
+back_of Zero = 0
+back_of Right1 = 0
+back_of Right2 = 0
+back_of Right3 = 0
+
+pub IsBack-of : (offset : Offset) → IsBack offset (back_of offset)
+IsBack-of Left3 = inl refl
+IsBack-of Left2 = inl refl
+IsBack-of Left1 = inl refl
+IsBack-of Zero = inr (refl, λ a b at. omega arith)
+IsBack-of Right1 = inr (refl, λ a b at. omega arith)
+IsBack-of Right2 = inr (refl, λ a b at. omega arith)
+IsBack-of Right3 = inr (refl, λ a b at. omega arith)
+
 -- an entry with bits has the word of its offset, which begins these bits
 abbrev pub is_right : List Bool → VerticalWord → Bool
-is_right text entry = (entry.bits == 0) || ((length (mode_word (Vertical entry.offset)) == entry.bits) && begins (mode_word (Vertical entry.offset)) text)
+is_right text entry = (entry.back == back_of entry.offset) && ((entry.bits == 0) || ((length (mode_word (Vertical entry.offset)) == entry.bits) && begins (mode_word (Vertical entry.offset)) text))
 
 -- each entry from this index on says what begins the 7 bits of its index
 abbrev pub are_right : ℕ → List VerticalWord → Bool
@@ -55,8 +75,16 @@ or_else false b h = inr h
 abbrev pub SaysWord : List Bool → VerticalWord → Type 0
 SaysWord text entry = (length (mode_word (Vertical entry.offset)) ≡ entry.bits) × ((rest : List Bool) × (text ≡ mode_word (Vertical entry.offset) ++ rest))
 
+says_back : (text : List Bool) (entry : VerticalWord) → is_right text entry ≡ true → IsBack entry.offset entry.back
+says_back text entry h =
+    let parts = and_parts (entry.back == back_of entry.offset) ((entry.bits == 0) || ((length (mode_word (Vertical entry.offset)) == entry.bits) && begins (mode_word (Vertical entry.offset)) text)) h in
+    subst (λ (n : ℕ). IsBack entry.offset n) (sym (eqb-true entry.back (back_of entry.offset) parts.0)) (IsBack-of entry.offset)
+
+says_word : (text : List Bool) (entry : VerticalWord) → is_right text entry ≡ true → ((entry.bits == 0) || ((length (mode_word (Vertical entry.offset)) == entry.bits) && begins (mode_word (Vertical entry.offset)) text)) ≡ true
+says_word text entry h = (and_parts (entry.back == back_of entry.offset) ((entry.bits == 0) || ((length (mode_word (Vertical entry.offset)) == entry.bits) && begins (mode_word (Vertical entry.offset)) text)) h).1
+
 says : (text : List Bool) (entry : VerticalWord) → is_right text entry ≡ true → (entry.bits ≡ 0) ⊎ SaysWord text entry
-says text entry h = elim (or_else (entry.bits == 0) ((length (mode_word (Vertical entry.offset)) == entry.bits) && begins (mode_word (Vertical entry.offset)) text) h) [
+says text entry h = elim (or_else (entry.bits == 0) ((length (mode_word (Vertical entry.offset)) == entry.bits) && begins (mode_word (Vertical entry.offset)) text) (says_word text entry h)) [
   | inl none ↦ inl (eqb-true entry.bits 0 none)
   | inr word ↦
       let parts = and_parts (length (mode_word (Vertical entry.offset)) == entry.bits) (begins (mode_word (Vertical entry.offset)) text) word in
@@ -73,11 +101,17 @@ said text more entry (inr word) some = (word.0, (word.1.0 ++ more, ap (λ b. b +
 
 -- the entry of a window's first 7 bits
 module _ (window : ℕ) (below : window < 2 ^ 56) (entry : VerticalWord) (is : entry ≡ slice_index_or VERTICAL_WORDS (window / 2 ^ 49) NOT_VERTICAL) where
-  of_seven : (entry.bits ≡ 0) ⊎ SaysWord (word_bits 7 (window / 2 ^ 49)) entry
-  of_seven =
+  entry_right : is_right (word_bits 7 (window / 2 ^ 49)) entry ≡ true
+  entry_right =
       let at : is_right (word_bits 7 (0 + window / 2 ^ 49)) (slice_index_or VERTICAL_WORDS (window / 2 ^ 49) NOT_VERTICAL) ≡ true = are_right_at 0 VERTICAL_WORDS vertical_words_are_right (window / 2 ^ 49) (omega arith) in
       let place : 0 + window / 2 ^ 49 ≡ window / 2 ^ 49 = omega arith in
-      says (word_bits 7 (window / 2 ^ 49)) entry (rw is (rw place at at))
+      rw is (rw place at at)
+
+  of_seven : (entry.bits ≡ 0) ⊎ SaysWord (word_bits 7 (window / 2 ^ 49)) entry
+  of_seven = says (word_bits 7 (window / 2 ^ 49)) entry entry_right
+
+  pub entry_back : IsBack entry.offset entry.back
+  entry_back = says_back (word_bits 7 (window / 2 ^ 49)) entry entry_right
 
   pub entry_few : entry.bits ≤ 7
   entry_few = few_of (word_bits 7 (window / 2 ^ 49)) entry of_seven

@@ -1,6 +1,7 @@
 //! Bits ahead of a reader, in a window of 56 bits.
 ghost use Rattle.std.specs.Prelude.{List, Bool, true, false, drop, replicate, ◌<◌, ◌≤◌, ◌≡◌, ◌-◌, ◌++◌, ◌^◌, IfSome};
 ghost use Rattle.fax_bits.specs.Bits.{word_bits};
+ghost use Rattle.fax_runcodes.specs.Rows.{other};
 ghost use Rattle.fax_runcodes.specs.Spelling.{SpellsRun};
 ghost use Rattle.fax_mrcode.specs.declared.mode.Mode.{Mode};
 ghost use Rattle.fax_mrcode.specs.Modes.{mode_word};
@@ -18,14 +19,44 @@ pub(super) struct Ahead {
 
 /// A run of fewer than 64 elements, and the bits behind its word.
 #[derive(Clone, Copy)]
-pub(super) struct ShortRun {
-    pub(super) run: u16,
+struct ShortRun {
+    run: u16,
+    ahead: Ahead,
+}
+
+/// Two runs of fewer than 64 elements each, and the bits behind their words.
+#[derive(Clone, Copy)]
+pub(super) struct ShortRuns {
+    pub(super) first: u16,
+    pub(super) second: u16,
     pub(super) ahead: Ahead,
+}
+
+/// The runs of a colour and of the other one whose words the bits begin with, where each is one word.
+#[inline]
+pub(super) fn short_runs(ahead: Ahead, colour: Colour) -> Option<ShortRuns>
+    requires window { ahead.window < 2 ^ 56 }
+    requires known { ahead.left ≤ 56 }
+    ensures few { IfSome result (λ runs. (runs.first < 64) × (runs.second < 64)) }
+    ensures behind { IfSome result (λ runs. ShowsBehind ahead.window ahead.left runs.ahead.window runs.ahead.left) }
+    ensures spelt { IfSome result (λ runs. (s t : List Bool) × SpellsRun colour s runs.first × SpellsRun (other colour) t runs.second × FirstAre ahead.window ahead.left runs.ahead.left (s ++ t)) }
+{
+    let Some(first) = short_run(ahead, colour) else {
+        return None;
+    };
+    let Some(second) = short_run(first.ahead, colour.other()) else {
+        return None;
+    };
+    Some(ShortRuns {
+        first: first.run,
+        second: second.run,
+        ahead: second.ahead,
+    })
 }
 
 /// The run whose word the bits begin with, where it is one word.
 #[inline]
-pub(super) fn short_run(ahead: Ahead, colour: Colour) -> Option<ShortRun>
+fn short_run(ahead: Ahead, colour: Colour) -> Option<ShortRun>
     requires window { ahead.window < 2 ^ 56 }
     requires known { ahead.left ≤ 56 }
     ensures few { IfSome result (λ short. short.run < 64) }

@@ -1,4 +1,4 @@
-use Rattle.fax_mrcode.proofs.VerticalLemmas.{entry_few, entry_says}
+use Rattle.fax_mrcode.proofs.VerticalLemmas.{entry_few, entry_says, entry_back}
 use Rattle.fax_mrcode.proofs.reading.verticals.vertical_word.Goals as goal
 
 pub returns-clause-few : goal.returns-clause-few
@@ -9,3 +9,6 @@ returns-clause-size c = λ some. (entry_says c.args.window c.requires c.word_at.
 
 pub returns-clause-begins : goal.returns-clause-begins
 returns-clause-begins c = λ some. (entry_says c.args.window c.requires c.word_at.result c.word_at.ensures some).1
+
+pub returns-clause-back : goal.returns-clause-back
+returns-clause-back c = entry_back c.args.window c.requires c.word_at.result c.word_at.ensures
