@@ -1,9 +1,8 @@
 -- Lines of the whole width, in which the elements right of a0 turn.
-use Rattle.std.proofs.Common.{◌≡◌, ◌≢◌, ℕ, Option, Some, None, unwrap_or, zero, suc, ◌+◌, ◌-◌, ◌<◌, ◌≤◌, List, [], ◌∷◌, ◌++◌, length, take, drop, replicate, slice_index, slice_index_or, Bool, true, refl, sym, ◌∙◌, ap, subst, arith, inl, inr, ◌⊎◌, take_at, length-append, length-drop, append_assoc}
+use Rattle.std.proofs.Common.{◌≡◌, ◌≢◌, ℕ, zero, suc, ◌+◌, ◌-◌, ◌<◌, ◌≤◌, List, [], ◌∷◌, ◌++◌, length, take, drop, replicate, slice_index, slice_index_or, Bool, true, refl, sym, ◌∙◌, ap, subst, arith, inl, inr, ◌⊎◌, take_at, length-append, length-drop, append_assoc}
 use Rattle.std.proofs.lemmas.Bool.{cases_lt, cases_eq}
 use Rattle.std.proofs.lemmas.List.{take_all, take_more, get_or-take, get_or_default, drop-drop, drop_at, drop_all, length-replicate, length-take-le, replicate-append-replicate, take-append-drop, get_or-drop, get_or-replicate}
 use Rattle.std.proofs.Math.Seq.{take-add}
-use Rattle.std.specs.Option.{SomeIff}
 use Rattle.fax_runcodes.specs.declared.Colour.{Colour}
 use Rattle.fax_runcodes.specs.declared.Colour.TheVariants.{White}
 use Rattle.fax_runcodes.specs.Rows.{Elements, other, colour_at, colour_before}
@@ -291,11 +290,6 @@ next_index ps width rising colour from b1 at offset back is_back place is_at rig
         rw more (colour_after-more b1 ∙ ap other at.cursor.parity, λ le. cursor_on ps width rising colour from b1 place at right le (inl (on.1 place (slice_index_or ps b1 width) is_at)))
   ]
 ]
-
--- the difference, or 1 where there is none
-pub index_from : (less : Option ℕ) (b1 back index : ℕ) → SomeIff less (back ≤ b1 + 1) (b1 + 1 - back) → index ≡ unwrap_or less 1 → (index + back ≡ b1 + 1) ⊎ ((b1 + 1 < back) × (index ≡ 1))
-index_from (Some n) b1 back index is e = inl (omega (arith, is.0, is.1))
-index_from None b1 back index is e = inr (omega (arith, is), e)
 
 -- ---- several steps in vertical mode with a1 at b1
 

@@ -97,6 +97,7 @@ struct Start {
 
 /// Reads the steps of a line into a builder that is empty. After an `Err` the reader stands anywhere,
 /// and the builder has any elements.
+#[inline(never)]
 fn read_steps(
     line: &mut RowBuilder,
     reader: &mut BitReader,
@@ -128,7 +129,7 @@ fn read_steps(
 
 /// Reads one step in a line that has its whole width, and answers where the next one starts. After an
 /// `Err` the reader stands anywhere, and the builder has any elements.
-#[inline]
+#[inline(never)]
 fn read_step_in(
     line: &mut RowBuilder,
     reader: &mut BitReader,

@@ -1,5 +1,5 @@
 //! Bits ahead of a reader, in a window of 56 bits.
-ghost use Rattle.std.specs.Prelude.{List, Bool, true, false, drop, replicate, ◌<◌, ◌≤◌, ◌≡◌, ◌-◌, ◌++◌, ◌^◌, IfSome};
+ghost use Rattle.std.specs.Prelude.{List, Bool, true, replicate, ◌<◌, ◌≤◌, ◌≡◌, ◌-◌, ◌++◌, ◌^◌, ◌/◌, IfSome};
 ghost use Rattle.fax_bits.specs.Bits.{word_bits};
 ghost use Rattle.fax_runcodes.specs.Rows.{other};
 ghost use Rattle.fax_runcodes.specs.Spelling.{SpellsRun};
@@ -74,29 +74,31 @@ fn short_run(ahead: Ahead, colour: Colour) -> Option<ShortRun>
     })
 }
 
-/// The bits behind the word of horizontal mode, where they begin with it.
+/// The bits behind the word of horizontal mode, which they begin with, where they show all of it.
 #[inline]
 pub(super) fn past_horizontal(ahead: Ahead) -> Option<Ahead>
     requires window { ahead.window < 2 ^ 56 }
     requires known { ahead.left ≤ 56 }
+    requires word { ahead.window / 2 ^ 53 ≡ 1 }
     ensures behind { IfSome result (λ rest. ShowsBehind ahead.window ahead.left rest.window rest.left) }
     ensures word { IfSome result (λ rest. FirstAre ahead.window ahead.left rest.left (mode_word Mode.Horizontal)) }
 {
-    if ahead.window >> 53 != 0b001 || ahead.left < 3 {
+    if ahead.left < 3 {
         return None;
     }
     Some(past(ahead, 3))
 }
 
-/// The bits behind the word of pass mode, where they begin with it.
+/// The bits behind the word of pass mode, which they begin with, where they show all of it.
 #[inline]
 pub(super) fn past_pass(ahead: Ahead) -> Option<Ahead>
     requires window { ahead.window < 2 ^ 56 }
     requires known { ahead.left ≤ 56 }
+    requires word { ahead.window / 2 ^ 52 ≡ 1 }
     ensures behind { IfSome result (λ rest. ShowsBehind ahead.window ahead.left rest.window rest.left) }
     ensures word { IfSome result (λ rest. FirstAre ahead.window ahead.left rest.left (mode_word Mode.Pass)) }
 {
-    if ahead.window >> 52 != 0b0001 || ahead.left < 4 {
+    if ahead.left < 4 {
         return None;
     }
     Some(past(ahead, 4))

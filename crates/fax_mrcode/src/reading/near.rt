@@ -1,5 +1,5 @@
 //! Steps of a two-dimensional line, read from one window of bits: the fast way.
-ghost use Rattle.std.specs.Prelude.{List, Bool, ◌-◌, ◌<◌, ◌≤◌, ◌≡◌, ◌^◌, ◌/◌, ◌++◌, length, take, drop, replicate, slice_index_or, IfSome, IsNone};
+ghost use Rattle.std.specs.Prelude.{List, Bool, ◌+◌, ◌-◌, ◌<◌, ◌≤◌, ◌≡◌, ◌^◌, ◌/◌, ◌++◌, ◌⊎◌, length, take, drop, replicate, slice_index_or, IfSome, IsNone};
 ghost use Rattle.fax_bits.specs.Bits.{word_bits};
 ghost use Rattle.fax_bits.specs.Reading.{Place};
 ghost use Rattle.fax_runcodes.specs.Rows.{other, colour_before};
@@ -39,7 +39,7 @@ struct NextChange {
 /// Reads steps as far as one window shows them, and answers where the next one starts. It is the fast
 /// way: what it leaves is read step by step. The line has its whole width from the start on, and each
 /// step turns the elements right of a0.
-#[inline(never)]
+#[inline]
 pub(super) fn read_near_steps(
     line: &mut RowBuilder,
     reader: &mut BitReader,
@@ -100,10 +100,10 @@ fn near_step(line: &mut RowBuilder, changes: &[u16], width: u16, near: Near) -> 
     if word.bits > 0 {
         return near_vertical(line, changes, width, near, word);
     }
-    if near.ahead.window >> 53 == 0b001 {
-        near_horizontal(line, changes, width, near)
-    } else {
-        near_pass(line, changes, width, near)
+    match near.ahead.window >> 52 {
+        0b0001 => near_pass(line, changes, width, near),
+        0b0010 | 0b0011 => near_horizontal(line, changes, width, near),
+        _ => None,
     }
 }
 
@@ -179,15 +179,25 @@ fn near_vertical(
     turn_below(line, width, a1);
     Some(Near {
         from: a1 + 1,
-        // Left of b1 the changing place before it may be right of a1, where there is one.
-        index: (b1.index + 1)
-            .checked_sub(usize::from(word.back))
-            .unwrap_or(1),
+        index: index_behind(b1.index, word.back),
         ahead: past(near.ahead, bits),
     })
 }
 
-/// Takes the step in pass mode that the bits begin with, where they show its word. It changes nothing.
+/// From where on the next b1 is looked for: behind this one, or so many changing places further back, as
+/// left of b1 the changing place before it may be right of a1. Before the first none is.
+#[inline]
+fn index_behind(b1: usize, back: u8) -> usize
+    requires { b1 + 1 < 2 ^ 64 }
+    ensures { (result + back ≡ b1 + 1) ⊎ ((b1 + 1 < back) × (result ≡ 1)) }
+{
+    let next = b1 + 1;
+    let back = usize::from(back);
+    if next < back { 1 } else { next - back }
+}
+
+/// Takes the step in pass mode, whose word the bits begin with, where they show all of it. It changes
+/// nothing.
 #[inline]
 fn near_pass(line: &mut RowBuilder, changes: &[u16], width: u16, near: Near) -> Option<Near>
     requires start { IsStartIn changes.now width line.old (start_of near) }
@@ -196,6 +206,7 @@ fn near_pass(line: &mut RowBuilder, changes: &[u16], width: u16, near: Near) -> 
     requires few { width ≤ 2432 }
     requires window { near.ahead.window < 2 ^ 56 }
     requires known { near.ahead.left ≤ 56 }
+    requires word { near.ahead.window / 2 ^ 52 ≡ 1 }
     ensures next { IfSome result (λ next. IsStartIn changes.now width line.new (start_of next)) }
     ensures taken { IfSome result (λ next. TakesNear (painted Colour.White 0 changes.now width) width line.old near line.new next) }
     ensures none { line.new ≡ line.old }
@@ -215,8 +226,8 @@ fn near_pass(line: &mut RowBuilder, changes: &[u16], width: u16, near: Near) -> 
     })
 }
 
-/// Takes the step in horizontal mode that the bits begin with, where they show all of it and its runs
-/// are short. `None` changes nothing.
+/// Takes the step in horizontal mode, whose word the bits begin with, where they show all of it and its
+/// runs are short. `None` changes nothing.
 #[inline]
 fn near_horizontal(line: &mut RowBuilder, changes: &[u16], width: u16, near: Near) -> Option<Near>
     requires start { IsStartIn changes.now width line.old (start_of near) }
@@ -225,6 +236,7 @@ fn near_horizontal(line: &mut RowBuilder, changes: &[u16], width: u16, near: Nea
     requires few { width ≤ 2432 }
     requires window { near.ahead.window < 2 ^ 56 }
     requires known { near.ahead.left ≤ 56 }
+    requires word { near.ahead.window / 2 ^ 53 ≡ 1 }
     ensures next { IfSome result (λ next. IsStartIn changes.now width line.new (start_of next)) }
     ensures taken { IfSome result (λ next. TakesNear (painted Colour.White 0 changes.now width) width line.old near line.new next) }
     ensures none { IsNone result → line.new ≡ line.old }

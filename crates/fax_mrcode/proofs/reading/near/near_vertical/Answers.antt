@@ -6,7 +6,7 @@ use Rattle.fax_mrcode.specs.declared.mode.Mode.TheVariants.{Vertical}
 use Rattle.fax_mrcode.specs.Modes.{IsAt, mode_word}
 use Rattle.fax_mrcode.specs.Starts.{IsCursor, start_of, left_of_a0}
 use Rattle.fax_mrcode.proofs.CursorLemmas.{place_le}
-use Rattle.fax_mrcode.proofs.NearLemmas.{may_turn_at, vertical_taken, next_index, index_from}
+use Rattle.fax_mrcode.proofs.NearLemmas.{may_turn_at, vertical_taken, next_index}
 use Rattle.fax_mrcode.proofs.StepLemmas.{TakesSteps-one}
 use Rattle.fax_mrcode.proofs.VerticalLemmas.{FirstAre-word}
 use Rattle.fax_mrcode.proofs.reading.near.near_vertical.Goals as goal
@@ -26,20 +26,20 @@ is_at : (c : After-past) → IsAt c.args.word.offset (c.next_change-b1.result.pl
 is_at c = subst (λ n. IsAt c.args.word.offset (c.next_change-b1.result.place + c.right_of_left3.result - 3) n) c.next_change-b1.ensures.place
     ((c.right_of_left3.ensures.at (c.next_change-b1.result.place + c.right_of_left3.result - 3) c.next_change-b1.result.place).1 (omega arith))
 
-next : (c : After-past) → (colour_after_changes c.unwrap_or.result ≡ other (colour_after_changes c.args.near.index))
+next : (c : After-past) → (colour_after_changes c.index_behind.result ≡ other (colour_after_changes c.args.near.index))
     × (c.next_change-b1.result.place + c.right_of_left3.result - 3 + 1 ≤ c.args.width
-    → IsCursor c.args.changes.now (other (colour_after_changes c.args.near.index)) (c.next_change-b1.result.place + c.right_of_left3.result - 3 + 1) c.unwrap_or.result)
+    → IsCursor c.args.changes.now (other (colour_after_changes c.args.near.index)) (c.next_change-b1.result.place + c.right_of_left3.result - 3 + 1) c.index_behind.result)
 next c =
     next_index c.args.changes.now c.args.width c.requires.rising (colour_after_changes c.args.near.index) c.args.near.from c.next_change-b1.result.index c.next_change-b1.ensures.b1 c.args.word.offset c.args.word.back c.requires.back
-    (c.next_change-b1.result.place + c.right_of_left3.result - 3) (is_at c) (omega arith) c.unwrap_or.result
-    (index_from c.checked_sub.result c.next_change-b1.result.index c.args.word.back c.unwrap_or.result (rw c.from.ensures at c.checked_sub.ensures) c.unwrap_or.ensures)
+    (c.next_change-b1.result.place + c.right_of_left3.result - 3) (is_at c) (omega arith) c.index_behind.result
+    c.index_behind.ensures
 
 pub returns-clause-next : goal.returns-clause-next
 returns-clause-next c =
     let at = (goal.at.returns-clause-next c).After-past in
     rw (next at).0
     (vertical_taken c.args.changes.now c.args.width c.requires.rising c.args.line.now (start_of c.args.near) c.requires.start c.requires.within c.next_change-b1.result.index c.next_change-b1.ensures.b1 c.args.word.offset
-    (c.next_change-b1.result.place + c.right_of_left3.result - 3) c.unwrap_or.result (is_at at) (omega arith) (omega arith) (next at).1 c.turn_below.new.line c.turn_below.ensures.left c.turn_below.ensures.right).0
+    (c.next_change-b1.result.place + c.right_of_left3.result - 3) c.index_behind.result (is_at at) (omega arith) (omega arith) (next at).1 c.turn_below.new.line c.turn_below.ensures.left c.turn_below.ensures.right).0
 
 pub returns-clause-taken : goal.returns-clause-taken
 returns-clause-taken c =
@@ -55,5 +55,5 @@ returns-clause-taken c =
       takes = rw (next at).0 (TakesSteps-one (painted White 0 c.args.changes.now c.args.width) c.args.width (Vertical c.args.word.offset) []
           (left_of_a0 c.args.line.now (start_of c.args.near)) (start_of c.args.near) _ _ c.requires.within
           (vertical_taken c.args.changes.now c.args.width c.requires.rising c.args.line.now (start_of c.args.near) c.requires.start c.requires.within c.next_change-b1.result.index c.next_change-b1.ensures.b1 c.args.word.offset
-          (c.next_change-b1.result.place + c.right_of_left3.result - 3) c.unwrap_or.result (is_at at) (omega arith) (omega arith) (next at).1 c.turn_below.new.line c.turn_below.ensures.left c.turn_below.ensures.right).1);
+          (c.next_change-b1.result.place + c.right_of_left3.result - 3) c.index_behind.result (is_at at) (omega arith) (omega arith) (next at).1 c.turn_below.new.line c.turn_below.ensures.left c.turn_below.ensures.right).1);
     }
