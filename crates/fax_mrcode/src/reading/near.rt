@@ -10,12 +10,18 @@ ghost use Rattle.fax_mrcode.specs.declared.mode.Mode.{Mode};
 ghost use Rattle.fax_mrcode.specs.Modes.{mode_word};
 ghost use Rattle.fax_mrcode.specs.Starts.{IsBack, IsCursor, IsIndexOfB1, IsStartIn, Rests, TakesStep, TakesNear, StepsSoFar, left_of_a0, start_of};
 
-use super::ahead::{Ahead, ShortRuns, ones, past, past_horizontal, past_pass, short_runs};
+use super::ahead::{Ahead, ShortRuns, ones, past, short_runs};
 use super::verticals::{VerticalWord, vertical_word};
 use super::{Start, colour_to_b1};
 use crate::places::place_at;
 use fax_bits::BitReader;
 use fax_runcodes::RowBuilder;
+
+/// How many bits the word of pass mode has (ITU-T T.4, table 4/T.4).
+const PASS_BITS: u32 = 4;
+
+/// How many bits the word of horizontal mode has.
+const HORIZONTAL_BITS: u32 = 3;
 
 /// Where a coding step starts, and the bits from it on. The colour at a0 is that up to the changing
 /// place of the index.
@@ -61,7 +67,7 @@ pub(super) fn read_near_steps(
         from: start.from,
         index: start.index,
         ahead: Ahead {
-            window: reader.window(),
+            window: reader.window() << 8,
             left: known,
         },
     };
@@ -87,20 +93,19 @@ fn near_step(line: &mut RowBuilder, changes: &[u16], width: u16, near: Near) -> 
     requires within { near.from ≤ width }
     requires rising { AreRising 0 changes.now width }
     requires few { width ≤ 2432 }
-    requires window { near.ahead.window < 2 ^ 56 }
     requires known { near.ahead.left ≤ 56 }
     ensures next { IfSome result (λ next. IsStartIn changes.now width line.new (start_of next)) }
     ensures taken { IfSome result (λ next. TakesNear (painted Colour.White 0 changes.now width) width line.old near line.new next) }
     ensures none { IsNone result → line.new ≡ line.old }
 {
-    if near.ahead.window >> 55 == 1 && near.ahead.left > 0 {
+    if near.ahead.window >> 63 == 1 && near.ahead.left > 0 {
         return Some(near_zeros(line, changes, width, near));
     }
     let word = vertical_word(near.ahead.window);
     if word.bits > 0 {
         return near_vertical(line, changes, width, near, word);
     }
-    match near.ahead.window >> 52 {
+    match near.ahead.window >> 60 {
         0b0001 => near_pass(line, changes, width, near),
         0b0010 | 0b0011 => near_horizontal(line, changes, width, near),
         _ => None,
@@ -115,15 +120,14 @@ fn near_zeros(line: &mut RowBuilder, changes: &[u16], width: u16, near: Near) ->
     requires within { near.from ≤ width }
     requires rising { AreRising 0 changes.now width }
     requires few { width ≤ 2432 }
-    requires window { near.ahead.window < 2 ^ 56 }
     requires known { near.ahead.left ≤ 56 }
     requires some { 0 < near.ahead.left }
-    requires zero { near.ahead.window / 2 ^ 55 ≡ 1 }
+    requires zero { near.ahead.window / 2 ^ 63 ≡ 1 }
     ensures next { IsStartIn changes.now width line.new (start_of result) }
     ensures taken { TakesNear (painted Colour.White 0 changes.now width) width line.old near line.new result }
 {
     let b1 = next_change(changes, width, near);
-    if near.ahead.window >> 54 == 0b11 && near.from > 0 {
+    if near.ahead.window >> 62 == 0b11 && near.from > 0 {
         let steps = (ones(near.ahead) as usize).min(changes.len().saturating_sub(b1.index));
         if steps > 0 {
             let index = b1.index + steps;
@@ -157,10 +161,9 @@ fn near_vertical(
     requires within { near.from ≤ width }
     requires rising { AreRising 0 changes.now width }
     requires few { width ≤ 2432 }
-    requires window { near.ahead.window < 2 ^ 56 }
     requires known { near.ahead.left ≤ 56 }
     requires size { length (mode_word (Mode.Vertical word.offset)) ≡ word.bits }
-    requires begins { (rest : List Bool) × (word_bits 56 near.ahead.window ≡ mode_word (Mode.Vertical word.offset) ++ rest) }
+    requires begins { (rest : List Bool) × (word_bits 64 near.ahead.window ≡ mode_word (Mode.Vertical word.offset) ++ rest) }
     requires back { IsBack word.offset word.back }
     ensures next { IfSome result (λ next. IsStartIn changes.now width line.new (start_of next)) }
     ensures taken { IfSome result (λ next. TakesNear (painted Colour.White 0 changes.now width) width line.old near line.new next) }
@@ -204,16 +207,15 @@ fn near_pass(line: &mut RowBuilder, changes: &[u16], width: u16, near: Near) -> 
     requires within { near.from ≤ width }
     requires rising { AreRising 0 changes.now width }
     requires few { width ≤ 2432 }
-    requires window { near.ahead.window < 2 ^ 56 }
     requires known { near.ahead.left ≤ 56 }
-    requires word { near.ahead.window / 2 ^ 52 ≡ 1 }
+    requires word { near.ahead.window / 2 ^ 60 ≡ 1 }
     ensures next { IfSome result (λ next. IsStartIn changes.now width line.new (start_of next)) }
     ensures taken { IfSome result (λ next. TakesNear (painted Colour.White 0 changes.now width) width line.old near line.new next) }
     ensures none { line.new ≡ line.old }
 {
-    let Some(rest) = past_pass(near.ahead) else {
+    if near.ahead.left < PASS_BITS {
         return None;
-    };
+    }
     let b1 = next_change(changes, width, near);
     let b2 = place_at(changes, b1.index + 1, width);
     if b2 == width {
@@ -222,7 +224,7 @@ fn near_pass(line: &mut RowBuilder, changes: &[u16], width: u16, near: Near) -> 
     Some(Near {
         from: b2 + 1,
         index: b1.index,
-        ahead: rest,
+        ahead: past(near.ahead, PASS_BITS),
     })
 }
 
@@ -234,16 +236,16 @@ fn near_horizontal(line: &mut RowBuilder, changes: &[u16], width: u16, near: Nea
     requires within { near.from ≤ width }
     requires rising { AreRising 0 changes.now width }
     requires few { width ≤ 2432 }
-    requires window { near.ahead.window < 2 ^ 56 }
     requires known { near.ahead.left ≤ 56 }
-    requires word { near.ahead.window / 2 ^ 53 ≡ 1 }
+    requires word { near.ahead.window / 2 ^ 61 ≡ 1 }
     ensures next { IfSome result (λ next. IsStartIn changes.now width line.new (start_of next)) }
     ensures taken { IfSome result (λ next. TakesNear (painted Colour.White 0 changes.now width) width line.old near line.new next) }
     ensures none { IsNone result → line.new ≡ line.old }
 {
-    let Some(behind) = past_horizontal(near.ahead) else {
+    if near.ahead.left < HORIZONTAL_BITS {
         return None;
-    };
+    }
+    let behind = past(near.ahead, HORIZONTAL_BITS);
     let Some(runs) = short_runs(behind, colour_to_b1(near.index)) else {
         return None;
     };

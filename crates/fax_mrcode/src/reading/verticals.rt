@@ -16,17 +16,16 @@ pub(super) struct VerticalWord {
     pub(super) back: u8,
 }
 
-/// The word of vertical mode that begins 56 bits, which are those of a number, the most significant
+/// The word of vertical mode that begins 64 bits, which are those of a number, the most significant
 /// first.
 #[inline]
 pub(super) fn vertical_word(window: u64) -> VerticalWord
-    requires { window < 2 ^ 56 }
     ensures few { result.bits ≤ 7 }
     ensures size { 0 < result.bits → length (mode_word (Mode.Vertical result.offset)) ≡ result.bits }
     ensures back { IsBack result.offset result.back }
-    ensures begins { 0 < result.bits → (rest : List Bool) × (word_bits 56 window ≡ mode_word (Mode.Vertical result.offset) ++ rest) }
+    ensures begins { 0 < result.bits → (rest : List Bool) × (word_bits 64 window ≡ mode_word (Mode.Vertical result.offset) ++ rest) }
 {
-    word_at((window >> 49) as usize)
+    word_at((window >> 57) as usize)
 }
 
 /// The entry of these 7 bits.

@@ -39,7 +39,7 @@ returns-then-steps-gt0-clause-next c =
 pub returns-then-steps-gt0-clause-taken : goal.returns-then-steps-gt0-clause-taken
 returns-then-steps-gt0-clause-taken c =
     let steps = c.min-steps.result in
-    let begun = fewer_ones c.ones.result steps (word_bits 56 c.args.near.ahead.window) (omega (arith, c.min-steps.ensures)) c.ones.ensures.ones in
+    let begun = fewer_ones c.ones.result steps (word_bits 64 c.args.near.ahead.window) (omega (arith, c.min-steps.ensures)) c.ones.ensures.ones in
     record {
       text = replicate steps true;
       first = rw c.past.ensures.left (FirstAre-word c.args.near.ahead.window c.args.near.ahead.left steps (replicate steps true) begun.0 (length-replicate steps true) (omega (arith, c.min-steps.ensures, c.ones.ensures.few)) begun.1);
@@ -80,7 +80,7 @@ returns-clause-taken c =
     let at = (goal.at.returns-clause-taken c).After-next_change-b1 in
     record {
       text = mode_word (Vertical Zero) ++ [];
-      first = rw c.past-2.ensures.left (FirstAre-word c.args.near.ahead.window c.args.near.ahead.left 1 (mode_word (Vertical Zero)) (word_bits 55 c.args.near.ahead.window) refl c.requires.some (zero_begins c.args.near.ahead.window c.requires.zero));
+      first = rw c.past-2.ensures.left (FirstAre-word c.args.near.ahead.window c.args.near.ahead.left 1 (mode_word (Vertical Zero)) (word_bits 63 c.args.near.ahead.window) refl c.requires.some (zero_begins c.args.near.ahead.window c.requires.zero));
       behind = c.past-2.ensures.behind;
       takes = rw (turned at) (TakesSteps-one (painted White 0 c.args.changes.now c.args.width) c.args.width (Vertical Zero) [] (left_of_a0 c.args.line.now (start_of c.args.near)) (start_of c.args.near) _ _ c.requires.within
           (vertical_taken c.args.changes.now c.args.width c.requires.rising c.args.line.now (start_of c.args.near) c.requires.start c.requires.within c.next_change-b1.result.index c.next_change-b1.ensures.b1 Zero

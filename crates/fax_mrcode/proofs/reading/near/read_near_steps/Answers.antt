@@ -12,7 +12,6 @@ pub loop-near-init : goal.loop-near-init
 loop-near-init c =
     rw (c.requires.start.is_start.cursor c.requires.within).parity (record {
       few = omega arith;
-      below = c.window.ensures.word;
       shows = Shows-first c.window.result c.known-known.result c.args.reader.now.left c.known-known.ensures c.window.ensures.bits;
       is_start = c.requires.start;
       right = omega arith;
@@ -33,7 +32,6 @@ loop-near-preserved c =
     let further : c.known-known.result - next.ahead.left ≡ passed + n = omega (arith, held.few, taken.behind.less) in
     record {
       few = omega (arith, held.few, taken.behind.less);
-      below = taken.behind.below;
       shows = rw (further, ← drop-drop n passed c.args.reader.now.left) (taken.behind.shows bits held.shows);
       is_start = c.in-Some.ensures.next;
       right = omega (arith, held.right, taken.takes.right);

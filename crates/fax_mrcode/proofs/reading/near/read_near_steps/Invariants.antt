@@ -1,4 +1,4 @@
-use Rattle.std.proofs.Common.{◌+◌, ◌-◌, ◌<◌, ◌≤◌, ◌^◌, drop}
+use Rattle.std.proofs.Common.{◌+◌, ◌-◌, ◌≤◌, drop}
 use Rattle.fax_bits.specs.Reading.{Place}
 use Rattle.fax_runcodes.specs.declared.Colour.TheVariants.{White}
 use Rattle.fax_runcodes.specs.Painted.{painted}
@@ -10,7 +10,6 @@ use Rattle.fax_mrcode.proofs.reading.near.read_near_steps.Given as goal
 abbrev pub invariant-loop-near : goal.invariant-loop-near
 invariant-loop-near l = record {
   few : l.near.ahead.left ≤ l.known;
-  below : l.near.ahead.window < 2 ^ 56;
   shows : Shows l.near.ahead.window l.near.ahead.left (drop (l.known - l.near.ahead.left) l.reader.left);
   is_start : IsStartIn l.changes l.width l.line (start_of l.near);
   right : l.fn.start.from ≤ l.near.from;
