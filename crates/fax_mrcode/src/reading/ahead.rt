@@ -3,9 +3,10 @@ ghost use Rattle.std.specs.Prelude.{List, Bool, true, replicate, ◌<◌, ◌≤
 ghost use Rattle.fax_bits.specs.Bits.{word_bits};
 ghost use Rattle.fax_runcodes.specs.Rows.{other};
 ghost use Rattle.fax_runcodes.specs.Spelling.{SpellsRun};
+ghost use Rattle.fax_runcodes.specs.declared.Colour.TheVariants.{White, Black};
 ghost use Rattle.fax_mrcode.specs.Windows.{ShowsBehind, FirstAre};
 
-use fax_runcodes::{Colour, word_at};
+use fax_runcodes::{Colour, pair_at, word_at};
 
 /// A window, the most significant bit first, and how many of its bits are left to read.
 #[derive(Clone, Copy)]
@@ -21,7 +22,7 @@ struct ShortRun {
     ahead: Ahead,
 }
 
-/// Two runs of fewer than 64 elements each, and the bits behind their words.
+/// Two runs of few elements, and the bits behind their words.
 #[derive(Clone, Copy)]
 pub(super) struct ShortRuns {
     pub(super) first: u16,
@@ -33,7 +34,46 @@ pub(super) struct ShortRuns {
 #[inline]
 pub(super) fn short_runs(ahead: Ahead, colour: Colour) -> Option<ShortRuns>
     requires known { ahead.left ≤ 56 }
-    ensures few { IfSome result (λ runs. (runs.first < 64) × (runs.second < 64)) }
+    ensures few { IfSome result (λ runs. (runs.first < 256) × (runs.second < 256)) }
+    ensures behind { IfSome result (λ runs. ShowsBehind ahead.window ahead.left runs.ahead.window runs.ahead.left) }
+    ensures spelt { IfSome result (λ runs. (s t : List Bool) × SpellsRun colour s runs.first × SpellsRun (other colour) t runs.second × FirstAre ahead.window ahead.left runs.ahead.left (s ++ t)) }
+{
+    match colour {
+        Colour::White => match white_and_black(ahead) {
+            Some(runs) => Some(runs),
+            None => one_by_one(ahead, colour),
+        },
+        Colour::Black => one_by_one(ahead, colour),
+    }
+}
+
+/// A white run and a black one whose words the bits begin with, where one look-up finds both.
+#[inline]
+fn white_and_black(ahead: Ahead) -> Option<ShortRuns>
+    requires known { ahead.left ≤ 56 }
+    ensures few { IfSome result (λ runs. (runs.first < 256) × (runs.second < 256)) }
+    ensures behind { IfSome result (λ runs. ShowsBehind ahead.window ahead.left runs.ahead.window runs.ahead.left) }
+    ensures spelt { IfSome result (λ runs. (s t : List Bool) × SpellsRun White s runs.first × SpellsRun Black t runs.second × FirstAre ahead.window ahead.left runs.ahead.left (s ++ t)) }
+{
+    let Some(pair) = pair_at(ahead.window >> 8) else {
+        return None;
+    };
+    let bits = u32::from(pair.bits);
+    if bits > ahead.left {
+        return None;
+    }
+    Some(ShortRuns {
+        first: u16::from(pair.white),
+        second: u16::from(pair.black),
+        ahead: past(ahead, bits),
+    })
+}
+
+/// The runs of a colour and of the other one, each by a look-up of its own.
+#[inline]
+fn one_by_one(ahead: Ahead, colour: Colour) -> Option<ShortRuns>
+    requires known { ahead.left ≤ 56 }
+    ensures few { IfSome result (λ runs. (runs.first < 256) × (runs.second < 256)) }
     ensures behind { IfSome result (λ runs. ShowsBehind ahead.window ahead.left runs.ahead.window runs.ahead.left) }
     ensures spelt { IfSome result (λ runs. (s t : List Bool) × SpellsRun colour s runs.first × SpellsRun (other colour) t runs.second × FirstAre ahead.window ahead.left runs.ahead.left (s ++ t)) }
 {

@@ -1,6 +1,6 @@
 use Rattle.std.proofs.Common.{◌++◌}
 use Rattle.fax_mrcode.proofs.VerticalLemmas.{FirstAre-then, ShowsBehind-then}
-use Rattle.fax_mrcode.proofs.reading.ahead.short_runs.Goals as goal
+use Rattle.fax_mrcode.proofs.reading.ahead.one_by_one.Goals as goal
 
 pub returns-clause-behind : goal.returns-clause-behind
 returns-clause-behind c =
