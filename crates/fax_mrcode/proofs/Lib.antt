@@ -4,6 +4,7 @@ pub mod Examples
 pub mod FaultLaws
 pub mod LineLaws
 pub mod ModeTable
+pub mod NearLemmas
 pub mod PlaceLemmas
 pub mod StepLemmas
 pub mod VerticalLemmas

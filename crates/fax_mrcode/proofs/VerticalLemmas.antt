@@ -1,5 +1,5 @@
 -- Steps in vertical mode, read from one window: the table of their words, and what a window shows.
-use Rattle.std.proofs.Common.{◌≡◌, ℕ, zero, suc, ◌+◌, ◌-◌, ◌/◌, ◌^◌, ◌<◌, ◌≤◌, ◌==◌, Bool, true, false, ◌&&◌, ◌||◌, List, [], ◌∷◌, ◌++◌, length, slice_index_or, take, drop, take_at, subst, length-drop, replicate, min, refl, sym, ◌∙◌, ap, ap₂, arith, append_assoc, add-zero, add-suc, suc-add, inl, inr, ◌⊎◌}
+use Rattle.std.proofs.Common.{◌≡◌, ℕ, zero, suc, ◌+◌, ◌-◌, ◌*◌, ◌/◌, ◌%◌, ◌^◌, ◌<◌, ◌≤◌, ◌==◌, Bool, true, false, ◌&&◌, ◌||◌, List, [], ◌∷◌, ◌++◌, length, slice_index_or, take, drop, take_at, subst, length-drop, replicate, min, refl, sym, ◌∙◌, ap, ap₂, arith, append_assoc, add-zero, add-suc, suc-add, inl, inr, ◌⊎◌}
 use Rattle.std.proofs.lemmas.Bool.{and_parts, eqb-true}
 use Rattle.std.proofs.lemmas.List.{drop-drop, take-append-drop, drop_at, drop-append-le, take-append-le, length-take-le, take-take, drop-take}
 use Rattle.fax_bits.specs.Bits.{word_bits, bit}
@@ -8,26 +8,46 @@ use Rattle.fax_runcodes.proofs.Fronts.{begins, begins_rest}
 use Rattle.fax_mrcode.specs.declared.mode.Mode.TheVariants.{Pass, Horizontal, Vertical}
 use Rattle.fax_mrcode.specs.declared.reading.verticals.VerticalWord.{VerticalWord}
 use Rattle.fax_mrcode.specs.declared.reading.verticals.TheConstants.{VERTICAL_WORDS, NOT_VERTICAL}
-use Rattle.fax_mrcode.specs.declared.mode.Offset.TheVariants.{Zero}
+use Rattle.fax_mrcode.specs.declared.mode.Offset.{Offset}
+use Rattle.fax_mrcode.specs.declared.mode.Offset.TheVariants.{Left3, Left2, Left1, Zero, Right1, Right2, Right3}
 use Rattle.fax_mrcode.specs.Modes.{mode_word}
 use Rattle.fax_runcodes.specs.Rows.{Elements}
 use Rattle.fax_mrcode.specs.declared.reading.Start.{Start}
 use Rattle.std.proofs.Math.Seq.{take-add}
 use Rattle.fax_mrcode.specs.declared.mode.Mode.{Mode}
 use Rattle.fax_mrcode.specs.Windows.{Shows, ShowsBehind, FirstAre}
-use Rattle.fax_mrcode.specs.Starts.{TakesStep}
+use Rattle.fax_mrcode.specs.Starts.{IsBack, TakesStep}
 use Rattle.fax_mrcode.proofs.ModeTable.{mode_size}
 use Rattle.fax_bits.proofs.WindowLemmas.{padded-known}
-use Rattle.fax_bits.proofs.BitsLemmas.{word_bits-add}
+use Rattle.fax_bits.proofs.BitsLemmas.{length-word_bits, word_bits-add, word_bits-mod, word_bits-shl}
 
 -- the place n bits further on
 abbrev pub behind_place : Place → ℕ → Place
 behind_place p n = record { passed = p.passed + n; left = drop n p.left }
 
 -- ---- the table
+-- how far back the next b1 is looked for
+abbrev pub back_of : Offset → ℕ
+back_of Left3 = 2
+back_of Left2 = 2
+back_of Left1 = 2
+back_of Zero = 0
+back_of Right1 = 0
+back_of Right2 = 0
+back_of Right3 = 0
+
+pub IsBack-of : (offset : Offset) → IsBack offset (back_of offset)
+IsBack-of Left3 = inl refl
+IsBack-of Left2 = inl refl
+IsBack-of Left1 = inl refl
+IsBack-of Zero = inr (refl, λ a b at. omega arith)
+IsBack-of Right1 = inr (refl, λ a b at. omega arith)
+IsBack-of Right2 = inr (refl, λ a b at. omega arith)
+IsBack-of Right3 = inr (refl, λ a b at. omega arith)
+
 -- an entry with bits has the word of its offset, which begins these bits
 abbrev pub is_right : List Bool → VerticalWord → Bool
-is_right text entry = (entry.bits == 0) || ((length (mode_word (Vertical entry.offset)) == entry.bits) && begins (mode_word (Vertical entry.offset)) text)
+is_right text entry = (entry.back == back_of entry.offset) && ((entry.bits == 0) || ((length (mode_word (Vertical entry.offset)) == entry.bits) && begins (mode_word (Vertical entry.offset)) text))
 
 -- each entry from this index on says what begins the 7 bits of its index
 abbrev pub are_right : ℕ → List VerticalWord → Bool
@@ -55,8 +75,16 @@ or_else false b h = inr h
 abbrev pub SaysWord : List Bool → VerticalWord → Type 0
 SaysWord text entry = (length (mode_word (Vertical entry.offset)) ≡ entry.bits) × ((rest : List Bool) × (text ≡ mode_word (Vertical entry.offset) ++ rest))
 
+says_back : (text : List Bool) (entry : VerticalWord) → is_right text entry ≡ true → IsBack entry.offset entry.back
+says_back text entry h =
+    let parts = and_parts (entry.back == back_of entry.offset) ((entry.bits == 0) || ((length (mode_word (Vertical entry.offset)) == entry.bits) && begins (mode_word (Vertical entry.offset)) text)) h in
+    subst (λ (n : ℕ). IsBack entry.offset n) (sym (eqb-true entry.back (back_of entry.offset) parts.0)) (IsBack-of entry.offset)
+
+says_word : (text : List Bool) (entry : VerticalWord) → is_right text entry ≡ true → ((entry.bits == 0) || ((length (mode_word (Vertical entry.offset)) == entry.bits) && begins (mode_word (Vertical entry.offset)) text)) ≡ true
+says_word text entry h = (and_parts (entry.back == back_of entry.offset) ((entry.bits == 0) || ((length (mode_word (Vertical entry.offset)) == entry.bits) && begins (mode_word (Vertical entry.offset)) text)) h).1
+
 says : (text : List Bool) (entry : VerticalWord) → is_right text entry ≡ true → (entry.bits ≡ 0) ⊎ SaysWord text entry
-says text entry h = elim (or_else (entry.bits == 0) ((length (mode_word (Vertical entry.offset)) == entry.bits) && begins (mode_word (Vertical entry.offset)) text) h) [
+says text entry h = elim (or_else (entry.bits == 0) ((length (mode_word (Vertical entry.offset)) == entry.bits) && begins (mode_word (Vertical entry.offset)) text) (says_word text entry h)) [
   | inl none ↦ inl (eqb-true entry.bits 0 none)
   | inr word ↦
       let parts = and_parts (length (mode_word (Vertical entry.offset)) == entry.bits) (begins (mode_word (Vertical entry.offset)) text) word in
@@ -72,31 +100,55 @@ said text more entry (inl none) some = absurd (omega arith)
 said text more entry (inr word) some = (word.0, (word.1.0 ++ more, ap (λ b. b ++ more) word.1.1 ∙ append_assoc (mode_word (Vertical entry.offset)) word.1.0 more))
 
 -- the entry of a window's first 7 bits
-module _ (window : ℕ) (below : window < 2 ^ 56) (entry : VerticalWord) (is : entry ≡ slice_index_or VERTICAL_WORDS (window / 2 ^ 49) NOT_VERTICAL) where
-  of_seven : (entry.bits ≡ 0) ⊎ SaysWord (word_bits 7 (window / 2 ^ 49)) entry
-  of_seven =
-      let at : is_right (word_bits 7 (0 + window / 2 ^ 49)) (slice_index_or VERTICAL_WORDS (window / 2 ^ 49) NOT_VERTICAL) ≡ true = are_right_at 0 VERTICAL_WORDS vertical_words_are_right (window / 2 ^ 49) (omega arith) in
-      let place : 0 + window / 2 ^ 49 ≡ window / 2 ^ 49 = omega arith in
-      says (word_bits 7 (window / 2 ^ 49)) entry (rw is (rw place at at))
+module _ (window : ℕ) (below : window < 2 ^ 64) (entry : VerticalWord) (is : entry ≡ slice_index_or VERTICAL_WORDS (window / 2 ^ 57) NOT_VERTICAL) where
+  entry_right : is_right (word_bits 7 (window / 2 ^ 57)) entry ≡ true
+  entry_right =
+      let at : is_right (word_bits 7 (0 + window / 2 ^ 57)) (slice_index_or VERTICAL_WORDS (window / 2 ^ 57) NOT_VERTICAL) ≡ true = are_right_at 0 VERTICAL_WORDS vertical_words_are_right (window / 2 ^ 57) (omega arith) in
+      let place : 0 + window / 2 ^ 57 ≡ window / 2 ^ 57 = omega arith in
+      rw is (rw place at at)
+
+  of_seven : (entry.bits ≡ 0) ⊎ SaysWord (word_bits 7 (window / 2 ^ 57)) entry
+  of_seven = says (word_bits 7 (window / 2 ^ 57)) entry entry_right
+
+  pub entry_back : IsBack entry.offset entry.back
+  entry_back = says_back (word_bits 7 (window / 2 ^ 57)) entry entry_right
 
   pub entry_few : entry.bits ≤ 7
-  entry_few = few_of (word_bits 7 (window / 2 ^ 49)) entry of_seven
+  entry_few = few_of (word_bits 7 (window / 2 ^ 57)) entry of_seven
 
-  pub entry_says : 0 < entry.bits → SaysWord (word_bits 56 window) entry
+  pub entry_says : 0 < entry.bits → SaysWord (word_bits 64 window) entry
   entry_says some =
-      let whole : word_bits 56 window ≡ word_bits 7 (window / 2 ^ 49) ++ word_bits 49 window = word_bits-add 7 49 window in
-      rw whole (said (word_bits 7 (window / 2 ^ 49)) (word_bits 49 window) entry of_seven some)
+      let whole : word_bits 64 window ≡ word_bits 7 (window / 2 ^ 57) ++ word_bits 57 window = word_bits-add 7 57 window in
+      rw whole (said (word_bits 7 (window / 2 ^ 57)) (word_bits 57 window) entry of_seven some)
 
 -- ---- what a window shows
 
 -- at first it shows what is known
-pub Shows-first : (window known : ℕ) (bits : List Bool) → known ≡ min 56 (length bits) → word_bits 56 window ≡ padded 56 bits → Shows window known (drop (known - known) bits)
+pub Shows-first : (window known : ℕ) (bits : List Bool) → known ≡ min 56 (length bits) → word_bits 56 window ≡ padded 56 bits → Shows (window * 2 ^ 8 % 2 ^ 64) known (drop (known - known) bits)
 Shows-first window known bits k e =
     let none : known - known ≡ 0 = omega arith in
-    rw none (record { rest = replicate (56 - known) false; front = e ∙ padded-known 56 known bits k; there = omega arith })
+    rw none (record {
+      rest = replicate (56 - known) false ++ replicate 8 false;
+      front = word_bits-mod 64 64 (window * 2 ^ 8) (omega arith) ∙ word_bits-shl 56 8 window ∙ ap (λ b. b ++ replicate 8 false) (e ∙ padded-known 56 known bits k) ∙ append_assoc (take known bits) (replicate (56 - known) false) (replicate 8 false);
+      there = omega arith;
+    })
+
+-- the bits behind the first n, moved to the top
+pub moved_up : (window n : ℕ) → n ≤ 64 → word_bits 64 (window * 2 ^ n % 2 ^ 64) ≡ drop n (word_bits 64 window) ++ replicate n false
+moved_up window n few =
+    let parts : n + (64 - n) ≡ 64 = omega arith in
+    let parts2 : 64 - n + n ≡ 64 = omega arith in
+    let split : word_bits 64 window ≡ word_bits n (window / 2 ^ (64 - n)) ++ word_bits (64 - n) window = rw parts at (word_bits-add n (64 - n) window) in
+    let behind : drop n (word_bits 64 window) ≡ word_bits (64 - n) window = ap (drop n) split ∙ drop_at (word_bits n (window / 2 ^ (64 - n))) (word_bits (64 - n) window) n (length-word_bits n (window / 2 ^ (64 - n))) in
+    let up : word_bits 64 (window * 2 ^ n) ≡ word_bits (64 - n) window ++ replicate n false = rw parts2 at (word_bits-shl (64 - n) n window) in
+    word_bits-mod 64 64 (window * 2 ^ n) (omega arith) ∙ up ∙ ap (λ b. b ++ replicate n false) (sym behind)
+
+-- the first 56 bits of 64
+pub first_56 : (window : ℕ) (word rest : List Bool) → word_bits 56 (window / 2 ^ 8) ≡ word ++ rest → word_bits 64 window ≡ word ++ (rest ++ word_bits 8 window)
+first_56 window word rest e = word_bits-add 56 8 window ∙ ap (λ b. b ++ word_bits 8 window) e ∙ append_assoc word rest (word_bits 8 window)
 
 -- the word that begins the window, where so many bits are known, begins the bits
-module _ (window known n : ℕ) (bits word more : List Bool) (shows : Shows window known bits) (size : length word ≡ n) (few : n ≤ known) (begun : word_bits 56 window ≡ word ++ more) where
+module _ (window known n : ℕ) (bits word more : List Bool) (shows : Shows window known bits) (size : length word ≡ n) (few : n ≤ known) (begun : word_bits 64 window ≡ word ++ more) where
   pub shown_word : take n bits ≡ word
   shown_word =
       let long : length (take known bits) ≡ known = length-take-le known bits shows.there in
@@ -105,11 +157,11 @@ module _ (window known n : ℕ) (bits word more : List Bool) (shows : Shows wind
       ∙ ap (take n) (sym shows.front ∙ begun)
       ∙ take_at word more n size
 
-pub Shows-next : (window known n : ℕ) (bits : List Bool) → Shows window known bits → n ≤ known → (next : ℕ) → word_bits 56 next ≡ drop n (word_bits 56 window) ++ replicate n false → Shows next (known - n) (drop n bits)
+pub Shows-next : (window known n : ℕ) (bits : List Bool) → Shows window known bits → n ≤ known → (next : ℕ) → word_bits 64 next ≡ drop n (word_bits 64 window) ++ replicate n false → Shows next (known - n) (drop n bits)
 Shows-next window known n bits shows few next e =
     let long : length (take known bits) ≡ known = length-take-le known bits shows.there in
     let parts : known ≡ n + (known - n) = omega arith in
-    let front : drop n (word_bits 56 window) ≡ take (known - n) (drop n bits) ++ shows.rest =
+    let front : drop n (word_bits 64 window) ≡ take (known - n) (drop n bits) ++ shows.rest =
     ap (drop n) shows.front ∙ drop-append-le n (take known bits) shows.rest (omega arith) ∙ ap (λ b. b ++ shows.rest) (ap (λ k. drop n (take k bits)) parts ∙ drop-take n (known - n) bits) in
     record {
       rest = shows.rest ++ replicate n false;
@@ -117,13 +169,13 @@ Shows-next window known n bits shows few next e =
       there = omega (arith, shows.there, length-drop n bits);
     }
 
-pub ShowsBehind-next : (window known n next : ℕ) → n ≤ known → next < 2 ^ 56 → word_bits 56 next ≡ drop n (word_bits 56 window) ++ replicate n false → ShowsBehind window known next (known - n)
-ShowsBehind-next window known n next few below e =
+pub ShowsBehind-next : (window known n next : ℕ) → n ≤ known → word_bits 64 next ≡ drop n (word_bits 64 window) ++ replicate n false → ShowsBehind window known next (known - n)
+ShowsBehind-next window known n next few e =
     let back : known - (known - n) ≡ n = omega arith in
-    record { less = omega arith; below = below; shows = λ bits s. rw back (Shows-next window known n bits s few next e) }
+    record { less = omega arith; shows = λ bits s. rw back (Shows-next window known n bits s few next e) }
 
 -- the word that begins the window
-pub FirstAre-word : (window known n : ℕ) (word more : List Bool) → length word ≡ n → n ≤ known → word_bits 56 window ≡ word ++ more → FirstAre window known (known - n) word
+pub FirstAre-word : (window known n : ℕ) (word more : List Bool) → length word ≡ n → n ≤ known → word_bits 64 window ≡ word ++ more → FirstAre window known (known - n) word
 FirstAre-word window known n word more size few begun = λ bits s. (
     let back : known - (known - n) ≡ n = omega arith in
     rw back (shown_word window known n bits word more s size few begun))
@@ -138,7 +190,6 @@ ShowsBehind-then w k w1 k1 w2 k2 p q =
     let sum : (k - k1) + (k1 - k2) ≡ k - k2 = omega (arith, p.less, q.less) in
     record {
       less = omega (arith, p.less, q.less);
-      below = q.below;
       shows = λ bits h. subst (λ (b : List Bool). Shows w2 k2 b) (drop-drop (k1 - k2) (k - k1) bits ∙ ap (λ (n : ℕ). drop n bits) sum) (q.shows (drop (k - k1) bits) (p.shows bits h));
     }
 
@@ -147,24 +198,24 @@ unfolding word_bits bit
 horizontal_word = refl
 
 -- the word of horizontal mode begins a window
-pub horizontal_begins : (window : ℕ) → window / 2 ^ 53 ≡ 1 → word_bits 56 window ≡ mode_word Horizontal ++ word_bits 53 window
-horizontal_begins window e = word_bits-add 3 53 window ∙ ap (λ (n : ℕ). word_bits 3 n ++ word_bits 53 window) e ∙ ap (λ (b : List Bool). b ++ word_bits 53 window) horizontal_word
+pub horizontal_begins : (window : ℕ) → window / 2 ^ 61 ≡ 1 → word_bits 64 window ≡ mode_word Horizontal ++ word_bits 61 window
+horizontal_begins window e = word_bits-add 3 61 window ∙ ap (λ (n : ℕ). word_bits 3 n ++ word_bits 61 window) e ∙ ap (λ (b : List Bool). b ++ word_bits 61 window) horizontal_word
 
 pass_word : word_bits 4 1 ≡ mode_word Pass
 unfolding word_bits bit
 pass_word = refl
 
 -- the word of pass mode begins a window
-pub pass_begins : (window : ℕ) → window / 2 ^ 52 ≡ 1 → word_bits 56 window ≡ mode_word Pass ++ word_bits 52 window
-pass_begins window e = word_bits-add 4 52 window ∙ ap (λ (n : ℕ). word_bits 4 n ++ word_bits 52 window) e ∙ ap (λ (b : List Bool). b ++ word_bits 52 window) pass_word
+pub pass_begins : (window : ℕ) → window / 2 ^ 60 ≡ 1 → word_bits 64 window ≡ mode_word Pass ++ word_bits 60 window
+pass_begins window e = word_bits-add 4 60 window ∙ ap (λ (n : ℕ). word_bits 4 n ++ word_bits 60 window) e ∙ ap (λ (b : List Bool). b ++ word_bits 60 window) pass_word
 
 zero_word : word_bits 1 1 ≡ mode_word (Vertical Zero)
 unfolding word_bits bit
 zero_word = refl
 
 -- the word of vertical mode with a1 at b1 begins a window
-pub zero_begins : (window : ℕ) → window / 2 ^ 55 ≡ 1 → word_bits 56 window ≡ mode_word (Vertical Zero) ++ word_bits 55 window
-zero_begins window e = word_bits-add 1 55 window ∙ ap (λ (n : ℕ). word_bits 1 n ++ word_bits 55 window) e ∙ ap (λ (b : List Bool). b ++ word_bits 55 window) zero_word
+pub zero_begins : (window : ℕ) → window / 2 ^ 63 ≡ 1 → word_bits 64 window ≡ mode_word (Vertical Zero) ++ word_bits 63 window
+zero_begins window e = word_bits-add 1 63 window ∙ ap (λ (n : ℕ). word_bits 1 n ++ word_bits 63 window) e ∙ ap (λ (b : List Bool). b ++ word_bits 63 window) zero_word
 
 -- ---- places
 pub behind_none : (p : Place) (k : ℕ) → behind_place p (k - k) ≡ p

@@ -42,28 +42,16 @@ ones_begin (suc n) m x c e lt =
           ∙ ap₂ (λ (a b : List Bool). a ++ b) one_bit later.1,
     )
 
--- the ones of a window, counted as the zeros of what is left to 56 ones
-module _ (window c : ℕ) (below : window < 2 ^ 56) (left_is : window + c + 1 ≡ 2 ^ 56) where
-  top : (m : ℕ) × (count_leading_zeros 64 c + m ≡ 64) × (c < 2 ^ m) × (m ≤ 56)
-  top =
-      let t = leading_length 64 c (omega arith) in
-      let few : t.0 ≤ 56 = elim (cases_lt t.0 57) [
-        | inl small ↦ omega arith
-        | inr large ↦ let more : 2 ^ 57 ≤ 2 ^ t.0 = pow_mono large in absurd (omega (arith, t.3))
-      ] in
-      (t.0, t.1, t.2, few)
-
-  pub high_zeros : 8 ≤ count_leading_zeros 64 c
-  high_zeros = omega (arith, top.1, top.3)
-
-  pub ones_shown : (n : ℕ) → n ≤ count_leading_zeros 64 c - 8 → (more : List Bool) × (word_bits 56 window ≡ replicate n true ++ more)
-  ones_shown n few =
-      let m : ℕ = 56 - n in
-      let size : n + m ≡ 56 = omega (arith, top.1, top.3) in
-      let wide : 2 ^ top.0 ≤ 2 ^ m = pow_mono (omega (arith, top.1, top.3)) in
-      let whole : window + c + 1 ≡ 2 ^ (n + m) = left_is ∙ ap (λ (k : ℕ). 2 ^ k) (sym size) in
-      let begun : (more : List Bool) × (word_bits (n + m) window ≡ replicate n true ++ more) = ones_begin n m window c whole (omega (arith, top.2)) in
-      (begun.0, ap (λ (k : ℕ). word_bits k window) (sym size) ∙ begun.1)
+-- the ones of a window, counted as the zeros of what is left to 64 ones
+pub ones_shown : (window c : ℕ) → window + c + 1 ≡ 2 ^ 64 → (n : ℕ) → n ≤ count_leading_zeros 64 c → (more : List Bool) × (word_bits 64 window ≡ replicate n true ++ more)
+ones_shown window c left_is n few =
+    let top = leading_length 64 c (omega arith) in
+    let m : ℕ = 64 - n in
+    let size : n + m ≡ 64 = omega (arith, top.1) in
+    let wide : 2 ^ top.0 ≤ 2 ^ m = pow_mono (omega (arith, top.1)) in
+    let whole : window + c + 1 ≡ 2 ^ (n + m) = left_is ∙ ap (λ (k : ℕ). 2 ^ k) (sym size) in
+    let begun : (more : List Bool) × (word_bits (n + m) window ≡ replicate n true ++ more) = ones_begin n m window c whole (omega (arith, top.2)) in
+    (begun.0, ap (λ (k : ℕ). word_bits k window) (sym size) ∙ begun.1)
 
 -- fewer of them
 pub fewer_ones : (n k : ℕ) (bits : List Bool) → k ≤ n → (more : List Bool) × (bits ≡ replicate n true ++ more) → (more : List Bool) × (bits ≡ replicate k true ++ more)

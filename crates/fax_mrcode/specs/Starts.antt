@@ -1,14 +1,18 @@
 -- What is known of a line that is being read, between two of its steps. Not part of any public clause.
-use Rattle.std.specs.Prelude.{◌≡◌, ℕ, ◌+◌, ◌<◌, ◌≤◌, Bool, List, length, slice_index}
+use Rattle.std.specs.Prelude.{◌≡◌, ℕ, ◌+◌, ◌-◌, ◌<◌, ◌≤◌, ◌⊎◌, Bool, List, length, take, drop, replicate, slice_index}
 use Rattle.fax_bits.specs.Reading.{Place, Passes}
 use Rattle.fax_runcodes.specs.declared.Colour.{Colour}
 use Rattle.fax_runcodes.specs.declared.Colour.TheVariants.{White}
 use Rattle.fax_runcodes.specs.Rows.{Elements, colour_at, colour_before}
 use Rattle.fax_runcodes.specs.Painted.{colour_after_changes}
 use Rattle.fax_mrcode.specs.declared.mode.Mode.{Mode}
+use Rattle.fax_mrcode.specs.declared.mode.Offset.{Offset}
 use Rattle.fax_mrcode.specs.declared.reading.Start.{Start}
+use Rattle.fax_mrcode.specs.declared.reading.near.Near.{Near}
+use Rattle.fax_mrcode.specs.Modes.{IsAt}
 use Rattle.fax_mrcode.specs.Places.{run_start}
 use Rattle.fax_mrcode.specs.Lines.{Step, Steps}
+use Rattle.fax_mrcode.specs.Windows.{ShowsBehind, FirstAre}
 
 -- A changing place of the reference changes its colour from this one exactly where it has an index
 -- like this one. Those before the index lie no further right than a0 (`from` is a0 + 1).
@@ -21,6 +25,10 @@ pub record IsCursor (changes : List ℕ) (colour : Colour) (from index : ℕ) : 
 pub record IsIndexOfB1 (changes : List ℕ) (colour : Colour) (from index : ℕ) : Type 0 where
   pub cursor : IsCursor changes colour from index
   pub right : index < length changes → from ≤ slice_index changes index
+
+-- how many changing places further back than else the next b1 is looked for: 2 at most where a1 lies left of b1
+abbrev pub IsBack : Offset → ℕ → Type 0
+IsBack offset back = (back ≡ 2) ⊎ ((back ≡ 0) × ((a1 b1 : ℕ) → IsAt offset a1 b1 → b1 ≤ a1))
 
 -- A step may start here: the elements left of a0 are painted, and the colour at a0 = -1 is white.
 pub record IsStart (changes : List ℕ) (width : ℕ) (line : Elements) (start : Start) : Type 0 where
@@ -58,3 +66,31 @@ pub record StepsSoFar (reference : Elements) (width : ℕ) (old new : Place) (li
   pub text : List Bool
   pub passes : Passes old new text
   pub steps : (row : Elements) → Completes width line start.from start.colour row → Steps reference row 0 modes text start.from
+
+-- ---- lines that have their whole width from the start on
+
+-- From a place on a line of this width has one colour.
+pub record Rests (width : ℕ) (line : Elements) (place : ℕ) (colour : Colour) : Type 0 where
+  pub wide : length line ≡ width
+  pub within : place ≤ width
+  pub rest : drop place line ≡ replicate (width - place) colour
+
+-- the elements left of a0
+abbrev pub left_of_a0 : Elements → Start → Elements
+left_of_a0 line start = take (run_start start.from) line
+
+-- A step may start here, in a line of the whole width, which has the colour at a0 from there on.
+pub record IsStartIn (changes : List ℕ) (width : ℕ) (line : Elements) (start : Start) : Type 0 where
+  pub is_start : IsStart changes width (left_of_a0 line start) start
+  pub rests : Rests width line (run_start start.from) start.colour
+
+-- where the step of a window starts: the colour at a0 is that up to the changing place of the index
+abbrev pub start_of : Near → Start
+start_of near = record { from = near.from; colour = colour_after_changes near.index; index = near.index }
+
+-- Steps were taken in a line of the whole width, and their text is in front of the bits that are ahead then.
+pub record TakesNear (reference : Elements) (width : ℕ) (before : Elements) (near : Near) (after : Elements) (next : Near) : Type 0 where
+  pub text : List Bool
+  pub first : FirstAre near.ahead.window near.ahead.left next.ahead.left text
+  pub behind : ShowsBehind near.ahead.window near.ahead.left next.ahead.window next.ahead.left
+  pub takes : TakesSteps reference width text (left_of_a0 before (start_of near)) (start_of near) (left_of_a0 after (start_of next)) (start_of next)

@@ -9,11 +9,11 @@ ghost use Rattle.fax_mhcode.specs.declared.fault.LineFault.{LineFault};
 ghost use Rattle.fax_mrcode.specs.declared.mode.Mode.{Mode};
 ghost use Rattle.fax_mrcode.specs.Modes.{mode_word};
 ghost use Rattle.fax_mrcode.specs.Lines.{SpellsLine};
-ghost use Rattle.fax_mrcode.specs.Windows.{ShowsBehind, FirstAre};
 ghost use Rattle.fax_mrcode.specs.LineFaults.{FailsLine, Stops, StopsIn, StopsAtRun};
-ghost use Rattle.fax_mrcode.specs.Starts.{IsCursor, IsIndexOfB1, IsStart, Completes, TakesStep, TakesSteps, StepsSoFar};
+ghost use Rattle.fax_mrcode.specs.Starts.{IsCursor, IsIndexOfB1, IsStart, IsStartIn, Completes, TakesStep, left_of_a0};
 
 mod ahead;
+mod near;
 #[cfg(test)]
 mod tests;
 mod verticals;
@@ -21,12 +21,11 @@ mod words;
 
 use crate::places::place_at;
 use crate::{Mode, Offset};
-use ahead::{Ahead, ones, past, past_horizontal, past_pass, short_run};
 use fax_bits::BitReader;
 use fax_mhcode::LineFault;
 use fax_runcodes::{Colour, Row, RowBuilder, RowRef, read_run};
+use near::read_near_steps;
 use std::alloc::Global;
-use verticals::vertical_word;
 use words::read_mode;
 
 /// Reads a two-dimensional line against the row before it. An `Err` leaves the reader where it stood.
@@ -98,6 +97,7 @@ struct Start {
 
 /// Reads the steps of a line into a builder that is empty. After an `Err` the reader stands anywhere,
 /// and the builder has any elements.
+#[inline(never)]
 fn read_steps(
     line: &mut RowBuilder,
     reader: &mut BitReader,
@@ -115,278 +115,42 @@ fn read_steps(
         colour: Colour::White,
         index: 0,
     };
+    line.paint(start.colour, width - line.len());
     while start.from <= width {
         let near = read_near_steps(line, reader, changes, width, start);
         start = if near.from > start.from {
             near
         } else {
-            read_step(line, reader, changes, width, near)?
+            read_step_in(line, reader, changes, width, near)?
         };
     }
     Ok(())
 }
 
-/// Reads steps as far as one window shows them, and answers where the next one starts. It is the fast
-/// way: what it leaves is read step by step.
+/// Reads one step in a line that has its whole width, and answers where the next one starts. After an
+/// `Err` the reader stands anywhere, and the builder has any elements.
 #[inline(never)]
-fn read_near_steps(
+fn read_step_in(
     line: &mut RowBuilder,
     reader: &mut BitReader,
     changes: &[u16],
     width: u16,
     start: Start,
-) -> Start
-    requires start { IsStart changes.now width line.old start }
-    requires rising { AreRising 0 changes.now width }
-    requires few { width ≤ 2432 }
-    ensures next { IsStart changes.now width line.new result }
-    ensures right { start.from ≤ result.from }
-    ensures so_far { (old : Place) → StepsSoFar (painted Colour.White 0 changes.now width) width old reader.old line.old start
-        → StepsSoFar (painted Colour.White 0 changes.now width) width old reader.new line.new result }
-{
-    let known = reader.known();
-    let mut left = known;
-    let mut window = reader.window();
-    let (mut from, mut colour, mut index) = (start.from, start.colour, start.index);
-    while from <= width {
-        let ahead = Ahead { window, left };
-        let start = Start {
-            from,
-            colour,
-            index,
-        };
-        let Some(near) = near_step(line, ahead, changes, width, start) else {
-            break;
-        };
-        from = near.start.from;
-        colour = near.start.colour;
-        index = near.start.index;
-        window = near.ahead.window;
-        left = near.ahead.left;
-    }
-    reader.skip(known - left);
-    Start {
-        from,
-        colour,
-        index,
-    }
-}
-
-/// Where the next step starts, and the bits behind this one.
-#[derive(Clone, Copy)]
-struct Near {
-    start: Start,
-    ahead: Ahead,
-}
-
-/// Takes the step that the bits begin with, where they show all of it and its runs are short, and with
-/// a step whose a1 is at b1 those like it behind it. `None` changes nothing.
-#[inline]
-fn near_step(
-    line: &mut RowBuilder,
-    ahead: Ahead,
-    changes: &[u16],
-    width: u16,
-    start: Start,
-) -> Option<Near>
-    requires start { IsStart changes.now width line.old start }
+) -> Result<Start, LineFault>
+    requires start { IsStartIn changes.now width line.old start }
     requires within { start.from ≤ width }
     requires rising { AreRising 0 changes.now width }
     requires few { width ≤ 2432 }
-    requires window { ahead.window < 2 ^ 56 }
-    requires known { ahead.left ≤ 56 }
-    ensures next { IfSome result (λ near. IsStart changes.now width line.new near.start) }
-    ensures behind { IfSome result (λ near. ShowsBehind ahead.window ahead.left near.ahead.window near.ahead.left) }
-    ensures taken { IfSome result (λ near. (text : List Bool) × FirstAre ahead.window ahead.left near.ahead.left text
-        × TakesSteps (painted Colour.White 0 changes.now width) width text line.old start line.new near.start) }
-    ensures none { IsNone result → line.new ≡ line.old }
+    ensures next { IfOk result (λ next. IsStartIn changes.now width line.new next) }
+    ensures ok { IfOk result (λ next. (mode : Mode) × (text : List Bool) × Passes reader.old reader.new (mode_word mode ++ text)
+        × TakesStep (painted Colour.White 0 changes.now width) width mode text (left_of_a0 line.old start) start (left_of_a0 line.new next) next) }
+    ensures fault { IfErr result (λ fault. (row : Elements) → Completes width (left_of_a0 line.old start) start.from start.colour row
+        → Stops (painted Colour.White 0 changes.now width) row start.from reader.old.left fault) }
 {
-    if ahead.window >> 55 == 1 && ahead.left > 0 {
-        return Some(near_zeros(line, ahead, changes, width, start));
-    }
-    let word = vertical_word(ahead.window);
-    let bits = u32::from(word.bits);
-    if bits == 0 {
-        return if ahead.window >> 53 == 0b001 {
-            near_horizontal(line, ahead, changes, width, start)
-        } else {
-            near_pass(line, ahead, changes, width, start)
-        };
-    }
-    if bits > ahead.left {
-        return None;
-    }
-    let at_b1 = Start {
-        index: index_of_b1(changes, start),
-        ..start
-    };
-    let Ok(next) = vertical(line, changes, width, at_b1, word.offset) else {
-        return None;
-    };
-    Some(Near {
-        start: next,
-        ahead: past(ahead, bits),
-    })
-}
-
-/// Takes the steps with a1 at b1 that the bits begin with, whose words are a 1 each: the first, and
-/// those behind it as far as the reference has changing places for them.
-#[inline]
-fn near_zeros(
-    line: &mut RowBuilder,
-    ahead: Ahead,
-    changes: &[u16],
-    width: u16,
-    start: Start,
-) -> Near
-    requires start { IsStart changes.now width line.old start }
-    requires within { start.from ≤ width }
-    requires rising { AreRising 0 changes.now width }
-    requires few { width ≤ 2432 }
-    requires window { ahead.window < 2 ^ 56 }
-    requires known { ahead.left ≤ 56 }
-    requires some { 0 < ahead.left }
-    requires zero { ahead.window / 2 ^ 55 ≡ 1 }
-    ensures next { IsStart changes.now width line.new result.start }
-    ensures behind { ShowsBehind ahead.window ahead.left result.ahead.window result.ahead.left }
-    ensures taken { (text : List Bool) × FirstAre ahead.window ahead.left result.ahead.left text
-        × TakesSteps (painted Colour.White 0 changes.now width) width text line.old start line.new result.start }
-{
-    let at_b1 = Start {
-        index: index_of_b1(changes, start),
-        ..start
-    };
-    if ahead.window >> 54 == 0b11 && start.from > 0 {
-        let steps = (ones(ahead) as usize).min(changes.len().saturating_sub(at_b1.index));
-        if steps > 0 {
-            return Near {
-                start: vertical_zeros(line, changes, width, at_b1, steps),
-                ahead: past(ahead, steps as u32),
-            };
-        }
-    }
-    Near {
-        start: vertical_zero(line, changes, width, at_b1),
-        ahead: past(ahead, 1),
-    }
-}
-
-/// Takes the step in pass mode that the bits begin with, where they show its word. `None` changes
-/// nothing.
-#[inline]
-fn near_pass(
-    line: &mut RowBuilder,
-    ahead: Ahead,
-    changes: &[u16],
-    width: u16,
-    start: Start,
-) -> Option<Near>
-    requires start { IsStart changes.now width line.old start }
-    requires within { start.from ≤ width }
-    requires rising { AreRising 0 changes.now width }
-    requires few { width ≤ 2432 }
-    requires window { ahead.window < 2 ^ 56 }
-    requires known { ahead.left ≤ 56 }
-    ensures next { IfSome result (λ near. IsStart changes.now width line.new near.start) }
-    ensures behind { IfSome result (λ near. ShowsBehind ahead.window ahead.left near.ahead.window near.ahead.left) }
-    ensures taken { IfSome result (λ near. (mode : Mode) × (text : List Bool) × FirstAre ahead.window ahead.left near.ahead.left (mode_word mode ++ text)
-        × TakesStep (painted Colour.White 0 changes.now width) width mode text line.old start line.new near.start) }
-    ensures none { IsNone result → line.new ≡ line.old }
-{
-    let Some(rest) = past_pass(ahead) else {
-        return None;
-    };
-    let at_b1 = Start {
-        index: index_of_b1(changes, start),
-        ..start
-    };
-    let Ok(next) = pass(line, changes, width, at_b1) else {
-        return None;
-    };
-    Some(Near {
-        start: next,
-        ahead: rest,
-    })
-}
-
-/// Takes the step in horizontal mode that the bits begin with, where they show all of it and its runs
-/// are short. `None` changes nothing.
-#[inline]
-fn near_horizontal(
-    line: &mut RowBuilder,
-    ahead: Ahead,
-    changes: &[u16],
-    width: u16,
-    start: Start,
-) -> Option<Near>
-    requires start { IsStart changes.now width line.old start }
-    requires within { start.from ≤ width }
-    requires rising { AreRising 0 changes.now width }
-    requires few { width ≤ 2432 }
-    requires window { ahead.window < 2 ^ 56 }
-    requires known { ahead.left ≤ 56 }
-    ensures next { IfSome result (λ near. IsStart changes.now width line.new near.start) }
-    ensures behind { IfSome result (λ near. ShowsBehind ahead.window ahead.left near.ahead.window near.ahead.left) }
-    ensures taken { IfSome result (λ near. (mode : Mode) × (text : List Bool) × FirstAre ahead.window ahead.left near.ahead.left (mode_word mode ++ text)
-        × TakesStep (painted Colour.White 0 changes.now width) width mode text line.old start line.new near.start) }
-    ensures none { IsNone result → line.new ≡ line.old }
-{
-    let Some(runs) = past_horizontal(ahead) else {
-        return None;
-    };
-    let Some(first) = short_run(runs, start.colour) else {
-        return None;
-    };
-    let Some(second) = short_run(first.ahead, start.colour.other()) else {
-        return None;
-    };
-    let Some(next) = paint_runs(line, changes, width, start, first.run, second.run) else {
-        return None;
-    };
-    Some(Near {
-        start: next,
-        ahead: second.ahead,
-    })
-}
-
-/// Paints the runs from a0 to a1 and from a1 to a2, where a step may have them. `None` changes nothing.
-#[inline]
-fn paint_runs(
-    line: &mut RowBuilder,
-    changes: &[u16],
-    width: u16,
-    start: Start,
-    to_a1: u16,
-    to_a2: u16,
-) -> Option<Start>
-    requires start { IsStart changes.now width line.old start }
-    requires within { start.from ≤ width }
-    requires rising { AreRising 0 changes.now width }
-    requires few { width ≤ 2432 }
-    requires first { to_a1 < 64 }
-    requires second { to_a2 < 64 }
-    ensures next { IfSome result (λ next. IsStart changes.now width line.new next) }
-    ensures taken { IfSome result (λ next. (s t : List Bool) → SpellsRun start.colour s to_a1 → SpellsRun (other start.colour) t to_a2
-        → TakesStep (painted Colour.White 0 changes.now width) width Mode.Horizontal (s ++ t) line.old start line.new next) }
-    ensures none { IsNone result → line.new ≡ line.old }
-{
-    let a1 = line.len() + to_a1;
-    let a2 = a1 + to_a2;
-    if a2 > width {
-        return None;
-    }
-    if to_a1 == 0 && start.from > 0 {
-        return None;
-    }
-    if to_a2 == 0 && a1 < width {
-        return None;
-    }
-    line.paint(start.colour, to_a1);
-    line.paint(start.colour.other(), to_a2);
-    Some(Start {
-        from: a2 + 1,
-        ..start
-    })
+    line.shorten(start.from.saturating_sub(1));
+    let next = read_step(line, reader, changes, width, start)?;
+    line.paint(next.colour, width - line.len());
+    Ok(next)
 }
 
 /// Reads one step, and answers where the next one starts. After an `Err` the reader stands anywhere,
@@ -449,58 +213,6 @@ fn pass(
         from: b2 + 1,
         ..start
     })
-}
-
-/// Vertical mode with a1 at b1: a0 moves to b1.
-#[inline]
-fn vertical_zero(line: &mut RowBuilder, changes: &[u16], width: u16, start: Start) -> Start
-    requires start { IsStart changes.now width line.old start }
-    requires b1 { IsIndexOfB1 changes.now start.colour start.from start.index }
-    requires within { start.from ≤ width }
-    requires rising { AreRising 0 changes.now width }
-    requires few { width ≤ 2432 }
-    ensures next { IsStart changes.now width line.new result }
-    ensures taken { TakesStep (painted Colour.White 0 changes.now width) width (Mode.Vertical Offset.Zero) [] line.old start line.new result }
-{
-    let b1 = place_at(changes, start.index, width);
-    line.paint(start.colour, b1 - line.len());
-    let colour = start.colour.other();
-    Start {
-        from: b1 + 1,
-        colour,
-        index: start.index + 1,
-    }
-}
-
-/// So many steps in vertical mode with a1 at b1, right of the first element: a0 moves on by so many
-/// changing places of the reference.
-#[inline]
-fn vertical_zeros(
-    line: &mut RowBuilder,
-    changes: &[u16],
-    width: u16,
-    start: Start,
-    steps: usize,
-) -> Start
-    requires start { IsStart changes.now width line.old start }
-    requires b1 { IsIndexOfB1 changes.now start.colour start.from start.index }
-    requires within { start.from ≤ width }
-    requires rising { AreRising 0 changes.now width }
-    requires few { width ≤ 2432 }
-    requires right { 0 < start.from }
-    requires some { 0 < steps }
-    requires there { start.index + steps ≤ length changes.now }
-    ensures next { IsStart changes.now width line.new result }
-    ensures taken { TakesSteps (painted Colour.White 0 changes.now width) width (replicate steps true) line.old start line.new result }
-{
-    let index = start.index + steps;
-    let a0 = changes[index - 1];
-    line.paint_turning(start.colour, &changes[start.index..index - 1], a0);
-    Start {
-        from: a0 + 1,
-        colour: colour_to_b1(index),
-        index,
-    }
 }
 
 /// The colour up to the changing place of an index: each change of the reference ends a stretch of it.

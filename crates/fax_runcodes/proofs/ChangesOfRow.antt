@@ -90,7 +90,7 @@ painted_all_at ps end i d r within = let place : 0 + i ≡ i = omega arith in pa
 
 -- ---- the changing ones
 
-differ-same : (colour : Colour) → differ colour colour ≡ false
+pub differ-same : (colour : Colour) → differ colour colour ≡ false
 differ-same White = refl
 differ-same Black = refl
 

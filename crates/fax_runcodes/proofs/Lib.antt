@@ -13,6 +13,7 @@ pub mod RunLemmas
 pub mod RunsOfRow
 pub mod SetBitsLemmas
 pub mod TableRules
+pub mod TurningLemmas
 pub mod WordLaws
 pub mod WriteLemmas
 pub mod WrittenRules

@@ -1,5 +1,6 @@
-use Rattle.fax_mrcode.proofs.VerticalLemmas.{ShowsBehind-next}
+use Rattle.std.proofs.Common.{◌*◌, ◌%◌, ◌^◌, arith}
+use Rattle.fax_mrcode.proofs.VerticalLemmas.{ShowsBehind-next, moved_up}
 use Rattle.fax_mrcode.proofs.reading.ahead.past.Goals as goal
 
 pub returns-clause-behind : goal.returns-clause-behind
-returns-clause-behind c = ShowsBehind-next c.args.ahead.window c.args.ahead.left c.args.n c.behind.result c.requires.within c.behind.ensures.window c.behind.ensures.bits
+returns-clause-behind c = ShowsBehind-next c.args.ahead.window c.args.ahead.left c.args.n (c.args.ahead.window * 2 ^ c.args.n % 2 ^ 64) c.requires.within (moved_up c.args.ahead.window c.args.n (omega (arith, c.requires.known, c.requires.within)))

@@ -1,0 +1,57 @@
+use Rattle.std.proofs.Common.{◌+◌, ◌-◌, ◌≤◌, ◌≡◌, drop, length, refl, ◌∙◌, arith}
+use Rattle.std.proofs.lemmas.List.{drop-drop}
+use Rattle.fax_runcodes.specs.declared.Colour.TheVariants.{White}
+use Rattle.fax_runcodes.specs.Painted.{painted}
+use Rattle.fax_mrcode.specs.Starts.{start_of, left_of_a0}
+use Rattle.fax_mrcode.proofs.StepLemmas.{StepsSoFar-then}
+use Rattle.fax_mrcode.proofs.VerticalLemmas.{Shows-first, behind_place, behind_none, skipped, passes_shown}
+use Rattle.fax_mrcode.proofs.reading.near.read_near_steps.Goals as goal
+use Rattle.fax_mrcode.proofs.reading.near.read_near_steps.Goals.{After-skip, else-loop-near-test, then-loop-near-test+in_default}
+
+pub loop-near-init : goal.loop-near-init
+loop-near-init c =
+    rw (c.requires.start.is_start.cursor c.requires.within).parity (record {
+      few = omega arith;
+      shows = Shows-first c.window.result c.known-known.result c.args.reader.now.left c.known-known.ensures c.window.ensures.bits;
+      is_start = c.requires.start;
+      right = omega arith;
+      so_far = λ old so_far. rw (behind_none c.args.reader.now c.known-known.result) so_far;
+    })
+
+pub loop-near-preserved : goal.loop-near-preserved
+loop-near-preserved c =
+    let held = c.loop-near.invariant in
+    let near = c.loop-near.near in
+    let next = c.in-Some.next in
+    let left = near.ahead.left in
+    let passed = c.known-known.result - left in
+    let n = left - next.ahead.left in
+    let bits = drop passed c.args.reader.now.left in
+    let there : left ≤ length bits = held.shows.there in
+    let taken = c.in-Some.ensures.taken in
+    let further : c.known-known.result - next.ahead.left ≡ passed + n = omega (arith, held.few, taken.behind.less) in
+    record {
+      few = omega (arith, held.few, taken.behind.less);
+      shows = rw (further, ← drop-drop n passed c.args.reader.now.left) (taken.behind.shows bits held.shows);
+      is_start = c.in-Some.ensures.next;
+      right = omega (arith, held.right, taken.takes.right);
+      so_far = λ old so_far. StepsSoFar-then (painted White 0 c.args.changes.now c.args.width) c.args.width old (behind_place c.args.reader.now passed) (behind_place c.args.reader.now (c.known-known.result - next.ahead.left))
+          (left_of_a0 c.loop-near.line (start_of near)) (start_of near) (left_of_a0 c.near_step.new.line (start_of next)) (start_of next) taken.text
+          (held.so_far old so_far)
+          (passes_shown c.args.reader.now passed n (c.known-known.result - next.ahead.left) taken.text (omega arith) (taken.first bits held.shows) further)
+          taken.takes;
+    }
+
+same_line : (c : After-skip) → c.loop-near-test.line ≡ c.loop-near.line
+same_line c = elim c.loop-near-test.branch [
+  | else-loop-near-test w ↦ w.line-is
+  | then-loop-near-test+in_default w ↦ w.line-is ∙ w.in_default.ensures.none refl
+]
+
+pub returns-clause-next : goal.returns-clause-next
+returns-clause-next c = rw (same_line (goal.at.returns-clause-next c).After-skip, c.colour_to_b1.ensures) c.loop-near.invariant.is_start
+
+pub returns-clause-so_far : goal.returns-clause-so_far
+returns-clause-so_far c = λ old so_far. (
+    let within : c.known-known.result - c.loop-near.near.ahead.left ≤ length c.args.reader.now.left = omega (arith, c.known-known.ensures) in
+    rw (same_line (goal.at.returns-clause-so_far c).After-skip, c.colour_to_b1.ensures, ← skipped c.args.reader.now c.skip.new.self (c.known-known.result - c.loop-near.near.ahead.left) within c.skip.ensures) (c.loop-near.invariant.so_far old so_far))
