@@ -121,7 +121,12 @@ fn read_steps(
         start = if near.from > start.from {
             near
         } else {
-            read_step_in(line, reader, changes, width, near)?
+            // A start of its own: that of the fast way stays in registers.
+            let stopped = Start {
+                index: near.index,
+                ..near
+            };
+            read_step_in(line, reader, changes, width, stopped)?
         };
     }
     Ok(())

@@ -190,7 +190,7 @@ fn near_vertical(
 /// From where on the next b1 is looked for: behind this one, or so many changing places further back, as
 /// left of b1 the changing place before it may be right of a1. Before the first none is.
 #[inline]
-fn index_behind(b1: usize, back: u8) -> usize
+fn index_behind(b1: usize, back: u16) -> usize
     requires { b1 + 1 < 2 ^ 64 }
     ensures { (result + back ≡ b1 + 1) ⊎ ((b1 + 1 < back) × (result ≡ 1)) }
 {

@@ -13,7 +13,7 @@ use crate::Offset;
 pub(super) struct VerticalWord {
     pub(super) offset: Offset,
     pub(super) bits: u8,
-    pub(super) back: u8,
+    pub(super) back: u16,
 }
 
 /// The word of vertical mode that begins 64 bits, which are those of a number, the most significant
