@@ -22,7 +22,7 @@ struct ShortRun {
     ahead: Ahead,
 }
 
-/// Two runs of few elements, and the bits behind their words.
+/// Two runs of fewer than 64 elements each, and the bits behind their words.
 #[derive(Clone, Copy)]
 pub(super) struct ShortRuns {
     pub(super) first: u16,
@@ -34,7 +34,7 @@ pub(super) struct ShortRuns {
 #[inline]
 pub(super) fn short_runs(ahead: Ahead, colour: Colour) -> Option<ShortRuns>
     requires known { ahead.left ≤ 56 }
-    ensures few { IfSome result (λ runs. (runs.first < 256) × (runs.second < 256)) }
+    ensures few { IfSome result (λ runs. (runs.first < 64) × (runs.second < 64)) }
     ensures behind { IfSome result (λ runs. ShowsBehind ahead.window ahead.left runs.ahead.window runs.ahead.left) }
     ensures spelt { IfSome result (λ runs. (s t : List Bool) × SpellsRun colour s runs.first × SpellsRun (other colour) t runs.second × FirstAre ahead.window ahead.left runs.ahead.left (s ++ t)) }
 {
@@ -51,7 +51,7 @@ pub(super) fn short_runs(ahead: Ahead, colour: Colour) -> Option<ShortRuns>
 #[inline]
 fn white_and_black(ahead: Ahead) -> Option<ShortRuns>
     requires known { ahead.left ≤ 56 }
-    ensures few { IfSome result (λ runs. (runs.first < 256) × (runs.second < 256)) }
+    ensures few { IfSome result (λ runs. (runs.first < 64) × (runs.second < 64)) }
     ensures behind { IfSome result (λ runs. ShowsBehind ahead.window ahead.left runs.ahead.window runs.ahead.left) }
     ensures spelt { IfSome result (λ runs. (s t : List Bool) × SpellsRun White s runs.first × SpellsRun Black t runs.second × FirstAre ahead.window ahead.left runs.ahead.left (s ++ t)) }
 {
@@ -64,7 +64,7 @@ fn white_and_black(ahead: Ahead) -> Option<ShortRuns>
     }
     Some(ShortRuns {
         first: u16::from(pair.white),
-        second: u16::from(pair.black),
+        second: pair.black,
         ahead: past(ahead, bits),
     })
 }
@@ -73,7 +73,7 @@ fn white_and_black(ahead: Ahead) -> Option<ShortRuns>
 #[inline]
 fn one_by_one(ahead: Ahead, colour: Colour) -> Option<ShortRuns>
     requires known { ahead.left ≤ 56 }
-    ensures few { IfSome result (λ runs. (runs.first < 256) × (runs.second < 256)) }
+    ensures few { IfSome result (λ runs. (runs.first < 64) × (runs.second < 64)) }
     ensures behind { IfSome result (λ runs. ShowsBehind ahead.window ahead.left runs.ahead.window runs.ahead.left) }
     ensures spelt { IfSome result (λ runs. (s t : List Bool) × SpellsRun colour s runs.first × SpellsRun (other colour) t runs.second × FirstAre ahead.window ahead.left runs.ahead.left (s ++ t)) }
 {

@@ -266,8 +266,8 @@ fn turn_at_runs(
     requires within { near.from ≤ width }
     requires rising { AreRising 0 changes.now width }
     requires few { width ≤ 2432 }
-    requires first { runs.first < 256 }
-    requires second { runs.second < 256 }
+    requires first { runs.first < 64 }
+    requires second { runs.second < 64 }
     ensures next { IfSome result (λ next. IsStartIn changes.now width line.new (start_of next)) }
     ensures taken { IfSome result (λ next. (s t : List Bool) → SpellsRun (colour_after_changes near.index) s runs.first → SpellsRun (other (colour_after_changes near.index)) t runs.second
         → TakesStep (painted Colour.White 0 changes.now width) width Mode.Horizontal (s ++ t) (left_of_a0 line.old (start_of near)) (start_of near) (left_of_a0 line.new (start_of next)) (start_of next)) }
