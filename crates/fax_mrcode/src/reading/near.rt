@@ -175,10 +175,13 @@ fn near_vertical(
     }
     let b1 = next_change(changes, width, near);
     let past_a1 = b1.place + word.offset.right_of_left3();
-    if past_a1 < near.from + 3 || past_a1 > width + 3 {
+    if past_a1 < 3 {
         return None;
     }
     let a1 = past_a1 - 3;
+    if a1 < near.from || a1 > width {
+        return None;
+    }
     turn_below(line, width, a1);
     Some(Near {
         from: a1 + 1,
