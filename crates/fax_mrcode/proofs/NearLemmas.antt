@@ -1,7 +1,7 @@
 -- Lines of the whole width, in which the elements right of a0 turn.
 use Rattle.std.proofs.Common.{◌≡◌, ◌≢◌, ℕ, zero, suc, ◌+◌, ◌-◌, ◌<◌, ◌≤◌, List, [], ◌∷◌, ◌++◌, length, take, drop, replicate, slice_index, slice_index_or, Bool, true, refl, sym, ◌∙◌, ap, subst, arith, inl, inr, ◌⊎◌, take_at, length-append, length-drop, append_assoc}
 use Rattle.std.proofs.lemmas.Bool.{cases_lt, cases_eq}
-use Rattle.std.proofs.lemmas.List.{take_all, take_more, get_or-take, get_or_default, drop-drop, drop_at, drop_all, length-replicate, length-take-le, replicate-append-replicate, take-append-drop, get_or-drop, get_or-replicate}
+use Rattle.std.proofs.lemmas.List.{take_all, take_more, get_or-take, get_or_default, drop-drop, drop_at, drop_all, length-replicate, length-take-le, replicate-append-replicate, get_or-drop, get_or-replicate}
 use Rattle.std.proofs.Math.Seq.{take-add}
 use Rattle.fax_runcodes.specs.declared.Colour.{Colour}
 use Rattle.fax_runcodes.specs.declared.Colour.TheVariants.{White}

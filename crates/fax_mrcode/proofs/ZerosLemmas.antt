@@ -1,11 +1,10 @@
 -- Steps in vertical mode with a1 at b1, several behind one another.
-use Rattle.std.proofs.Common.{◌≡◌, ℕ, zero, suc, ◌+◌, ◌-◌, ◌*◌, ◌^◌, ◌<◌, ◌≤◌, Bool, true, List, [], ◌∷◌, ◌++◌, length, replicate, take, drop, slice_index, slice_index_or, refl, sym, ◌∙◌, ap, ap₂, arith, append_assoc, add-zero, suc-add, inl, inr}
+use Rattle.std.proofs.Common.{◌≡◌, ℕ, zero, suc, ◌+◌, ◌-◌, ◌*◌, ◌^◌, ◌<◌, ◌≤◌, Bool, true, List, [], ◌∷◌, ◌++◌, length, replicate, take, drop, slice_index, slice_index_or, refl, sym, ◌∙◌, ap, ap₂, arith, append_assoc, add-zero, suc-add, inl}
 use Rattle.std.proofs.lemmas.List.{drop_more, get_or_default, replicate-append-replicate}
 use Rattle.std.proofs.lemmas.Nat.{leading_length}
 use Rattle.std.specs.Int.Count.{count_leading_zeros}
 use Rattle.std.proofs.Math.Nat.{pow-suc}
 use Rattle.std.proofs.Math.Pow.{pow_mono}
-use Rattle.std.proofs.lemmas.Bool.{cases_lt}
 use Rattle.fax_bits.proofs.WritingLemmas.{word_bits_sum}
 use Rattle.fax_bits.specs.Bits.{bit, word_bits}
 use Rattle.fax_runcodes.specs.declared.Colour.TheVariants.{White}

@@ -26,7 +26,7 @@ pub record IsIndexOfB1 (changes : List ℕ) (colour : Colour) (from index : ℕ)
   pub cursor : IsCursor changes colour from index
   pub right : index < length changes → from ≤ slice_index changes index
 
--- how many changing places further back than else the next b1 is looked for: 2 at most where a1 lies left of b1
+-- how many changing places further back than behind b1 the next b1 is looked for: 2, or none where a1 does not lie left of b1
 abbrev pub IsBack : Offset → ℕ → Type 0
 IsBack offset back = (back ≡ 2) ⊎ ((back ≡ 0) × ((a1 b1 : ℕ) → IsAt offset a1 b1 → b1 ≤ a1))
 

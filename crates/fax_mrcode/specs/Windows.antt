@@ -1,5 +1,5 @@
 -- What a window of 64 bits shows of the bits that are left. Not part of any public clause.
-use Rattle.std.specs.Prelude.{◌≡◌, ℕ, ◌-◌, ◌<◌, ◌≤◌, ◌^◌, Bool, List, ◌++◌, length, take, drop}
+use Rattle.std.specs.Prelude.{◌≡◌, ℕ, ◌-◌, ◌≤◌, Bool, List, ◌++◌, length, take, drop}
 use Rattle.fax_bits.specs.Bits.{word_bits}
 
 -- a window shows so many bits of these, whatever stands behind them

@@ -1,13 +1,13 @@
 -- Elements that turn at places behind the changes so far.
 use Rattle.std.proofs.Common.{◌≡◌, ℕ, zero, suc, ◌+◌, ◌-◌, ◌<◌, ◌≤◌, List, [], ◌∷◌, ◌++◌, length, take, drop, replicate, slice_index_or, get_or, Contains, IsTrue, refl, sym, ◌∙◌, ap, subst, arith, inl, inr, take_at, append-nil}
 use Rattle.std.proofs.lemmas.Bool.{cases_lt, cases_eq, false≢true}
-use Rattle.std.proofs.lemmas.List.{get_or-drop, get_or-replicate, length-replicate, take-append-drop, drop_at}
+use Rattle.std.proofs.lemmas.List.{get_or-drop, get_or-replicate, take-append-drop, drop_at}
 use Rattle.std.proofs.Math.Seq.{take-length}
 use Rattle.fax_runcodes.specs.declared.Colour.{Colour}
 use Rattle.fax_runcodes.specs.declared.Colour.TheVariants.{White}
-use Rattle.fax_runcodes.specs.Rows.{Elements, other, differ, colour_at, colour_before, is_changing}
+use Rattle.fax_runcodes.specs.Rows.{Elements, other, colour_at, colour_before, is_changing}
 use Rattle.fax_runcodes.specs.Painted.{painted, AreRising}
-use Rattle.fax_runcodes.proofs.PaintedLemmas.{colour_behind, rising_le, rising_lower, rising_join, painted-extend, painted-join, painted-turn, length-painted, length-painted_all}
+use Rattle.fax_runcodes.proofs.PaintedLemmas.{colour_behind, rising_le, rising_lower, rising_join, painted-extend, painted-join, painted-turn, length-painted_all}
 use Rattle.fax_runcodes.proofs.ChangesOfRow.{painted_are_changes, differ-same}
 
 -- rising places that all lie before one rise up to it

@@ -2,7 +2,7 @@
 ghost use Rattle.std.specs.Prelude.{List, Bool, ◌+◌, ◌-◌, ◌<◌, ◌≤◌, ◌≡◌, ◌^◌, ◌/◌, ◌++◌, ◌⊎◌, length, take, drop, replicate, slice_index_or, IfSome, IsNone};
 ghost use Rattle.fax_bits.specs.Bits.{word_bits};
 ghost use Rattle.fax_bits.specs.Reading.{Place};
-ghost use Rattle.fax_runcodes.specs.Rows.{other, colour_before};
+ghost use Rattle.fax_runcodes.specs.Rows.{Elements, other, colour_before};
 ghost use Rattle.fax_runcodes.specs.Painted.{painted, AreRising, colour_after_changes};
 ghost use Rattle.fax_runcodes.specs.Spelling.{SpellsRun};
 ghost use Rattle.fax_runcodes.specs.declared.Colour.{Colour};
@@ -106,7 +106,7 @@ fn near_step(line: &mut RowBuilder, changes: &[u16], width: u16, near: Near) -> 
         return near_vertical(line, changes, width, near, word);
     }
     match near.ahead.window >> 60 {
-        0b0001 => near_pass(line, changes, width, near),
+        0b0001 => near_pass(changes, width, near),
         0b0010 | 0b0011 => near_horizontal(line, changes, width, near),
         _ => None,
     }
@@ -175,10 +175,13 @@ fn near_vertical(
     }
     let b1 = next_change(changes, width, near);
     let past_a1 = b1.place + word.offset.right_of_left3();
-    if past_a1 < near.from + 3 || past_a1 > width + 3 {
+    if past_a1 < 3 {
         return None;
     }
     let a1 = past_a1 - 3;
+    if a1 < near.from || a1 > width {
+        return None;
+    }
     turn_below(line, width, a1);
     Some(Near {
         from: a1 + 1,
@@ -199,19 +202,18 @@ fn index_behind(b1: usize, back: u16) -> usize
     if next < back { 1 } else { next - back }
 }
 
-/// Takes the step in pass mode, whose word the bits begin with, where they show all of it. It changes
-/// nothing.
+/// Takes the step in pass mode, whose word the bits begin with, where they show all of it. No element
+/// turns.
 #[inline]
-fn near_pass(line: &mut RowBuilder, changes: &[u16], width: u16, near: Near) -> Option<Near>
-    requires start { IsStartIn changes.now width line.old (start_of near) }
+fn near_pass(changes: &[u16], width: u16, near: Near) -> Option<Near>
+    requires cursor { IsCursor changes.now (colour_after_changes near.index) near.from near.index }
     requires within { near.from ≤ width }
     requires rising { AreRising 0 changes.now width }
     requires few { width ≤ 2432 }
     requires known { near.ahead.left ≤ 56 }
     requires word { near.ahead.window / 2 ^ 60 ≡ 1 }
-    ensures next { IfSome result (λ next. IsStartIn changes.now width line.new (start_of next)) }
-    ensures taken { IfSome result (λ next. TakesNear (painted Colour.White 0 changes.now width) width line.old near line.new next) }
-    ensures none { line.new ≡ line.old }
+    ensures next { IfSome result (λ next. (line : Elements) → IsStartIn changes.now width line (start_of near) → IsStartIn changes.now width line (start_of next)) }
+    ensures taken { IfSome result (λ next. (line : Elements) → IsStartIn changes.now width line (start_of near) → TakesNear (painted Colour.White 0 changes.now width) width line near line next) }
 {
     if near.ahead.left < PASS_BITS {
         return None;

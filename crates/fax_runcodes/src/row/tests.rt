@@ -127,26 +127,19 @@ fn paints_pairs_and_puts_runs(rt: HostRuntime) -> Result<(), Fail> {
 #[tactic(auto, unfolding(crate::specs::Painted::AreRising))]
 fn turns_elements(rt: HostRuntime) -> Result<(), Fail> {
     let mut builder = RowBuilder::new(rt.alloc())?;
-    let mut runs = [9; 8];
-    builder.paint(White, 2048);
+    builder.paint(White, 9);
     builder.turn(0);
     builder.turn(3);
-    assert_eq!(rt; builder.len(), 2048);
-    assert_eq!(rt; builder.lend().put_runs(&mut runs), Some(3));
-    assert_eq!(rt; runs, [0, 3, 2045, 9, 9, 9, 9, 9]);
-    builder.turn_at_all(&[5, 1000, 1001]);
-    builder.turn_at_all(&[]);
-    assert_eq!(rt; builder.lend().put_runs(&mut runs), Some(6));
-    assert_eq!(rt; runs, [0, 3, 2, 995, 1, 1047, 9, 9]);
-    builder.shorten(1000);
-    assert_eq!(rt; builder.len(), 1000);
-    builder.paint(White, 728);
+    builder.turn_at_all(&[5, 7, 8]);
+    assert_eq!(rt; builder.len(), 9);
+    builder.shorten(8);
+    assert_eq!(rt; builder.len(), 8);
+    builder.paint(White, 1720);
+    let mut runs = [9; 8];
     assert_eq!(rt; builder.lend().put_runs(&mut runs), Some(5));
-    assert_eq!(rt; runs, [0, 3, 2, 995, 728, 1047, 9, 9]);
+    assert_eq!(rt; runs, [0, 3, 2, 2, 1721, 9, 9, 9]);
     builder.shorten(0);
     assert_eq!(rt; builder.len(), 0);
-    builder.paint(White, 1728);
-    assert_eq!(rt; builder.lend().put_runs(&mut runs), Some(1));
     Ok(())
 }
 

@@ -1,4 +1,3 @@
-use Rattle.std.proofs.Common.{◌++◌}
 use Rattle.fax_mrcode.proofs.VerticalLemmas.{FirstAre-then, ShowsBehind-then}
 use Rattle.fax_mrcode.proofs.reading.ahead.one_by_one.Goals as goal
 

@@ -1,4 +1,4 @@
-use Rattle.std.proofs.Common.{◌≡◌, ◌+◌, ◌++◌, ◌<◌, ℕ, length, length-append, sym, ◌∙◌, subst, arith}
+use Rattle.std.proofs.Common.{◌≡◌, ◌++◌, ◌<◌, ℕ, length, length-append, sym, ◌∙◌, subst, arith}
 use Rattle.fax_bits.specs.Bits.{word_bits}
 use Rattle.fax_runcodes.specs.Spelling.{SpellsRun}
 use Rattle.fax_runcodes.specs.declared.Colour.TheVariants.{White, Black}

@@ -1,4 +1,4 @@
-use Rattle.std.proofs.Common.{◌≡◌, ℕ, ◌+◌, ◌-◌, ◌≤◌, ◌++◌, [], refl, sym, ◌∙◌, ap, subst, arith, slice_index_or, append-nil}
+use Rattle.std.proofs.Common.{◌≡◌, ◌+◌, ◌-◌, ◌≤◌, ◌++◌, [], sym, ◌∙◌, subst, arith, slice_index_or, append-nil}
 use Rattle.fax_runcodes.specs.Rows.{other}
 use Rattle.fax_runcodes.specs.Painted.{painted, colour_after_changes}
 use Rattle.fax_runcodes.specs.declared.Colour.TheVariants.{White}

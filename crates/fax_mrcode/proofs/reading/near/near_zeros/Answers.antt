@@ -1,4 +1,4 @@
-use Rattle.std.proofs.Common.{◌≡◌, ◌+◌, ◌-◌, ◌≤◌, ◌++◌, true, [], replicate, refl, inl, sym, ◌∙◌, ap, arith, slice_index_or}
+use Rattle.std.proofs.Common.{◌≡◌, ◌+◌, ◌-◌, ◌≤◌, ◌++◌, true, [], replicate, refl, inl, ◌∙◌, ap, arith}
 use Rattle.std.proofs.lemmas.List.{length-replicate}
 use Rattle.fax_bits.specs.Bits.{word_bits}
 use Rattle.fax_runcodes.specs.Rows.{other}

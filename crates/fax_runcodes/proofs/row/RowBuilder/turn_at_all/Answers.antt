@@ -1,6 +1,6 @@
-use Rattle.std.proofs.Common.{◌≡◌, ◌+◌, ◌≤◌, ◌++◌, length, arith, vec_len, vec_capacity, length-append}
+use Rattle.std.proofs.Common.{◌≡◌, ◌+◌, ◌≤◌, ◌++◌, length, arith, vec_len, length-append}
 use Rattle.fax_runcodes.proofs.PaintedLemmas.{rising_count}
-use Rattle.fax_runcodes.proofs.TurningLemmas.{Turned, turned_at_all}
+use Rattle.fax_runcodes.proofs.TurningLemmas.{turned_at_all}
 use Rattle.fax_runcodes.proofs.row.RowBuilder.turn_at_all.Goals as goal
 
 pub push_all-requires : goal.push_all-requires
