@@ -1,9 +1,11 @@
 -- Numbers at the wrap, and the slots that one more datagram decides.
-use Rattle.std.proofs.Common.{◌≡◌, ℕ, zero, suc, ◌+◌, ◌-◌, ◌<◌, ◌≤◌, max, Bool, true, false, nat_le, is_some, List, [], ◌∷◌, ◌++◌, Option, Some, None, refl, ◌∙◌, ap, arith, if◌then◌else◌}
+use Rattle.std.proofs.Common.{◌≡◌, ℕ, zero, suc, ◌+◌, ◌-◌, ◌<◌, ◌≤◌, max, Bool, true, false, nat_le, is_some, List, [], ◌∷◌, ◌++◌, map, replicate, reverse, Option, Some, None, refl, ◌∙◌, ap, arith, if◌then◌else◌}
 use Rattle.std.specs.Prelude.{filter_map}
 use Rattle.std.specs.List.{cons_option}
+use Rattle.std.proofs.lemmas.List.{reverse-append}
 use Rattle.fax_udptl.specs.Datagrams.{DatagramValue}
-use Rattle.fax_udptl.specs.Slots.{nearest, IsNearest, greatest, integer_after, said_of, decision, first_slot, integers_from, slots}
+use Rattle.fax_udptl.specs.Slots.{nearest, IsNearest, greatest, integer_after, said_of, decision, first_slot, integers_from, slots, newest_slots}
+use Rattle.fax_udptl.specs.Taking.{DecidedValue, Decides, slots_in}
 
 pub is_nearest : (e number : ℕ) → 65536 ≤ e → number < 65536 → IsNearest e number (nearest e number)
 is_nearest e number h n = record { agrees = omega arith; above = omega arith; below = omega arith }
@@ -84,3 +86,27 @@ slots_go_on d e earlier =
     ∙ filter_map_both (decision (d ∷ e ∷ earlier)) (integers_from f (g + 1 - f)) (integers_from (f + (g + 1 - f)) (n - g))
     ∙ ap (λ (ss : List (Option (List ℕ))). ss ++ F (integers_from (f + (g + 1 - f)) (n - g))) (same_on d e earlier f (g + 1 - f) (omega arith))
     ∙ ap (λ (k : ℕ). slots (e ∷ earlier) ++ F (integers_from k (n - g))) seam
+
+-- The same with the newest slot first.
+pub newest_at_first : newest_slots [] ≡ []
+unfolding newest_slots slots
+newest_at_first = refl
+
+pub newest_go_on : (d : DatagramValue) (arrived : List DatagramValue) (decided : DecidedValue) → Decides arrived d decided
+    → newest_slots (d ∷ arrived) ≡ reverse (slots_in decided) ++ newest_slots arrived
+unfolding newest_slots
+newest_go_on d arrived decided h = ap (λ (s : List (Option (List ℕ))). reverse s) h.slots ∙ reverse-append (slots arrived) (slots_in decided)
+
+one_behind : (n : ℕ) (x : Option (List ℕ)) → replicate n x ++ x ∷ [] ≡ x ∷ replicate n x
+one_behind zero x = refl
+one_behind (suc n) x = ap (λ (s : List (Option (List ℕ))). x ∷ s) (one_behind n x)
+
+same_reversed : (n : ℕ) (x : Option (List ℕ)) → reverse (replicate n x) ≡ replicate n x
+same_reversed zero x = refl
+same_reversed (suc n) x =
+    reverse-append (x ∷ []) (replicate n x) ∙ ap (λ (s : List (Option (List ℕ))). s ++ x ∷ []) (same_reversed n x) ∙ one_behind n x
+
+pub newest_of_decided : (decided : DecidedValue) → reverse (slots_in decided) ≡ reverse (map Some decided.packets) ++ replicate decided.lost None
+newest_of_decided decided =
+    reverse-append (replicate decided.lost None) (map Some decided.packets)
+    ∙ ap (λ (s : List (Option (List ℕ))). reverse (map Some decided.packets) ++ s) (same_reversed decided.lost None)

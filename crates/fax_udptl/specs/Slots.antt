@@ -2,7 +2,7 @@
 -- sequence numbers and redundancy. How far a number may lie ahead, and that what comes late decides
 -- nothing, is this project's profile.)
 -- Lists of datagrams that came have the newest first.
-use Rattle.std.specs.Prelude.{◌≡◌, ℕ, zero, suc, ◌+◌, ◌-◌, ◌%◌, ◌≤◌, max, nat_le, is_some, List, [], ◌∷◌, length, filter_map, slice_get, Option, Some, None, if◌then◌else◌}
+use Rattle.std.specs.Prelude.{◌≡◌, ℕ, zero, suc, ◌+◌, ◌-◌, ◌%◌, ◌≤◌, max, nat_le, is_some, List, [], ◌∷◌, length, filter_map, slice_get, reverse, Option, Some, None, if◌then◌else◌}
 use Rattle.fax_udptl.specs.Datagrams.{DatagramValue}
 
 -- the integer that agrees with a number modulo 65,536 and lies from 32,768 below to 32,767 above what is
@@ -57,8 +57,13 @@ abbrev pub integers_from : ℕ → ℕ → List ℕ
 integers_from a zero = []
 integers_from a (suc n) = a ∷ integers_from (a + 1) n
 
--- the slots up to the greatest integer, in order
+-- The slots up to the greatest integer, in the order of time: the oldest first.
 unfoldable pub slots : List DatagramValue → List (Option (List ℕ))
 slots [] = []
 slots (d ∷ earlier) =
     filter_map (decision (d ∷ earlier)) (integers_from (first_slot (d ∷ earlier)) (greatest (d ∷ earlier) + 1 - first_slot (d ∷ earlier)))
+
+-- The same slots, the newest first, as the datagrams are given. What the slots say, as the pieces of frames
+-- and images that they bring, is told from this list, and not from the one in the order of time.
+unfoldable pub newest_slots : List DatagramValue → List (Option (List ℕ))
+newest_slots arrived = reverse (slots arrived)

@@ -1,5 +1,7 @@
 //! Laws of the definitions: functions that do nothing, each of whose contracts is a theorem.
-ghost use Rattle.fax_udptl.specs.Laws.{OneIntegerIsNearest, SlotsAreDecided, SlotsGoOn, WrittenIsRead};
+ghost use Rattle.std.specs.Prelude.{[], ◌≡◌};
+ghost use Rattle.fax_udptl.specs.Laws.{NewestOfDecided, NewestSlotsGoOn, OneIntegerIsNearest, SlotsAreDecided, SlotsGoOn, WrittenIsRead};
+ghost use Rattle.fax_udptl.specs.Slots.{newest_slots};
 
 /// What is nearest to an expected integer agrees with the number modulo 65,536 and lies near, and nothing
 /// else does.
@@ -15,6 +17,18 @@ pub fn slots_are_decided()
 /// One more datagram adds slots behind those that were decided.
 pub fn slots_go_on()
     ensures { SlotsGoOn }
+{}
+
+/// What one more datagram decides stands before the slots so far where the newest slot comes first, and
+/// there is none before the first datagram.
+pub fn newest_slots_go_on()
+    ensures at_first { newest_slots [] ≡ [] }
+    ensures one_more { NewestSlotsGoOn }
+{}
+
+/// Where the newest slot comes first, the packets that are decided stand before the slots that are missing.
+pub fn decided_are_lost_then_packets()
+    ensures { NewestOfDecided }
 {}
 
 /// A written datagram is read as itself.

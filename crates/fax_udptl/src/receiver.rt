@@ -1,8 +1,8 @@
 //! A receiver of datagrams, which decides each slot of a call once.
-ghost use Rattle.std.specs.Prelude.{ℕ, List, [], ◌∷◌, ◌++◌, ◌≡◌, ◌+◌, ◌-◌, ◌%◌, ◌<◌, ◌≤◌, take, length, reverse, None, Some, Ok, Err, MatchOption, IfOk, IfErr, OnErr};
+ghost use Rattle.std.specs.Prelude.{ℕ, List, [], ◌∷◌, ◌++◌, ◌≡◌, ◌+◌, ◌-◌, ◌%◌, ◌<◌, ◌≤◌, take, length, reverse, None, Some, Ok, Err, MatchOption, IfOk, IfErr, OnErr, IsTrue, ◌↔◌};
 ghost use Rattle.fax_udptl.specs.Datagrams.{datagram_of};
 ghost use Rattle.fax_udptl.specs.Slots.{nearest};
-ghost use Rattle.fax_udptl.specs.Taking.{Takes};
+ghost use Rattle.fax_udptl.specs.Taking.{Takes, slots_in};
 
 use crate::datagram::{Datagram, read};
 use crate::fault::UdptlFault;
@@ -82,6 +82,13 @@ impl<'a> Decided<'a> {
         ensures { result ≡ self.now.from }
     {
         self.from
+    }
+
+    /// Whether no slot is decided, as by a late datagram. It walks over no packet.
+    pub fn is_empty(&self) -> bool
+        ensures { IsTrue result ↔ (slots_in self.now ≡ []) }
+    {
+        self.lost == 0 && self.secondaries.left() == 0 && self.primary.is_none()
     }
 
     /// How many slots are missing. They are the first ones.

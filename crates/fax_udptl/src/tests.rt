@@ -112,6 +112,7 @@ fn expect_slots(
     };
     assert_eq!(rt; decided.from(), from);
     assert_eq!(rt; decided.lost(), lost);
+    assert_eq!(rt; decided.is_empty(), lost == 0 && wanted.is_empty());
     expect_packets(rt, decided.packets(), wanted);
     expect_packets(rt, decided.packets(), wanted);
 }
@@ -248,6 +249,24 @@ fn begins_at_the_oldest_secondary(rt: HostRuntime) {
         &[b"\x02", b"\x04", b"\x06", b"\x08"],
     );
     expect_slots(&rt, &mut receiver, first, 2, 0, &[]);
+}
+
+#[test]
+fn says_whether_a_slot_is_decided(rt: HostRuntime) {
+    let mut receiver = Receiver::new();
+    // the first datagram, the same again, a later one behind three missing slots, and one that was late
+    let cases: [(&[u8], bool); 4] = [
+        (b"\x00\x05\x01\x06\x00\x00", false),
+        (b"\x00\x05\x01\x06\x00\x00", true),
+        (b"\x00\x09\x01\x06\x00\x00", false),
+        (b"\x00\x07\x01\x08\x00\x01\x01\x06", true),
+    ];
+    for (octets, empty) in cases {
+        let Ok(decided) = receiver.take(octets) else {
+            rt.abort()
+        };
+        assert_eq!(rt; decided.is_empty(), empty);
+    }
 }
 
 #[test]
@@ -596,5 +615,7 @@ fn the_laws_hold(_rt: HostRuntime) {
     laws::one_integer_is_nearest();
     laws::slots_are_decided();
     laws::slots_go_on();
+    laws::newest_slots_go_on();
+    laws::decided_are_lost_then_packets();
     laws::written_is_read();
 }
