@@ -1,8 +1,8 @@
 -- What holds of pages and their texts.
 use Rattle.std.specs.Prelude.{◌≡◌, ℕ, Bool, List}
 use Rattle.fax_bits.specs.Writing.{IsPadded}
+use Rattle.fax_runcodes.specs.declared.format.Coding.{Coding}
 use Rattle.fax_runcodes.specs.Rows.{Elements, IsWidth}
-use Rattle.fax_pagestore.specs.declared.Coding.{Coding}
 use Rattle.fax_pagestore.specs.declared.fault.PageFault.{PageFault}
 use Rattle.fax_pagestore.specs.PageRows.{AreRows}
 use Rattle.fax_pagestore.specs.PageTexts.{MeansRows}
