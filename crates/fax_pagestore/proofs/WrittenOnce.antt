@@ -1,14 +1,11 @@
 -- A page is written as one text, and padded to one list of octets.
 use Rattle.std.proofs.Common.{◌≡◌, ◌⊎◌, ℕ, ◌+◌, ◌<◌, Bool, true, false, List, [], ◌∷◌, ◌++◌, All, length, Option, Some, None, refl, sym, ◌∙◌, ap, subst, arith, inl, inr}
-use Rattle.std.proofs.lemmas.Bool.{cases_Bool}
 use Rattle.std.proofs.lemmas.List.Elements.{All-head, All-tail}
 use Rattle.fax_bits.specs.Writing.{IsPadded}
 use Rattle.fax_bits.proofs.PaddingLemmas.{padding_one}
 use Rattle.fax_runcodes.specs.declared.format.Coding.{Coding}
 use Rattle.fax_runcodes.specs.Rows.{Elements}
-use Rattle.fax_mhcode.specs.Lines as mh
 use Rattle.fax_mhcode.proofs.WrittenOnce as mh_once
-use Rattle.fax_mrcode.specs.Written as mr
 use Rattle.fax_mrcode.proofs.WrittenOnce as mr_once
 use Rattle.fax_pagestore.specs.PageTexts.{end_of_line}
 use Rattle.fax_pagestore.specs.WrittenPages.{is_one_dimensional, tag_bits, next_tag, ends_of_line, fill, WritesRow, WritesRows, WritesPage}
