@@ -1,10 +1,10 @@
 -- What the calls of C do with pages (this project's profile).
 use Rattle.std.specs.Prelude.{◌≡◌, ◌≢◌, ℕ, ◌<◌, ◌⊎◌, Bool, if◌then◌else◌, List, [], ◌∷◌, ◌++◌, All, length, map, flat_map, take, Result, Ok, Err}
 use Rattle.fax_bits.specs.Writing.{IsPadded}
+use Rattle.fax_runcodes.specs.declared.format.Coding.{Coding}
+use Rattle.fax_runcodes.specs.declared.format.Coding.TheVariants.{Mh, Mr}
 use Rattle.fax_runcodes.specs.Pixels.{pixel}
 use Rattle.fax_runcodes.specs.Rows.{Elements, IsWidth, AreRuns}
-use Rattle.fax_pagestore.specs.declared.Coding.{Coding}
-use Rattle.fax_pagestore.specs.declared.Coding.TheVariants.{Mh, Mr}
 use Rattle.fax_pagestore.specs.declared.fault.PageFault.TheVariants as page
 use Rattle.fax_pagestore.specs.PageRows.{AreRows, most_rows}
 use Rattle.fax_pagestore.specs.PageTexts.{MeansRows}

@@ -1,6 +1,6 @@
 -- The choice of a DCS.
 use Rattle.std.specs.Prelude.{ℕ, ◌&&◌, not, Option, Some, None, Result, Ok, Err, if◌then◌else◌, slice_get}
-use Rattle.fax_pagestore.specs.declared.Format.{Format}
+use Rattle.fax_runcodes.specs.declared.format.Format.{Format}
 use Rattle.fax_frames.specs.declared.rate.Rate.{Rate}
 use Rattle.fax_frames.specs.declared.dis.Dis.{Dis}
 use Rattle.fax_frames.specs.declared.dcs.Dcs.{Dcs}

@@ -5,7 +5,7 @@ ghost use Rattle.fax_frames.specs.Choice.{choice};
 
 use crate::dcs::Dcs;
 use crate::dis::Dis;
-use fax_pagestore::Format;
+use fax_runcodes::Format;
 use thiserror::Error;
 
 /// Why pages cannot be sent to a machine (this project's profile).

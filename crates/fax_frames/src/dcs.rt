@@ -2,8 +2,7 @@
 ghost use Rattle.std.specs.Prelude.{◌≡◌};
 
 use crate::rate::Rate;
-use fax_pagestore::{Coding, Format};
-use fax_runcodes::Width;
+use fax_runcodes::{Coding, Format, Width};
 
 /// The greatest length of a page (ITU-T T.30, Table 2, bits 19 and 20).
 #[derive(Clone, Copy, PartialEq, Eq, Debug)]

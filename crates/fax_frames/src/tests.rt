@@ -4,8 +4,7 @@ use crate::{
     write_dis, write_plain,
 };
 use bitflags::Flags;
-use fax_pagestore::{Coding, Format};
-use fax_runcodes::Width;
+use fax_runcodes::{Coding, Format, Width};
 use std::process::Abort;
 
 /// Standard pages of the usual width.

@@ -3,4 +3,5 @@ pub mod LineLemmas
 pub mod FaultLaws
 pub mod WriteLemmas
 pub mod WrittenLaws
+pub mod WrittenOnce
 pub mod PairLemmas

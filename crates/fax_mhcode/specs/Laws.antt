@@ -1,5 +1,5 @@
 -- What holds of one-dimensional lines and of their faults.
-use Rattle.std.specs.Prelude.{◌≡◌, ℕ, ◌≤◌, Bool, List, ◌++◌, length}
+use Rattle.std.specs.Prelude.{◌≡◌, ℕ, ◌<◌, ◌≤◌, Bool, List, ◌++◌, length}
 use Rattle.fax_runcodes.specs.Rows.{Elements, IsWidth}
 use Rattle.fax_mhcode.specs.Lines.{SpellsLine, WritesLine}
 use Rattle.fax_mhcode.specs.LineFaults.{FailsLine}
@@ -23,3 +23,11 @@ FaultsAreUnique = (width : ℕ) (bits : List Bool) (f g : LineFault)
 -- the bits in which a row is written spell it
 abbrev pub WrittenLinesAreSpelt : Type 0
 WrittenLinesAreSpelt = (row : Elements) (text : List Bool) → WritesLine row text → IsWidth (length row) → SpellsLine (length row) text row
+
+-- a row that has an element is written in one way only
+abbrev pub WrittenLinesAreUnique : Type 0
+WrittenLinesAreUnique = (row : Elements) (text other : List Bool) → 0 < length row → WritesLine row text → WritesLine row other → text ≡ other
+
+-- a row is written in some way
+abbrev pub RowsAreWritten : Type 0
+RowsAreWritten = (row : Elements) → (text : List Bool) × WritesLine row text

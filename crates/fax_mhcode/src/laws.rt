@@ -1,5 +1,5 @@
 //! Laws of the definitions: functions that do nothing, each of whose contracts is a theorem.
-ghost use Rattle.fax_mhcode.specs.Laws.{TextsAreUnique, LinesDontFail, FaultsAreUnique, WrittenLinesAreSpelt};
+ghost use Rattle.fax_mhcode.specs.Laws.{TextsAreUnique, LinesDontFail, FaultsAreUnique, WrittenLinesAreSpelt, WrittenLinesAreUnique, RowsAreWritten};
 
 /// A text spells at most one row of a width, and is no proper front of another row's text.
 pub fn texts_are_unique()
@@ -19,4 +19,14 @@ pub fn faults_are_unique()
 /// The bits in which a row is written spell it.
 pub fn written_lines_are_spelt()
     ensures { WrittenLinesAreSpelt }
+{}
+
+/// A row that has an element is written in one way only.
+pub fn written_lines_are_unique()
+    ensures { WrittenLinesAreUnique }
+{}
+
+/// A row is written in some way.
+pub fn rows_are_written()
+    ensures { RowsAreWritten }
 {}

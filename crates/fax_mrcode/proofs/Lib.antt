@@ -10,5 +10,6 @@ pub mod StepLemmas
 pub mod VerticalLemmas
 pub mod WriteLemmas
 pub mod WrittenLaws
+pub mod WrittenOnce
 pub mod WrittenZeros
 pub mod ZerosLemmas

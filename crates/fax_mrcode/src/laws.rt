@@ -1,6 +1,6 @@
 //! Laws of two-dimensional lines: functions that do nothing, each of whose contracts is a theorem.
 ghost use Rattle.fax_mrcode.specs.Laws.{TextsAreUnique, LinesDontFail, FaultsAreUnique};
-ghost use Rattle.fax_mrcode.specs.WrittenLaws.{WrittenLinesAreSpelt};
+ghost use Rattle.fax_mrcode.specs.WrittenLaws.{WrittenLinesAreSpelt, WrittenLinesAreUnique, RowsAreWritten};
 
 /// Against one reference a text spells at most one row, and is no proper front of another row's text.
 pub fn texts_are_unique()
@@ -20,4 +20,14 @@ pub fn faults_are_unique()
 /// The bits in which a row is written spell it.
 pub fn written_lines_are_spelt()
     ensures { WrittenLinesAreSpelt }
+{}
+
+/// A row is written against a reference in one way only.
+pub fn written_lines_are_unique()
+    ensures { WrittenLinesAreUnique }
+{}
+
+/// A row is written against a reference of its width in some way.
+pub fn rows_are_written()
+    ensures { RowsAreWritten }
 {}

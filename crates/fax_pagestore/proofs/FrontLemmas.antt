@@ -5,8 +5,8 @@ use Rattle.std.proofs.lemmas.Bool.{cases_lt, lt-ltb}
 use Rattle.fax_bits.specs.Reading.{Place, Passes}
 use Rattle.fax_bits.proofs.ReadingLemmas.{Passes-none, Passes-then}
 use Rattle.fax_bits.specs.Bits.{bit, word_bits}
-use Rattle.fax_pagestore.specs.declared.Coding.{Coding}
-use Rattle.fax_pagestore.specs.declared.Coding.TheVariants.{Mr}
+use Rattle.fax_runcodes.specs.declared.format.Coding.{Coding}
+use Rattle.fax_runcodes.specs.declared.format.Coding.TheVariants.{Mr}
 use Rattle.fax_pagestore.specs.PageTexts.{end_of_line, EndsWithEol, IsTag, IsSeparator, IsFront}
 use Rattle.fax_pagestore.specs.PageFaults.{LineBegins}
 

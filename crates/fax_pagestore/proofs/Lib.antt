@@ -8,3 +8,4 @@ pub mod TextLemmas
 pub mod WhiteLemmas
 pub mod WritingLemmas
 pub mod WrittenLemmas
+pub mod WrittenOnce

@@ -1,7 +1,7 @@
 -- The laws of pages: octets mean at most one page, and then meet no fault, and octets meet at most one.
 use Rattle.std.proofs.Common.{◌≡◌, ℕ, ◌<◌, ◌≤◌, Bool, true, List, ◌++◌, length, sym, ◌∙◌, subst, arith, inl, inr}
+use Rattle.fax_runcodes.specs.declared.format.Coding.{Coding}
 use Rattle.fax_runcodes.specs.Rows.{Elements, IsWidth}
-use Rattle.fax_pagestore.specs.declared.Coding.{Coding}
 use Rattle.fax_pagestore.specs.declared.fault.PageFault.{PageFault}
 use Rattle.fax_pagestore.specs.PageRows.{most_rows}
 use Rattle.fax_pagestore.specs.PageTexts.{ReadSoFar, MeansRows}

@@ -2,12 +2,12 @@
 use Rattle.std.proofs.Common.{◌≡◌, ℕ, zero, suc, ◌+◌, ◌<◌, ◌≤◌, Bool, true, false, List, [], ◌∷◌, ◌++◌, Option, Some, None, All, length, refl, sym, ◌∙◌, ap, ap₂, subst, arith, inl, inr, ◌⊎◌, append_assoc, append-nil, length-append}
 use Rattle.std.proofs.lemmas.List.{append_cancel_left}
 use Rattle.std.proofs.lemmas.List.Elements.{All-nil, All-cons}
+use Rattle.fax_runcodes.specs.declared.format.Coding.{Coding}
 use Rattle.fax_runcodes.specs.Rows.{Elements, IsWidth}
 use Rattle.fax_mhcode.proofs.LineLaws as mh_lines
 use Rattle.fax_mhcode.proofs.FaultLaws as mh_faults
 use Rattle.fax_mrcode.proofs.LineLaws as mr_lines
 use Rattle.fax_mrcode.proofs.FaultLaws as mr_faults
-use Rattle.fax_pagestore.specs.declared.Coding.{Coding}
 use Rattle.fax_pagestore.specs.declared.fault.PageFault.{PageFault}
 use Rattle.fax_pagestore.specs.declared.fault.PageFault.TheVariants.{NoEol, BadLine, NoRtc, Empty, TooManyRows, NoMemory}
 use Rattle.fax_pagestore.specs.PageRows.{most_rows}

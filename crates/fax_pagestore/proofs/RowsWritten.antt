@@ -6,8 +6,8 @@ use Rattle.std.proofs.Math.Seq.{drop-cons}
 use Rattle.std.proofs.lemmas.List.{drop_all}
 use Rattle.std.proofs.lemmas.Option.{get_or_from_slice_get}
 use Rattle.std.proofs.lemmas.List.Elements.{All-get_or}
+use Rattle.fax_runcodes.specs.declared.format.Coding.{Coding}
 use Rattle.fax_runcodes.specs.Rows.{Elements}
-use Rattle.fax_pagestore.specs.declared.Coding.{Coding}
 use Rattle.fax_pagestore.specs.PageTexts.{end_of_line}
 use Rattle.fax_pagestore.specs.WrittenPages.{is_one_dimensional, tag_bits, next_tag, fill, WritesRow, WritesRows}
 use Rattle.fax_pagestore.proofs.WrittenLemmas.{first_is_one_dimensional}

@@ -5,6 +5,8 @@ use Rattle.std.proofs.lemmas.List.{append_cancel_left, take-append-le, take_all}
 use Rattle.std.proofs.lemmas.List.Elements.{All-head}
 use Rattle.fax_runcodes.specs.declared.Colour.{Colour}
 use Rattle.fax_runcodes.specs.declared.Colour.TheVariants.{White, Black}
+use Rattle.fax_runcodes.specs.declared.format.Coding.{Coding}
+use Rattle.fax_runcodes.specs.declared.format.Coding.TheVariants.{Mh, Mr}
 use Rattle.fax_runcodes.specs.CodeTables.{Word, words, make_up_words, white_terminating, white_make_up, black_terminating, black_make_up, common_make_up}
 use Rattle.fax_runcodes.specs.Rows.{Elements, IsWidth}
 use Rattle.fax_runcodes.specs.Spelling.{SpellsRun, text_of}
@@ -17,8 +19,6 @@ use Rattle.fax_mrcode.specs.declared.mode.Offset.TheVariants.{Left3, Left2, Left
 use Rattle.fax_mrcode.specs.Modes.{mode_word}
 use Rattle.fax_mrcode.specs.Lines as mr
 use Rattle.fax_mrcode.proofs.LineLaws as mr_laws
-use Rattle.fax_pagestore.specs.declared.Coding.{Coding}
-use Rattle.fax_pagestore.specs.declared.Coding.TheVariants.{Mh, Mr}
 use Rattle.fax_pagestore.specs.PageTexts.{IsTag, IsSeparator, InARow, EndsWithEol, IsFront, SpellsRow}
 use Rattle.fax_pagestore.specs.PageFaults.{AreZeros, RunsOut, LineBegins, SeparatorBegins}
 

@@ -8,6 +8,7 @@ use Rattle.fax_bits.proofs.BitsLemmas.{word_bits-add, word_bits-mod}
 use Rattle.fax_bits.proofs.WindowLemmas.{word_of_window, padded-le}
 use Rattle.fax_runcodes.specs.declared.Colour.TheVariants.{White}
 use Rattle.fax_runcodes.specs.declared.Width.{Width}
+use Rattle.fax_runcodes.specs.declared.format.Coding.TheVariants.{Mh, Mr}
 use Rattle.fax_runcodes.specs.Rows.{Elements}
 use Rattle.fax_runcodes.specs.Widths.{elements_of}
 use Rattle.fax_runcodes.specs.Painted.{painted, AreRising}
@@ -20,7 +21,6 @@ use Rattle.fax_mrcode.specs.declared.mode.Offset.TheVariants.{Zero}
 use Rattle.fax_mrcode.specs.Places.{a1, b1}
 use Rattle.fax_mrcode.specs.Lines as mr
 use Rattle.fax_mrcode.proofs.ChangingPlaces.{a1-index, b1-index}
-use Rattle.fax_pagestore.specs.declared.Coding.TheVariants.{Mh, Mr}
 use Rattle.fax_pagestore.specs.PageTexts.{end_of_line, IsSeparator, SpellsRow}
 use Rattle.fax_pagestore.specs.PageFaults.{row_before}
 use Rattle.fax_pagestore.proofs.TextLemmas.{width_some, width_most}

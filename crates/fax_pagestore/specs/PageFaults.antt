@@ -1,12 +1,12 @@
 -- Where no page can be read, and why: the fault that is met first (this project's profile).
 use Rattle.std.specs.Prelude.{◌≡◌, ℕ, zero, suc, ◌<◌, ◌≤◌, ◌⊎◌, Bool, true, false, List, [], ◌∷◌, ◌++◌, Option, Some, None, length, replicate}
 use Rattle.fax_bits.specs.Bits.{bits_of}
+use Rattle.fax_runcodes.specs.declared.format.Coding.{Coding}
+use Rattle.fax_runcodes.specs.declared.format.Coding.TheVariants.{Mr}
 use Rattle.fax_runcodes.specs.Rows.{Elements}
 use Rattle.fax_mhcode.specs.LineFaults as mh
 use Rattle.fax_mrcode.specs.LineFaults as mr
 use Rattle.fax_mhcode.specs.declared.fault.LineFault.{LineFault}
-use Rattle.fax_pagestore.specs.declared.Coding.{Coding}
-use Rattle.fax_pagestore.specs.declared.Coding.TheVariants.{Mr}
 use Rattle.fax_pagestore.specs.declared.fault.PageFault.{PageFault}
 use Rattle.fax_pagestore.specs.declared.fault.PageFault.TheVariants.{NoEol, BadLine, NoRtc, Empty, TooManyRows, NoMemory}
 use Rattle.fax_pagestore.specs.PageRows.{most_rows}

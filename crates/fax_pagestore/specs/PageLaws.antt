@@ -1,8 +1,9 @@
 -- What holds of pages and their texts.
 use Rattle.std.specs.Prelude.{◌≡◌, ℕ, Bool, List}
+use Rattle.fax_bits.specs.Laws.{AreOctets}
 use Rattle.fax_bits.specs.Writing.{IsPadded}
+use Rattle.fax_runcodes.specs.declared.format.Coding.{Coding}
 use Rattle.fax_runcodes.specs.Rows.{Elements, IsWidth}
-use Rattle.fax_pagestore.specs.declared.Coding.{Coding}
 use Rattle.fax_pagestore.specs.declared.fault.PageFault.{PageFault}
 use Rattle.fax_pagestore.specs.PageRows.{AreRows}
 use Rattle.fax_pagestore.specs.PageTexts.{MeansRows}
@@ -28,3 +29,19 @@ FaultsAreUnique = (width : ℕ) (coding : Coding) (octets : List ℕ) (fault oth
 abbrev pub WrittenPagesMean : Type 0
 WrittenPagesMean = (width : ℕ) (coding : Coding) (fine : Bool) (least : ℕ) (rows : List Elements) (text : List Bool) (octets : List ℕ) → IsWidth width
     → AreRows width rows → WritesPage coding fine least rows text → IsPadded octets text → MeansRows width coding octets rows
+
+-- a page is written as one text only
+abbrev pub WrittenPagesAreUnique : Type 0
+WrittenPagesAreUnique = (width : ℕ) (coding : Coding) (fine : Bool) (least : ℕ) (rows : List Elements) (text other : List Bool) → IsWidth width → AreRows width rows
+    → WritesPage coding fine least rows text → WritesPage coding fine least rows other → text ≡ other
+
+-- a page is written as some text
+abbrev pub PagesAreWritten : Type 0
+PagesAreWritten = (width : ℕ) (coding : Coding) (fine : Bool) (least : ℕ) (rows : List Elements) → AreRows width rows
+    → (text : List Bool) × WritesPage coding fine least rows text
+
+-- octets that hold the written text of one page, with fewer than eight zeros behind it, are the same
+abbrev pub WrittenOctetsAreUnique : Type 0
+WrittenOctetsAreUnique = (width : ℕ) (coding : Coding) (fine : Bool) (least : ℕ) (rows : List Elements) (text other : List Bool) (a b : List ℕ) → IsWidth width
+    → AreRows width rows → WritesPage coding fine least rows text → WritesPage coding fine least rows other
+    → AreOctets a → AreOctets b → IsPadded a text → IsPadded b other → a ≡ b

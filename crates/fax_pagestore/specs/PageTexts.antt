@@ -1,13 +1,13 @@
 -- What octets mean as a page (ITU-T T.4, 4.1.2 to 4.1.4 and 4.2.2 to 4.2.4).
 use Rattle.std.specs.Prelude.{◌≡◌, ℕ, zero, suc, ◌<◌, ◌≤◌, Bool, true, false, List, [], ◌∷◌, ◌++◌, Option, Some, None, length, replicate, take}
 use Rattle.fax_bits.specs.Bits.{bits_of}
+use Rattle.fax_runcodes.specs.declared.format.Coding.{Coding}
+use Rattle.fax_runcodes.specs.declared.format.Coding.TheVariants.{Mh, Mr}
+use Rattle.fax_runcodes.specs.declared.format.Format.{Format}
 use Rattle.fax_runcodes.specs.Rows.{Elements}
 use Rattle.fax_runcodes.specs.Widths.{elements_of}
 use Rattle.fax_mhcode.specs.Lines as mh
 use Rattle.fax_mrcode.specs.Lines as mr
-use Rattle.fax_pagestore.specs.declared.Coding.{Coding}
-use Rattle.fax_pagestore.specs.declared.Coding.TheVariants.{Mh, Mr}
-use Rattle.fax_pagestore.specs.declared.Format.{Format}
 use Rattle.fax_pagestore.specs.PageRows.{AreRows}
 use Rattle.fax_pagestore.specs.Pages.{PageValue}
 

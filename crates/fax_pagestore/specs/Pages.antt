@@ -1,8 +1,8 @@
 -- Pages: a format, and rows of its width.
 use Rattle.std.specs.Prelude.{List}
+use Rattle.fax_runcodes.specs.declared.format.Format.{Format}
 use Rattle.fax_runcodes.specs.Rows.{Elements}
 use Rattle.fax_runcodes.specs.Widths.{elements_of}
-use Rattle.fax_pagestore.specs.declared.Format.{Format}
 use Rattle.fax_pagestore.specs.PageRows.{AreRows}
 
 -- a page as it is meant: its format and its rows

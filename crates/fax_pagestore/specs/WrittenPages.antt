@@ -1,10 +1,10 @@
 -- The text in which a page is written (ITU-T T.4, 4.1.2 to 4.1.4 and 4.2.2 to 4.2.4).
 use Rattle.std.specs.Prelude.{◌≡◌, ℕ, zero, suc, ◌+◌, ◌-◌, ◌%◌, ◌==◌, Bool, true, false, if◌then◌else◌, List, [], ◌∷◌, ◌++◌, Option, Some, None, length, replicate}
+use Rattle.fax_runcodes.specs.declared.format.Coding.{Coding}
+use Rattle.fax_runcodes.specs.declared.format.Coding.TheVariants.{Mh, Mr}
 use Rattle.fax_runcodes.specs.Rows.{Elements}
 use Rattle.fax_mhcode.specs.Lines as mh
 use Rattle.fax_mrcode.specs.Written as mr
-use Rattle.fax_pagestore.specs.declared.Coding.{Coding}
-use Rattle.fax_pagestore.specs.declared.Coding.TheVariants.{Mh, Mr}
 use Rattle.fax_pagestore.specs.PageTexts.{end_of_line}
 
 -- T.4's parameter K: of so many lines in a row the first is one-dimensional

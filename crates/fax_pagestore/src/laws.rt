@@ -1,5 +1,5 @@
 //! Laws of the definitions: functions that do nothing, each of whose contracts is a theorem.
-ghost use Rattle.fax_pagestore.specs.PageLaws.{PagesAreUnique, PagesDontFail, FaultsAreUnique, WrittenPagesMean};
+ghost use Rattle.fax_pagestore.specs.PageLaws.{PagesAreUnique, PagesDontFail, FaultsAreUnique, WrittenPagesMean, WrittenPagesAreUnique, PagesAreWritten, WrittenOctetsAreUnique};
 
 /// Octets mean at most one page.
 pub fn pages_are_unique()
@@ -19,4 +19,19 @@ pub fn faults_are_unique()
 /// The text in which a page is written means the page.
 pub fn written_pages_mean()
     ensures { WrittenPagesMean }
+{}
+
+/// A page is written as one text only.
+pub fn written_pages_are_unique()
+    ensures { WrittenPagesAreUnique }
+{}
+
+/// A page is written as some text.
+pub fn pages_are_written()
+    ensures { PagesAreWritten }
+{}
+
+/// Octets that hold the written text of one page, padded, are the same.
+pub fn written_octets_are_unique()
+    ensures { WrittenOctetsAreUnique }
 {}

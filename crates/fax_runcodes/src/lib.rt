@@ -1,7 +1,8 @@
-//! The code words of ITU-T T.4, the runs that they spell, and the rows of a page.
+//! The code words of ITU-T T.4, the runs that they spell, the rows of a page, and its format and coding.
 #![tactic(auto)]
 
 mod fault;
+mod format;
 pub mod laws;
 mod pair;
 mod row;
@@ -10,6 +11,7 @@ mod tables;
 mod writing;
 
 pub use fault::{RowFault, RunFault};
+pub use format::{Coding, Format};
 pub use pair::pair_at;
 pub use row::{Row, RowBuilder, RowRef, Runs};
 pub use run::{LONGEST_WRITTEN_RUN, read_run, word_at, write_run};

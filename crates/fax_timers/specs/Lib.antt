@@ -1,1 +1,4 @@
+pub mod Laws
 pub mod Moments
+pub mod Paces
+pub mod Spans

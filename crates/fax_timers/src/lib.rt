@@ -1,13 +1,18 @@
-//! A clock that never goes back, and timers. Moments and spans are milliseconds.
+//! A clock that never goes back, timers, and the pace of a leg. Moments and spans are milliseconds.
 //!
 //! Time comes in as numbers: nothing here asks the system for it. The timers themselves are those of
 //! ITU-T T.30, 5.4.3.
 #![tactic(auto)]
 
 mod clock;
+pub mod laws;
+mod pace;
+mod spans;
 #[cfg(test)]
 mod tests;
 mod timer;
 
 pub use clock::Clock;
+pub use pace::Pace;
+pub use spans::{PACE_MS, T1_MS, T2_MS, T4_MS};
 pub use timer::Timer;

@@ -1,5 +1,5 @@
 //! Moments of a call, and the end of the range.
-use crate::{Clock, Timer};
+use crate::{Clock, Pace, T1_MS, T2_MS, T4_MS, Timer};
 
 #[test]
 fn clocks_never_go_back(rt: HostRuntime) {
@@ -22,7 +22,7 @@ fn timers_fall_due(rt: HostRuntime) {
     let mut timer = Timer::new();
     assert!(rt; !timer.due(0));
     assert!(rt; !timer.due(u64::MAX));
-    timer.set(1000, 6000);
+    timer.set(1000, T2_MS);
     for (now, due) in [
         (0, false),
         (1000, false),
@@ -32,9 +32,12 @@ fn timers_fall_due(rt: HostRuntime) {
     ] {
         assert_eq!(rt; timer.due(now), due);
     }
-    timer.set(7000, 3000);
+    timer.set(7000, T4_MS);
     assert!(rt; !timer.due(9999));
     assert!(rt; timer.due(10_000));
+    timer.set(10_000, T1_MS);
+    assert!(rt; !timer.due(44_999));
+    assert!(rt; timer.due(45_000));
     timer.clear();
     assert!(rt; !timer.due(u64::MAX));
 }
@@ -47,4 +50,27 @@ fn moments_stop_at_the_last_one(rt: HostRuntime) {
     assert!(rt; timer.due(u64::MAX));
     timer.set(0, 0);
     assert!(rt; timer.due(0));
+}
+
+#[test]
+fn packets_are_40_milliseconds_apart(rt: HostRuntime) {
+    let mut pace = Pace::new();
+    assert!(rt; pace.allows(0));
+    assert!(rt; pace.allows(u64::MAX));
+    pace.given(1000);
+    for (now, allowed) in [
+        (0, false),
+        (1000, false),
+        (1039, false),
+        (1040, true),
+        (u64::MAX, true),
+    ] {
+        assert_eq!(rt; pace.allows(now), allowed);
+    }
+    pace.given(u64::MAX - 40);
+    assert!(rt; !pace.allows(u64::MAX - 1));
+    assert!(rt; pace.allows(u64::MAX));
+    pace.given(u64::MAX - 39);
+    assert!(rt; !pace.allows(0));
+    assert!(rt; !pace.allows(u64::MAX));
 }

@@ -1,6 +1,6 @@
 //! Timers.
 ghost use Rattle.std.specs.Prelude.{Option, None, Some, ◌≡◌, ◌↔◌, IsTrue};
-ghost use Rattle.fax_timers.specs.Moments.{moment_after, IsDue};
+ghost use Rattle.fax_timers.specs.Moments.{moment_after, is_due, IsDue};
 
 use std::marker::Model;
 
@@ -45,7 +45,8 @@ impl Timer {
 
     /// Whether the timer is set and its moment has come.
     pub fn due(&self, now: u64) -> bool
-        ensures { IsTrue result ↔ IsDue self.now now }
+        ensures due { IsTrue result ↔ IsDue self.now now }
+        ensures test { result ≡ is_due self.now now }
     {
         self.moment.is_some_and(|moment| moment <= now)
     }

@@ -1,7 +1,7 @@
 use Rattle.std.proofs.Common.{◌≡◌, ℕ, inr, subst}
 use Rattle.std.proofs.lemmas.Result.{err_from_is_err_and}
+use Rattle.fax_runcodes.specs.declared.format.Coding.{Coding}
 use Rattle.fax_runcodes.specs.Widths.{elements_of}
-use Rattle.fax_pagestore.specs.declared.Coding.{Coding}
 use Rattle.fax_c.specs.declared.outcome.Refusal.TheVariants.{Page}
 use Rattle.fax_c.specs.Calls.{RefusesText, coding_by}
 use Rattle.fax_c.proofs.RunsLemmas.{RefusesText-page}
