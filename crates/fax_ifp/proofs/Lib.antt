@@ -1,5 +1,6 @@
 pub mod FieldsLemmas
 pub mod FirstLemmas
+pub mod ImageLaws
 pub mod ReadBackLemmas
 pub mod ReadingLemmas
 pub mod SeenLemmas

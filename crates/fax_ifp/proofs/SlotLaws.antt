@@ -1,10 +1,12 @@
 -- Laws of the pieces of slots.
-use Rattle.std.proofs.Common.{◌≡◌, ℕ, List, [], ◌∷◌, ◌++◌, reverse, Option, Some, refl, sym, ◌∙◌, ap, append_assoc}
+use Rattle.std.proofs.Common.{◌≡◌, ℕ, zero, suc, ◌<◌, Bool, true, false, not, ◌||◌, List, [], ◌∷◌, ◌++◌, reverse, replicate, Option, Some, None, if◌then◌else◌, refl, sym, ◌∙◌, ap, append_assoc, arith}
+use Rattle.std.specs.List.{list_any, list_all}
 use Rattle.std.proofs.lemmas.List.{append-nil}
-use Rattle.fax_ifp.specs.Elements.{Slot, Element, elements, elements_of, elements_in}
-use Rattle.fax_ifp.specs.Pieces.{Piece, Image, pieces_of, pieces_at}
-use Rattle.fax_ifp.specs.SignalLaws.{PiecesGoOn, ExtensionsSayNothing, TrackedIsUnique}
-use Rattle.fax_ifp.specs.Tracked.{Tracked}
+use Rattle.fax_ifp.specs.Elements.{Slot, Element, Missing, elements, elements_of, elements_in}
+use Rattle.fax_ifp.specs.Hearing.{spoilt}
+use Rattle.fax_ifp.specs.Pieces.{Piece, Gap, Image, Since, is_training, kind_of_training, is_image_end, is_image_octets, is_image_part, since_indicator, image_since, with_later, pieces, pieces_of, pieces_at}
+use Rattle.fax_ifp.specs.SignalLaws.{PiecesGoOn, LostSlotsAreGaps, ExtensionsSayNothing, TrackedIsUnique}
+use Rattle.fax_ifp.specs.Tracked.{Tracked, IsTracked, lost_slots}
 
 -- elements that come later add pieces behind
 go_on : (later before : List Element) → (more : List Piece) × (pieces_of (later ++ before) ≡ pieces_of before ++ more)
@@ -34,3 +36,47 @@ same_parts f g i j same_frame same_image = ap (λ (x : Option (List ℕ)). let a
 
 pub tracked_is_unique : TrackedIsUnique
 tracked_is_unique slots a b left right = same_parts a.frame b.frame a.image b.image (left.frame ∙ sym right.frame) (left.image ∙ sym right.image)
+
+-- one more at the end is one more
+replicate_last : (count : ℕ) (piece : Piece) → replicate count piece ++ piece ∷ [] ≡ replicate (suc count) piece
+replicate_last zero piece = refl
+replicate_last (suc count) piece = ap (λ (ps : List Piece). piece ∷ ps) (replicate_last count piece)
+
+-- lost slots behind one another
+pub lost_slots_are_gaps : LostSlotsAreGaps
+lost_slots_are_gaps zero before = sym (append-nil (pieces before))
+lost_slots_are_gaps (suc count) before =
+    ap (λ (ps : List Piece). ps ++ Gap ∷ []) (lost_slots_are_gaps count before)
+    ∙ append_assoc (pieces before) (replicate count Gap) (Gap ∷ []) ∙ ap (λ (ps : List Piece). pieces before ++ ps) (replicate_last count Gap)
+
+-- an image that something is missing in is not whole
+missing_spoils : (since : Option Since) → image_since (with_later Missing since) ≡ spoilt (image_since since)
+missing_spoils None = refl
+missing_spoils (Some since) = by (not (is_training since.code) || list_any (is_image_end kind) since.later)
+  where
+    kind : ℕ
+    kind = kind_of_training since.code
+
+    image_if : Bool → Bool → Option Image
+    image_if closed whole = if closed then None else Some (record { kind = kind; started = list_any (is_image_octets kind) since.later; whole = whole })
+
+    by : (closed : Bool) → image_if closed false ≡ spoilt (image_if closed (list_all (is_image_part kind) since.later))
+    by true = refl
+    by false = refl
+
+spoilt_once : (image : Option Image) → spoilt (spoilt image) ≡ spoilt image
+spoilt_once None = refl
+spoilt_once (Some image) = refl
+
+-- what lost slots leave, one at least
+pub lost_slots_leave : (count : ℕ) (before : List Slot) (tracked : Tracked) → 0 < count → IsTracked before tracked
+    → IsTracked (lost_slots count ++ before) (record { frame = None; image = spoilt tracked.image })
+lost_slots_leave zero before tracked some left = absurd (omega (arith, some))
+lost_slots_leave (suc zero) before tracked some left =
+    record { frame = refl; image = ap spoilt left.image ∙ sym (missing_spoils (since_indicator (elements before))) }
+lost_slots_leave (suc (suc count)) before tracked some left =
+    let one_less = lost_slots_leave (suc count) before tracked (omega arith) left in
+    record {
+      frame = refl;
+      image = sym (spoilt_once tracked.image) ∙ ap spoilt one_less.image ∙ sym (missing_spoils (since_indicator (elements (lost_slots (suc count) ++ before))));
+    }

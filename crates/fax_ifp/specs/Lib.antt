@@ -2,6 +2,7 @@ pub mod Content
 pub mod Elements
 pub mod FaultNumbers
 pub mod Hearing
+pub mod ImageOctets
 pub mod PacketLaws
 pub mod Packets
 pub mod Pieces

@@ -1,5 +1,5 @@
 -- What is kept of the slots of a call.
-use Rattle.std.specs.Prelude.{◌≡◌, ℕ, ◌≤◌, nat_le, List, ◌∷◌, ◌++◌, length, Option, Some, None, Result, Ok, ⊤, if◌then◌else◌}
+use Rattle.std.specs.Prelude.{◌≡◌, ℕ, ◌≤◌, nat_le, List, ◌∷◌, ◌++◌, length, replicate, Option, Some, None, Result, Ok, ⊤, if◌then◌else◌}
 use Rattle.fax_ifp.specs.declared.fault.IfpFault.{IfpFault}
 use Rattle.fax_ifp.specs.Packets.{Packet, Message, packet_of}
 use Rattle.fax_ifp.specs.Elements.{Slot, Element, elements}
@@ -32,6 +32,18 @@ Tracks slot old new = (before : List Slot) → IsTracked before old → IsTracke
 -- whatever slots left this, the slot behind them adds these pieces to theirs
 abbrev pub Gives : Slot → Tracked → List Piece → Type 0
 Gives slot old given = (before : List Slot) → IsTracked before old → pieces (slot ∷ before) ≡ pieces before ++ given
+
+-- so many lost slots in a row
+abbrev pub lost_slots : ℕ → List Slot
+lost_slots count = replicate count None
+
+-- whatever slots left the old, with these behind them they leave the new
+abbrev pub TracksRun : List Slot → Tracked → Tracked → Type 0
+TracksRun later old new = (before : List Slot) → IsTracked before old → IsTracked (later ++ before) new
+
+-- whatever slots left this, these behind them add these pieces to theirs
+abbrev pub GivesRun : List Slot → Tracked → List Piece → Type 0
+GivesRun later old given = (before : List Slot) → IsTracked before old → pieces (later ++ before) ≡ pieces before ++ given
 
 -- it is no message of more than four fields
 abbrev pub HasFewFields : Result Packet IfpFault → Type 0

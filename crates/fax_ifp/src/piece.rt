@@ -1,5 +1,5 @@
 //! Slots of a call, and the pieces that they give.
-ghost use Rattle.std.specs.Prelude.{◌≡◌};
+ghost use Rattle.std.specs.Prelude.{◌≡◌, []};
 
 use fax_frames::FrameBytes;
 use smallvec::SmallVec;
@@ -41,10 +41,10 @@ impl<'a> MadeWith<Global> for Piece<'a> {
 /// Pieces in a list that grows. Five of them take no memory: one of each of four fields, and an image's end.
 pub(crate) type PieceList<'a> = SmallVec<Piece<'a>, 5>;
 
-/// The pieces of a slot, in the order of time.
+/// The pieces of a slot, in the order of time. It keeps its room from one slot to the next.
 #[derive(Drop)]
 pub struct Pieces<'a> {
-    list: PieceList<'a>,
+    pub(crate) list: PieceList<'a>,
 }
 
 impl<'a> Model for Pieces<'a> {
@@ -60,10 +60,13 @@ impl<'a> Model for Pieces<'a> {
 impl<'a> Pieces<'a> {
     ghost use Rattle.fax_ifp.specs.Shown.{pieces_shown};
 
-    pub(crate) fn from_list(list: PieceList<'a>) -> Self
-        ensures { result ≡ pieces_shown list.entry.items }
+    /// No pieces. It takes no memory.
+    pub fn new(alloc: Global) -> Self
+        ensures { result ≡ [] }
     {
-        Pieces { list }
+        Pieces {
+            list: SmallVec::new(alloc),
+        }
     }
 
     /// The pieces in order.

@@ -1,11 +1,11 @@
 //! The frames and images of a call's slots.
-ghost use Rattle.std.specs.Prelude.{◌≡◌, ◌≢◌, ◌↔◌, ◌+◌, ◌≤◌, [], ◌∷◌, ◌++◌, map, length, None, Some, IsOk, IsErr, IfOk, OnOk, OnErr};
+ghost use Rattle.std.specs.Prelude.{◌≡◌, ◌≢◌, ◌↔◌, ◌+◌, ◌≤◌, [], ◌∷◌, ◌++◌, map, length, replicate, None, Some, IsOk, IsErr, IfOk, OnOk, OnErr};
 ghost use Rattle.smallvec.specs.SmallVec.{small_vec_len, HasRoomFor};
 ghost use Rattle.fax_ifp.specs.Packets.{packet_of};
 ghost use Rattle.fax_ifp.specs.Seen.{text_of, texts_of};
 ghost use Rattle.fax_ifp.specs.Elements.{Missing, Signal, Field as FieldElement, element_of, elements_in, elements_of};
-ghost use Rattle.fax_ifp.specs.Pieces.{end_before, kind_of_training as kind_shown};
-ghost use Rattle.fax_ifp.specs.Tracked.{IsTracked, Tracks, Gives, HasFewFields, TakesNoMemory};
+ghost use Rattle.fax_ifp.specs.Pieces.{Gap, end_before, kind_of_training as kind_shown};
+ghost use Rattle.fax_ifp.specs.Tracked.{IsTracked, Tracks, Gives, lost_slots, TracksRun, GivesRun, HasFewFields, TakesNoMemory};
 ghost use Rattle.fax_ifp.specs.Hearing.{Hears, images_in, spoilt};
 ghost use Rattle.fax_ifp.specs.Shown.{slot_of, pieces_shown};
 
@@ -13,7 +13,6 @@ use crate::frame::FrameSoFar;
 use crate::piece::PieceList;
 use crate::{Field, Head, Ifp, IfpFault, Piece, Pieces, Slot, data_type, field_type, indicator};
 use fax_bits::NoMemory;
-use smallvec::SmallVec;
 use std::alloc::Global;
 use std::marker::Model;
 
@@ -81,9 +80,35 @@ impl Signals {
         ensures err { OnErr result (self.new ≡ self.old) }
         ensures memory { TakesNoMemory (slot_of slot.entry) → IsOk result }
     {
-        let mut pieces = SmallVec::new(self.alloc);
-        self.take(slot, &mut pieces)?;
-        Ok(Pieces::from_list(pieces))
+        let mut pieces = Pieces::new(self.alloc);
+        self.slot_into(slot, &mut pieces)?;
+        Ok(pieces)
+    }
+
+    /// Takes the next slot as [`Signals::slot`] does. Its pieces take the place of those that were in the
+    /// list, whose room is kept. An `Err` changes nothing but the list, in which no piece is left.
+    pub fn slot_into<'a>(&mut self, slot: Slot<'a>, pieces: &mut Pieces<'a>) -> Result<(), NoMemory>
+        ensures tracked { OnOk result (Tracks (slot_of slot.entry) self.old self.new) }
+        ensures pieces { OnOk result (Gives (slot_of slot.entry) self.old pieces.new) }
+        ensures err { OnErr result (self.new ≡ self.old) }
+        ensures none { OnErr result (pieces.new ≡ []) }
+        ensures memory { TakesNoMemory (slot_of slot.entry) → IsOk result }
+    {
+        let list = &mut pieces.list;
+        list.clear();
+        prove!(list.capacity() >= 5);
+        self.take(slot, list)
+    }
+
+    /// Takes so many lost slots in a row, each of which gives a gap and nothing else. It takes no memory,
+    /// and its time is the same for every count.
+    pub fn lose(&mut self, count: u16)
+        ensures tracked { TracksRun (lost_slots count) self.old self.new }
+        ensures pieces { GivesRun (lost_slots count) self.old (replicate count Gap) }
+    {
+        if count > 0 {
+            self.spoil();
+        }
     }
 
     /// The next slot. An `Err` changes nothing.
@@ -92,6 +117,7 @@ impl Signals {
         ensures given { OnOk result (Hears (elements_of (slot_of slot.entry))
             (self.old, pieces_shown pieces.old.items) (self.new, pieces_shown pieces.new.items)) }
         ensures err { OnErr result (self.new ≡ self.old) }
+        ensures kept { OnErr result (pieces.new ≡ pieces.old) }
         ensures memory { TakesNoMemory (slot_of slot.entry) → IsOk result }
     {
         match slot {
@@ -109,6 +135,7 @@ impl Signals {
         ensures given { OnOk result (Hears (elements_in (packet_of octets.entry.now))
             (self.old, pieces_shown pieces.old.items) (self.new, pieces_shown pieces.new.items)) }
         ensures err { OnErr result (self.new ≡ self.old) }
+        ensures kept { OnErr result (pieces.new ≡ pieces.old) }
         ensures memory { TakesNoMemory (Some octets.entry.now) → IsOk result }
     {
         match Ifp::read(self.alloc, octets) {
@@ -123,6 +150,7 @@ impl Signals {
         ensures given { OnOk result (Hears (elements_in (Err fault))
             (self.old, pieces_shown pieces.old.items) (self.new, pieces_shown pieces.new.items)) }
         ensures err { OnErr result (self.new ≡ self.old) }
+        ensures kept { OnErr result (pieces.new ≡ pieces.old) }
         ensures memory { IsErr result ↔ (fault ≡ IfpFault.NoMemory) }
     {
         if fault == IfpFault::NoMemory {
@@ -140,6 +168,7 @@ impl Signals {
         ensures given { OnOk result (Hears (elements_in (Ok packet.now))
             (self.old, pieces_shown pieces.old.items) (self.new, pieces_shown pieces.new.items)) }
         ensures err { OnErr result (self.new ≡ self.old) }
+        ensures kept { OnErr result (pieces.new ≡ pieces.old) }
         ensures memory { HasFewFields (Ok packet.now) → IsOk result }
     {
         match packet.head() {
@@ -250,6 +279,13 @@ impl Signals {
             (self.old, pieces_shown pieces.old.items) (self.new, pieces_shown pieces.new.items) }
     {
         pieces.push_reserved(Piece::Gap);
+        self.spoil();
+    }
+
+    /// The open frame is none, and the open image is not whole.
+    fn spoil(&mut self)
+        ensures { self.new ≡ record { frame = None; image = spoilt self.old.image } }
+    {
         self.frame.lose();
         self.spoil_image();
     }

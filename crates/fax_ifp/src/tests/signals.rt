@@ -390,3 +390,84 @@ fn copies_go_their_own_way(rt: HostRuntime) -> Result<(), Fail> {
     expect_next(&rt, &mut signals, LAST_PART, &end)?;
     Ok(())
 }
+
+/// Fails unless the slots give the pieces, all put into one list.
+fn expect_in_one_list<'a>(
+    rt: &impl Abort,
+    alloc: Global,
+    slots: &[Slot<'a>],
+    told: &[&[Told<'_>]],
+) -> Result<(), NoMemory> {
+    let mut signals = Signals::new(alloc);
+    let mut pieces = Pieces::new(alloc);
+    assert!(rt; pieces.as_slice().is_empty());
+    for (slot, told) in slots.iter().zip(told) {
+        signals.slot_into(*slot, &mut pieces)?;
+        let place = expect_pieces(rt, &pieces, told, 0);
+        assert_eq!(rt; place, told.len(), "at {slot:?}");
+    }
+    Ok(())
+}
+
+#[test]
+fn puts_pieces_into_one_list(rt: HostRuntime) -> Result<(), Fail> {
+    let slots = [
+        HEAD,
+        TAIL,
+        TRAINING,
+        WHOLE_PAGE,
+        Slot::Lost,
+        EXTENSION,
+        OTHER_TRAINING,
+    ];
+    let told: [&[Told<'_>]; 7] = [
+        &[],
+        &[Told::Frame(&[0xff, 0xc8, 0x21])],
+        &[Told::Start(1)],
+        &[Told::Octets(PAGE), Told::End(true)],
+        &[Told::Gap],
+        &[],
+        &[Told::Start(2)],
+    ];
+    expect_in_one_list(&rt, rt.alloc(), &slots, &told)?;
+    Ok(())
+}
+
+/// Fails unless slots are lost between the parts of a frame and between those of an image.
+fn expect_lost(rt: &impl Abort, signals: &mut Signals) -> Result<(), NoMemory> {
+    expect_next(rt, signals, TAIL, &[])?;
+    let end = [Told::Octets(&[0xdd]), Told::End(false)];
+    expect_next(rt, signals, LAST_PART, &end)
+}
+
+#[test]
+fn loses_slots_in_a_row(rt: HostRuntime) -> Result<(), Fail> {
+    let mut begun = Signals::new(rt.alloc());
+    for slot in [TRAINING, FIRST_PART, HEAD] {
+        let _ = begun.slot(slot)?;
+    }
+    // three one by one, three at once, and the most that one datagram tells
+    let mut one_by_one = begun.copy();
+    for _ in 0..3 {
+        expect_next(&rt, &mut one_by_one, Slot::Lost, &[Told::Gap])?;
+    }
+    expect_lost(&rt, &mut one_by_one)?;
+    for count in [3, 32_767] {
+        let mut signals = begun.copy();
+        signals.lose(count);
+        expect_lost(&rt, &mut signals)?;
+    }
+    Ok(())
+}
+
+#[test]
+fn counts_lost_slots_from_one(rt: HostRuntime) -> Result<(), Fail> {
+    for (count, whole) in [(0, true), (1, false)] {
+        let mut signals = Signals::new(rt.alloc());
+        expect_next(&rt, &mut signals, TRAINING, &[Told::Start(1)])?;
+        signals.lose(count);
+        let told = [Told::Octets(PAGE), Told::End(whole)];
+        expect_next(&rt, &mut signals, WHOLE_PAGE, &told)?;
+    }
+    Ok(())
+}
