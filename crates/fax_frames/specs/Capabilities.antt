@@ -8,10 +8,11 @@ use Rattle.fax_runcodes.specs.declared.format.Coding.TheVariants.{Mh, Mr}
 use Rattle.fax_runcodes.specs.Widths.{elements_of}
 use Rattle.fax_frames.specs.declared.rate.Rate.{Rate}
 use Rattle.fax_frames.specs.declared.rate.Rate.TheVariants.{V27At2400, V27At4800, V29At7200, V29At9600, V17At7200, V17At9600, V17At12000, V17At14400}
+use Rattle.fax_frames.specs.declared.dis.Dis.{Dis}
 use Rattle.fax_frames.specs.declared.dcs.Dcs.{Dcs}
 use Rattle.fax_frames.specs.declared.dcs.Length.{Length}
 use Rattle.fax_frames.specs.declared.dcs.Length.TheVariants.{A4, A4AndB4, Unlimited}
-use Rattle.fax_frames.specs.FieldBits.{code_at, look_up}
+use Rattle.fax_frames.specs.FieldBits.{bits_of_octets, code_at, look_up}
 use Rattle.fax_frames.specs.Rates.{bits_a_second}
 
 -- bits 11 to 14 of a DIS: the rates, the fastest of a modulation first, in the order in which they are
@@ -125,3 +126,7 @@ coding_of dcs = if dcs.two_d then Mr else Mh
 
 abbrev pub least_bits_of : Dcs → ℕ
 least_bits_of dcs = bits_a_second dcs.rate * dcs.scan_ms / 1000
+
+-- our own DIS, of the octets 00 77 5E (own)
+abbrev pub our_dis : Dis
+our_dis = record { caps = record { 0 = bits_of_octets 0x00 0x77 0x5E } }

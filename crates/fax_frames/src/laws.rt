@@ -1,6 +1,7 @@
 //! Laws of the definitions: functions that do nothing, each of whose contracts is a theorem.
 ghost use Rattle.std.specs.Prelude.{◌≡◌, [], ◌∷◌};
 ghost use Rattle.fax_frames.specs.FieldBits.{octets_of};
+ghost use Rattle.fax_frames.specs.Capabilities.{our_dis};
 ghost use Rattle.fax_frames.specs.Laws.{masks_of, WrittenDcsAreRead, WrittenDisAreRead, WrittenDisAreThemselves, ReadDisHas24Bits, WrittenPlainAreRead, DisBitsStandInOrder, BitsStandInOrder, CodesAreSpelt};
 
 use crate::dis::{Caps, OUR_DIS};
@@ -18,9 +19,11 @@ pub fn caps_are_bits()
     ensures extend { Caps.EXTEND.0 ∷ [] ≡ masks_of (24 ∷ []) }
 {}
 
-/// The octets of our own DIS are `00 77 5E` (this project's profile).
+/// The octets of our own DIS are `00 77 5E` (this project's profile), and it has no other bits.
 pub fn our_dis_has_its_octets()
-    ensures { octets_of OUR_DIS.caps.0 ≡ 0x00 ∷ 0x77 ∷ 0x5E ∷ [] }
+    ensures octets { octets_of OUR_DIS.caps.0 ≡ 0x00 ∷ 0x77 ∷ 0x5E ∷ [] }
+    ensures number { OUR_DIS.caps.0 ≡ 0x00_77_5E }
+    ensures named { OUR_DIS ≡ our_dis }
 {}
 
 /// A written DCS is read with the rate, format, coding and least time of a line that it was written with.

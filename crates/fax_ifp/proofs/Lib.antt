@@ -1,3 +1,4 @@
+pub mod CodesLemmas
 pub mod FieldsLemmas
 pub mod FirstLemmas
 pub mod ImageLaws

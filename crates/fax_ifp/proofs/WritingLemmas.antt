@@ -9,7 +9,8 @@ use Rattle.fax_ifp.specs.declared.packet.Field.{Field}
 use Rattle.fax_ifp.specs.Packets.{FieldText}
 use Rattle.fax_ifp.specs.Seen.{text_of, texts_of}
 use Rattle.fax_ifp.specs.Waiting.{waiting, added}
-use Rattle.fax_ifp.specs.WrittenPackets.{four_bits, counted, written_behind, IsWritableField}
+use Rattle.fax_ifp.specs.PacketLaws.{IndicatorsHaveOneOctet, FramesHaveSixMore, ImagesHaveFiveMore}
+use Rattle.fax_ifp.specs.WrittenPackets.{four_bits, counted, written_behind, written_fields, IsWritableField}
 
 -- field i
 abbrev pub field_of_index : List Field → ℕ → Field
@@ -85,3 +86,22 @@ text_more a b c d e h k = append_assoc a c d ∙ ap (λ (x : List ℕ). a ++ x) 
 pub text_room : (a b c d e f : List ℕ) → a ++ b ≡ e ++ f → b ≡ c ++ d → length a + length c ≤ length e + length f
 text_room a b c d e f h k =
     omega (arith, ap length h, length-append a b, length-append e f, ap length k, length-append c d)
+
+-- how long packets are, whatever the types of their fields
+pub frame_octets : (what end : ℕ) (frame : List ℕ) →
+    length (written_fields (record { what = what; octets = Some frame } ∷ record { what = end; octets = None } ∷ [])) ≡ 4 + length frame
+unfolding written_behind
+frame_octets what end frame = omega (arith, length-append frame (16 * end ∷ []))
+
+pub image_octets : (what : ℕ) (own : List ℕ) → length (written_fields (record { what = what; octets = Some own } ∷ [])) ≡ 3 + length own
+unfolding written_behind
+image_octets what own = omega (arith, length-append own [])
+
+pub indicator_length : IndicatorsHaveOneOctet
+indicator_length code = refl
+
+pub frame_length : FramesHaveSixMore
+frame_length frame = omega (arith, frame_octets 0 4 frame)
+
+pub image_length : ImagesHaveFiveMore
+image_length kind last octets = omega (arith, image_octets (if last then 7 else 6) octets)

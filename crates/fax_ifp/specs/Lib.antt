@@ -1,3 +1,5 @@
+pub mod CodeLaws
+pub mod Codes
 pub mod Content
 pub mod Elements
 pub mod FaultNumbers

@@ -1,77 +1,158 @@
 //! The numbers that packets have for what they tell (ITU-T T.38 of 1998).
+ghost use Rattle.std.specs.Prelude.{◌≡◌};
 
-/// Indicators.
-pub mod indicator {
-    pub const NO_SIGNAL: u8 = 0;
-
-    pub const CNG: u8 = 1;
-
-    pub const CED: u8 = 2;
-
-    pub const V21_PREAMBLE: u8 = 3;
-    /// This and those above it begin a high-speed signal.
-    pub const V27_2400_TRAINING: u8 = 4;
-
-    pub const V27_4800_TRAINING: u8 = 5;
-
-    pub const V29_7200_TRAINING: u8 = 6;
-
-    pub const V29_9600_TRAINING: u8 = 7;
-
-    pub const V17_7200_SHORT_TRAINING: u8 = 8;
-
-    pub const V17_7200_LONG_TRAINING: u8 = 9;
-
-    pub const V17_9600_SHORT_TRAINING: u8 = 10;
-
-    pub const V17_9600_LONG_TRAINING: u8 = 11;
-
-    pub const V17_12000_SHORT_TRAINING: u8 = 12;
-
-    pub const V17_12000_LONG_TRAINING: u8 = 13;
-
-    pub const V17_14400_SHORT_TRAINING: u8 = 14;
-
-    pub const V17_14400_LONG_TRAINING: u8 = 15;
+/// What an indicator tells (T30_INDICATOR). Those from 4 on are trainings: each begins an image.
+#[derive(Clone, Copy, PartialEq, Eq, Debug)]
+pub enum Indicator {
+    NoSignal = 0,
+    Cng = 1,
+    Ced = 2,
+    V21Preamble = 3,
+    V27At2400Training = 4,
+    V27At4800Training = 5,
+    V29At7200Training = 6,
+    V29At9600Training = 7,
+    V17At7200ShortTraining = 8,
+    V17At7200LongTraining = 9,
+    V17At9600ShortTraining = 10,
+    V17At9600LongTraining = 11,
+    V17At12000ShortTraining = 12,
+    V17At12000LongTraining = 13,
+    V17At14400ShortTraining = 14,
+    V17At14400LongTraining = 15,
 }
 
-/// Types of data: the modulation, and its rate in bits per second.
-pub mod data_type {
-    pub const V21: u8 = 0;
+impl Indicator {
+    ghost use Rattle.fax_ifp.specs.Codes.{indicator_code, indicator_at};
 
-    pub const V27_2400: u8 = 1;
+    /// Its code, 0 to 15.
+    #[inline]
+    pub fn code(self) -> u8
+        ensures { result ≡ indicator_code self }
+    {
+        self as u8
+    }
 
-    pub const V27_4800: u8 = 2;
-
-    pub const V29_7200: u8 = 3;
-
-    pub const V29_9600: u8 = 4;
-
-    pub const V17_7200: u8 = 5;
-
-    pub const V17_9600: u8 = 6;
-
-    pub const V17_12000: u8 = 7;
-
-    pub const V17_14400: u8 = 8;
+    /// The indicator that has a code: none above 15.
+    pub fn from_code(code: u8) -> Option<Indicator>
+        ensures { result ≡ indicator_at code }
+    {
+        let indicator = match code {
+            0 => Indicator::NoSignal,
+            1 => Indicator::Cng,
+            2 => Indicator::Ced,
+            3 => Indicator::V21Preamble,
+            4 => Indicator::V27At2400Training,
+            5 => Indicator::V27At4800Training,
+            6 => Indicator::V29At7200Training,
+            7 => Indicator::V29At9600Training,
+            8 => Indicator::V17At7200ShortTraining,
+            9 => Indicator::V17At7200LongTraining,
+            10 => Indicator::V17At9600ShortTraining,
+            11 => Indicator::V17At9600LongTraining,
+            12 => Indicator::V17At12000ShortTraining,
+            13 => Indicator::V17At12000LongTraining,
+            14 => Indicator::V17At14400ShortTraining,
+            15 => Indicator::V17At14400LongTraining,
+            _ => return None,
+        };
+        Some(indicator)
+    }
 }
 
-/// Types of a field.
-pub mod field_type {
+/// A type of data (T30_DATA): the modulation, and its rate in bits a second.
+#[derive(Clone, Copy, PartialEq, Eq, Debug)]
+pub enum DataType {
+    V21 = 0,
+    V27At2400 = 1,
+    V27At4800 = 2,
+    V29At7200 = 3,
+    V29At9600 = 4,
+    V17At7200 = 5,
+    V17At9600 = 6,
+    V17At12000 = 7,
+    V17At14400 = 8,
+}
+
+impl DataType {
+    ghost use Rattle.fax_ifp.specs.Codes.{data_type_code, data_type_at};
+
+    /// Its code, 0 to 8.
+    #[inline]
+    pub fn code(self) -> u8
+        ensures { result ≡ data_type_code self }
+    {
+        self as u8
+    }
+
+    /// The type that has a code: none above 8.
+    pub fn from_code(code: u8) -> Option<DataType>
+        ensures { result ≡ data_type_at code }
+    {
+        let kind = match code {
+            0 => DataType::V21,
+            1 => DataType::V27At2400,
+            2 => DataType::V27At4800,
+            3 => DataType::V29At7200,
+            4 => DataType::V29At9600,
+            5 => DataType::V17At7200,
+            6 => DataType::V17At9600,
+            7 => DataType::V17At12000,
+            8 => DataType::V17At14400,
+            _ => return None,
+        };
+        Some(kind)
+    }
+}
+
+/// The type of a field.
+#[derive(Clone, Copy, PartialEq, Eq, Debug)]
+pub enum FieldType {
     /// Octets of a frame.
-    pub const HDLC_DATA: u8 = 0;
+    HdlcData = 0,
     /// The HDLC signal ends.
-    pub const HDLC_SIG_END: u8 = 1;
+    HdlcSigEnd = 1,
     /// A frame ends, and its check sequence is right.
-    pub const HDLC_FCS_OK: u8 = 2;
+    HdlcFcsOk = 2,
     /// A frame ends, and its check sequence is wrong.
-    pub const HDLC_FCS_BAD: u8 = 3;
+    HdlcFcsBad = 3,
     /// A frame ends rightly, and the signal with it.
-    pub const HDLC_FCS_OK_SIG_END: u8 = 4;
+    HdlcFcsOkSigEnd = 4,
     /// A frame ends wrongly, and the signal with it.
-    pub const HDLC_FCS_BAD_SIG_END: u8 = 5;
+    HdlcFcsBadSigEnd = 5,
     /// Octets of an image.
-    pub const T4_NON_ECM_DATA: u8 = 6;
+    T4NonEcmData = 6,
     /// The last octets of an image; its signal ends.
-    pub const T4_NON_ECM_SIG_END: u8 = 7;
+    T4NonEcmSigEnd = 7,
+}
+
+impl FieldType {
+    ghost use Rattle.fax_ifp.specs.Codes.{field_type_code, field_type_at};
+
+    /// Its code, 0 to 7.
+    #[inline]
+    pub fn code(self) -> u8
+        ensures { result ≡ field_type_code self }
+    {
+        self as u8
+    }
+
+    /// The type that has a code: none above 7.
+    #[inline]
+    pub fn from_code(code: u8) -> Option<FieldType>
+        ensures { result ≡ field_type_at code }
+    {
+        let what = match code {
+            0 => FieldType::HdlcData,
+            1 => FieldType::HdlcSigEnd,
+            2 => FieldType::HdlcFcsOk,
+            3 => FieldType::HdlcFcsBad,
+            4 => FieldType::HdlcFcsOkSigEnd,
+            5 => FieldType::HdlcFcsBadSigEnd,
+            6 => FieldType::T4NonEcmData,
+            7 => FieldType::T4NonEcmSigEnd,
+            _ => return None,
+        };
+        Some(what)
+    }
 }

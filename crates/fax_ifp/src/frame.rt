@@ -1,7 +1,7 @@
 //! The frame whose octets come.
 ghost use Rattle.std.specs.Prelude.{◌≡◌, Some, None, List, [], ◌∷◌, ◌++◌, option_map};
 
-use crate::field_type;
+use crate::FieldType;
 use fax_frames::FrameBytes;
 use std::marker::Model;
 
@@ -61,13 +61,13 @@ impl FrameSoFar {
         ensures frame { (heard : List Element) → self.old ≡ kept (hdlc_since heard)
             → frames_shown result ≡ frame_pieces heard 0 what }
     {
-        match what {
-            field_type::HDLC_DATA => self.append(octets),
-            field_type::HDLC_FCS_OK | field_type::HDLC_FCS_OK_SIG_END => return self.end(),
-            field_type::HDLC_SIG_END
-            | field_type::HDLC_FCS_BAD
-            | field_type::HDLC_FCS_BAD_SIG_END => *self = FrameSoFar::new(),
-            _ => {}
+        match FieldType::from_code(what) {
+            Some(FieldType::HdlcData) => self.append(octets),
+            Some(FieldType::HdlcFcsOk | FieldType::HdlcFcsOkSigEnd) => return self.end(),
+            Some(FieldType::HdlcSigEnd | FieldType::HdlcFcsBad | FieldType::HdlcFcsBadSigEnd) => {
+                *self = FrameSoFar::new();
+            }
+            Some(FieldType::T4NonEcmData | FieldType::T4NonEcmSigEnd) | None => {}
         }
         None
     }

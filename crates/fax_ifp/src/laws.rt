@@ -1,6 +1,33 @@
 //! Laws of the definitions: functions that do nothing, each of whose contracts is a theorem.
-ghost use Rattle.fax_ifp.specs.PacketLaws.{IndicatorsAreReadBack, MessagesAreReadBack, OctetsBehindAreNotRead};
+ghost use Rattle.fax_ifp.specs.CodeLaws.{IndicatorsStandAtTheirCodes, DataTypesStandAtTheirCodes, FieldTypesStandAtTheirCodes, IndicatorsHaveOneCode, DataTypesHaveOneCode, FieldTypesHaveOneCode, TrainingsAreIndicators, KindsAreDataTypes, TrainingsTrain, TrainingsBeginTheirData};
+ghost use Rattle.fax_ifp.specs.PacketLaws.{IndicatorsAreReadBack, MessagesAreReadBack, OctetsBehindAreNotRead, IndicatorsHaveOneOctet, FramesHaveSixMore, ImagesHaveFiveMore};
 ghost use Rattle.fax_ifp.specs.SignalLaws.{PiecesGoOn, LostSlotsAreGaps, ExtensionsSayNothing, TrackedIsUnique, ImageOctetsArePieces, StartedIsAnOctet};
+
+/// Each indicator, type of data and type of a field stands at its code, and nowhere else.
+pub fn codes_are_unique()
+    ensures indicators { IndicatorsStandAtTheirCodes }
+    ensures data_types { DataTypesStandAtTheirCodes }
+    ensures field_types { FieldTypesStandAtTheirCodes }
+    ensures one_indicator { IndicatorsHaveOneCode }
+    ensures one_data_type { DataTypesHaveOneCode }
+    ensures one_field_type { FieldTypesHaveOneCode }
+{}
+
+/// The codes that `fax_frames` gives a rate are those of its training and of its data, and its training
+/// begins an image of its data.
+pub fn rates_have_their_codes()
+    ensures training { TrainingsAreIndicators }
+    ensures kind { KindsAreDataTypes }
+    ensures trains { TrainingsTrain }
+    ensures begins { TrainingsBeginTheirData }
+{}
+
+/// How many octets the packets of an indicator, a frame and an image's octets have.
+pub fn packets_have_their_lengths()
+    ensures indicator { IndicatorsHaveOneOctet }
+    ensures frame { FramesHaveSixMore }
+    ensures image { ImagesHaveFiveMore }
+{}
 
 /// An indicator that is written is read back.
 pub fn indicators_are_read_back()

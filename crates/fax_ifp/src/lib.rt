@@ -16,9 +16,12 @@ mod signals;
 mod tests;
 mod writing;
 
-pub use codes::{data_type, field_type, indicator};
+pub use codes::{DataType, FieldType, Indicator};
 pub use fault::IfpFault;
 pub use packet::{Field, Head, Ifp};
 pub use piece::{Piece, Pieces, Slot};
 pub use signals::Signals;
-pub use writing::{write_data, write_frame, write_image, write_indicator};
+pub use writing::{
+    data_length, put_data, put_frame, put_image, put_indicator, write_data, write_frame,
+    write_image, write_indicator,
+};

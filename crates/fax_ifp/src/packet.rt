@@ -5,14 +5,15 @@ ghost use Rattle.fax_ifp.specs.Content.{seen_octets, seen_field};
 ghost use Rattle.fax_ifp.specs.Packets.{FieldText, octets_at, field_of, field_at, fields_at, fields_behind, packet_of, HasNinthField};
 ghost use Rattle.fax_ifp.specs.Seen.{texts_of, head_of, fields_in};
 
-use crate::codes::data_type;
+use crate::codes::DataType;
 use crate::fault::IfpFault;
 use smallvec::SmallVec;
 use std::alloc::Global;
 use std::default::MadeWith;
 use std::marker::Model;
 
-/// A field of data: its type, from 0 to 7 (see [`crate::field_type`]), and its octets where it has some.
+/// A field of data: the code of its type, from 0 to 7 (see [`crate::FieldType`]), and its octets where it
+/// has some.
 #[derive(Clone, Copy, PartialEq, Eq, Debug)]
 pub struct Field<'a> {
     pub what: u8,
@@ -28,8 +29,8 @@ impl<'a> MadeWith<Global> for Field<'a> {
     }
 }
 
-/// Whether a packet is an indicator or data, and which (see [`crate::indicator`] and
-/// [`crate::data_type`]).
+/// Whether a packet is an indicator or data, and which, by its code (see [`crate::Indicator`] and
+/// [`crate::DataType`]).
 #[derive(Clone, Copy, PartialEq, Eq, Debug)]
 pub enum Head {
     Indicator(u8),
@@ -46,7 +47,7 @@ const DATA: u32 = 6;
 const EXTENSION: u32 = 5;
 
 /// The greatest type of data.
-const LAST_TYPE: u8 = data_type::V17_14400;
+const LAST_TYPE: u8 = DataType::V17At14400 as u8;
 
 /// The greatest count of fields.
 const MOST_FIELDS: u8 = 127;

@@ -11,7 +11,7 @@ ghost use Rattle.fax_ifp.specs.Shown.{slot_of, pieces_shown};
 
 use crate::frame::FrameSoFar;
 use crate::piece::PieceList;
-use crate::{Field, Head, Ifp, IfpFault, Piece, Pieces, Slot, data_type, field_type, indicator};
+use crate::{DataType, Field, FieldType, Head, Ifp, IfpFault, Indicator, Piece, Pieces, Slot};
 use fax_bits::NoMemory;
 use std::alloc::Global;
 use std::marker::Model;
@@ -203,7 +203,7 @@ impl Signals {
             ≤ small_vec_len pieces.old + images_in self.old.image + 1 }
     {
         let octets = field.octets.unwrap_or(&[]);
-        if kind == data_type::V21 {
+        if kind == DataType::V21.code() {
             self.hdlc_field(field.what, octets, pieces);
         } else {
             self.image_field(kind, field.what, octets, pieces);
@@ -239,7 +239,8 @@ impl Signals {
             return;
         };
         if image.kind != kind
-            || (what != field_type::T4_NON_ECM_DATA && what != field_type::T4_NON_ECM_SIG_END)
+            || (what != FieldType::T4NonEcmData.code()
+                && what != FieldType::T4NonEcmSigEnd.code())
         {
             image.whole = false;
             return;
@@ -248,7 +249,7 @@ impl Signals {
             image.started = true;
             pieces.push_reserved(Piece::Octets(octets));
         }
-        if what == field_type::T4_NON_ECM_SIG_END {
+        if what == FieldType::T4NonEcmSigEnd.code() {
             self.end_image(pieces);
         }
     }
@@ -261,7 +262,7 @@ impl Signals {
     {
         self.end_image(pieces);
         self.frame = FrameSoFar::new();
-        if code >= indicator::V27_2400_TRAINING {
+        if code >= Indicator::V27At2400Training.code() {
             let kind = kind_of_training(code);
             pieces.push_reserved(Piece::Start(kind));
             self.image = Some(OpenImage {
@@ -321,7 +322,7 @@ fn kind_of_training(code: u8) -> u8
     requires { 4 ≤ code }
     ensures { result ≡ kind_shown code }
 {
-    if code < indicator::V17_7200_SHORT_TRAINING {
+    if code < Indicator::V17At7200ShortTraining.code() {
         code - 3
     } else {
         code / 2 + 1

@@ -3,9 +3,13 @@ ghost use Rattle.std.specs.Prelude.{◌≡◌, ◌≤◌, IsTrue, length};
 ghost use Rattle.fax_ifp.specs.Seen.{text_of, texts_of};
 ghost use Rattle.fax_ifp.specs.WrittenPackets.{IsWritable, IsWritableField};
 
+mod codes;
 mod signals;
 
-use crate::{Field, Head, Ifp, IfpFault, write_data, write_frame, write_image, write_indicator};
+use crate::{
+    Field, Head, Ifp, IfpFault, data_length, put_data, put_frame, put_image, put_indicator,
+    write_data, write_frame, write_image, write_indicator,
+};
 use fax_bits::NoMemory;
 use std::test::Fail;
 
@@ -359,6 +363,40 @@ fn frames_and_images_are_written(rt: HostRuntime) -> Result<(), Fail> {
     assert_eq!(rt; first.as_slice(), WORKED[5].octets);
     let last = write_image(rt.alloc(), 1, true, &[0; 6])?;
     assert_eq!(rt; last.as_slice(), WORKED[6].octets);
+    Ok(())
+}
+
+#[test]
+fn packets_are_put_into_just_enough_room(rt: HostRuntime) -> Result<(), Fail> {
+    let mut octets = Vec::with_capacity(rt.alloc(), 9)?;
+    put_frame(&mut octets, &[0xff, 0xc8, 0x21]);
+    assert_eq!(rt; octets.as_slice(), WORKED[3].octets);
+    let mut octets = Vec::with_capacity(rt.alloc(), 18)?;
+    let page = [
+        0x00, 0x14, 0xd9, 0xa8, 0x00, 0x80, 0x08, 0x00, 0x80, 0x08, 0x00, 0x80, 0x08,
+    ];
+    put_image(&mut octets, 1, true, &page);
+    assert_eq!(rt; octets.as_slice(), WORKED[4].octets);
+    let mut octets = Vec::with_capacity(rt.alloc(), 17)?;
+    put_image(&mut octets, 1, false, &[0; 12]);
+    assert_eq!(rt; octets.as_slice(), WORKED[5].octets);
+    let mut octets = Vec::with_capacity(rt.alloc(), 2)?;
+    put_indicator(&mut octets, 3);
+    put_indicator(&mut octets, 15);
+    assert_eq!(rt; octets.as_slice(), [0x06, 0x1e].as_slice());
+    Ok(())
+}
+
+#[test]
+fn data_are_put_into_just_enough_room(rt: HostRuntime) -> Result<(), Fail> {
+    for packet in &WORKED {
+        assert!(rt; is_writable(packet.kind, packet.fields));
+        let length = data_length(packet.fields);
+        assert_eq!(rt; length, packet.octets.len());
+        let mut octets = Vec::with_capacity(rt.alloc(), length)?;
+        put_data(&mut octets, packet.kind, packet.fields);
+        assert_eq!(rt; octets.as_slice(), packet.octets);
+    }
     Ok(())
 }
 

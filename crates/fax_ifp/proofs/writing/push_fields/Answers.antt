@@ -37,12 +37,12 @@ push_reserved-requires c =
     (16 * c.in-Some.bits ∷ []) [] c.args.octets.now.items (written_fields (texts_of c.args.fields.now)) c.loop-field.invariant.text end in
     omega (arith, room, c.loop-field.octets.ok.0, c.args.octets.now.ok.0, c.requires.room, c.loop-field.invariant.room)
 
-pub returns-in-Some : goal.returns-in-Some
-returns-in-Some c =
+pub returns-in-Some-clause-items : goal.returns-in-Some-clause-items
+returns-in-Some-clause-items c =
     let end = written_end c.loop-field.half c.args.fields.now c.loop-field.field-index (omega arith) ∙ ap last_octet c.in-Some.is in
     rw c.push_reserved.ensures.items (ap (λ (x : List ℕ). c.loop-field.octets.items ++ x) (sym end) ∙ c.loop-field.invariant.text)
 
-pub returns-in_default : goal.returns-in_default
-returns-in_default c =
+pub returns-in_default-clause-items : goal.returns-in_default-clause-items
+returns-in_default-clause-items c =
     let end = written_end c.loop-field.half c.args.fields.now c.loop-field.field-index (omega arith) ∙ ap last_octet c.in_default.is in
     sym (append-nil c.loop-field.octets.items) ∙ ap (λ (x : List ℕ). c.loop-field.octets.items ++ x) (sym end) ∙ c.loop-field.invariant.text

@@ -1,0 +1,68 @@
+//! The codes of ITU-T T.38, each once.
+use crate::{DataType, FieldType, Indicator};
+use std::test::Fail;
+
+/// The indicators, as T.38 numbers them.
+const INDICATORS: [(u8, Indicator); 16] = [
+    (0, Indicator::NoSignal),
+    (1, Indicator::Cng),
+    (2, Indicator::Ced),
+    (3, Indicator::V21Preamble),
+    (4, Indicator::V27At2400Training),
+    (5, Indicator::V27At4800Training),
+    (6, Indicator::V29At7200Training),
+    (7, Indicator::V29At9600Training),
+    (8, Indicator::V17At7200ShortTraining),
+    (9, Indicator::V17At7200LongTraining),
+    (10, Indicator::V17At9600ShortTraining),
+    (11, Indicator::V17At9600LongTraining),
+    (12, Indicator::V17At12000ShortTraining),
+    (13, Indicator::V17At12000LongTraining),
+    (14, Indicator::V17At14400ShortTraining),
+    (15, Indicator::V17At14400LongTraining),
+];
+
+/// The types of data, as T.38 numbers them.
+const DATA_TYPES: [(u8, DataType); 9] = [
+    (0, DataType::V21),
+    (1, DataType::V27At2400),
+    (2, DataType::V27At4800),
+    (3, DataType::V29At7200),
+    (4, DataType::V29At9600),
+    (5, DataType::V17At7200),
+    (6, DataType::V17At9600),
+    (7, DataType::V17At12000),
+    (8, DataType::V17At14400),
+];
+
+/// The types of a field, as T.38 numbers them.
+const FIELD_TYPES: [(u8, FieldType); 8] = [
+    (0, FieldType::HdlcData),
+    (1, FieldType::HdlcSigEnd),
+    (2, FieldType::HdlcFcsOk),
+    (3, FieldType::HdlcFcsBad),
+    (4, FieldType::HdlcFcsOkSigEnd),
+    (5, FieldType::HdlcFcsBadSigEnd),
+    (6, FieldType::T4NonEcmData),
+    (7, FieldType::T4NonEcmSigEnd),
+];
+
+#[test]
+fn codes_are_those_of_the_standard(rt: HostRuntime) -> Result<(), Fail> {
+    for (code, indicator) in INDICATORS {
+        assert_eq!(rt; indicator.code(), code);
+        assert_eq!(rt; Indicator::from_code(code), Some(indicator));
+    }
+    assert_eq!(rt; Indicator::from_code(16), None);
+    for (code, kind) in DATA_TYPES {
+        assert_eq!(rt; kind.code(), code);
+        assert_eq!(rt; DataType::from_code(code), Some(kind));
+    }
+    assert_eq!(rt; DataType::from_code(9), None);
+    for (code, what) in FIELD_TYPES {
+        assert_eq!(rt; what.code(), code);
+        assert_eq!(rt; FieldType::from_code(code), Some(what));
+    }
+    assert_eq!(rt; FieldType::from_code(8), None);
+    Ok(())
+}
