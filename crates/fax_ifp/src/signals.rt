@@ -96,6 +96,7 @@ impl Signals {
     {
         let list = &mut pieces.list;
         list.clear();
+        // five pieces fit, whatever was in the list before
         prove!(list.capacity() >= 5);
         self.take(slot, list)
     }
