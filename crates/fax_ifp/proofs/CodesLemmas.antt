@@ -1,8 +1,7 @@
 -- The codes of T.38.
-use Rattle.std.proofs.Common.{◌≡◌, ℕ, ◌≤◌, ◌<◌, ◌==◌, nat_eq, Bool, true, false, ◌&&◌, List, [], ◌∷◌, Option, Some, None, refl, sym, ◌∙◌, ap, arith, if◌then◌else◌}
+use Rattle.std.proofs.Common.{◌≡◌, ℕ, ◌==◌, nat_eq, Bool, true, false, ◌&&◌, List, [], ◌∷◌, Some, refl, sym, ◌∙◌, ap, arith, if◌then◌else◌}
 use Rattle.std.proofs.lemmas.Bool.Decides.{nat_tests}
-use Rattle.fax_frames.specs.declared.rate.Rate.{Rate}
-use Rattle.fax_frames.specs.declared.rate.Rate.TheVariants.{V27At2400, V27At4800, V29At7200, V29At9600, V17At7200, V17At9600, V17At12000, V17At14400}
+use Rattle.fax_frames.specs.declared.rate.Rate.TheVariants.{V27At2400, V17At7200, V17At9600, V17At12000, V17At14400}
 use Rattle.fax_frames.specs.FieldBits.{look_up}
 use Rattle.fax_ifp.specs.declared.codes.Indicator.TheVariants.{NoSignal}
 use Rattle.fax_ifp.specs.declared.codes.DataType.TheVariants.{V21}
