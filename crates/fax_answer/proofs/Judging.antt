@@ -1,0 +1,144 @@
+-- What means no page is refused, and one image is judged by what it means.
+use Rattle.std.proofs.Common.{◌≡◌, ℕ, ◌<◌, Bool, true, false, not, ◌&&◌, List, [], ◌∷◌, ◌++◌, Option, Some, None, ◌⊎◌, inl, inr, refl, sym, ◌∙◌, ap, subst, nat_eq, arith, if◌then◌else◌}
+use Rattle.fax_runcodes.specs.Widths.{elements_of}
+use Rattle.fax_frames.specs.declared.dcs.Dcs.{Dcs}
+use Rattle.fax_frames.specs.Capabilities.{format_of, coding_of}
+use Rattle.fax_pagestore.specs.Pages.{PageValue}
+use Rattle.fax_pagestore.specs.PageTexts.{MeansPage}
+use Rattle.fax_ifp.specs.Pieces as pieces
+use Rattle.fax_answer.specs.declared.command.Command.{Command}
+use Rattle.fax_answer.specs.declared.command.Order.{Order}
+use Rattle.fax_answer.specs.declared.command.Order.TheVariants as orders
+use Rattle.fax_answer.specs.declared.state.State.{State}
+use Rattle.fax_answer.specs.declared.state.State.TheVariants.{Idle, Identify, Listen, Train, Page, Closing}
+use Rattle.fax_answer.specs.Orders.{order_of}
+use Rattle.fax_answer.specs.History.{Entry, Decision, PassesOver, GivesMcf, GivesRtn, since_answer, images, gap, last_image, repeated, answered_dcs}
+use Rattle.fax_answer.specs.Table.{Reading, Question, judged, is_one_image, same_command, is_repeat, on_command, on_order, decision, order_asks, asked_of}
+use Rattle.fax_answer.specs.Replies.{is_waiting}
+use Rattle.fax_answer.specs.Calls.{Answering, rung, CallEvent, Comes, Ticks, after_events}
+use Rattle.fax_answer.specs.Confirmation.{IsRight, IfAsked, AreRead}
+use Rattle.fax_answer.specs.Judging.{MeansNone, IsAnswered, RefusesNoPage, JudgesExactly}
+use Rattle.fax_pagestore.proofs.PageLaws.{pages_dont_fail}
+use Rattle.fax_runcodes.specs.Rows.{IsWidth}
+use Rattle.fax_runcodes.specs.declared.Width.{Width}
+use Rattle.fax_runcodes.specs.declared.Width.TheVariants.{W1728, W2048, W2432}
+use Rattle.fax_answer.proofs.Confirmations.{KnowsDcs, InCall, events_keep, rung_in_call, ticked_history}
+
+-- what is known of each entry of a history: it was decided in a call
+record IsDecided (e : Entry) (before : List Entry) : Type 0 where
+  read : Reading
+  state : State
+  waits : Bool
+  knows : KnowsDcs state before
+  right : IfAsked (asked_of state waits before e.piece) read
+  decided : e.decision ≡ decision read state waits before e.piece
+
+AllDecided : List Entry → Type 0
+AllDecided [] = Unit {0}
+AllDecided (e ∷ before) = IsDecided e before × AllDecided before
+
+all_decided : (core : Answering) (start : ℕ) (events : List CallEvent) → AreRead (rung core start) events → AllDecided (after_events (rung core start) events).history
+unfolding AllDecided
+all_decided core start [] right = tt
+all_decided core start (Comes piece now read ∷ before) right =
+    let a : Answering = after_events (rung core start) before in
+    let k : InCall a = events_keep (rung core start) before right.1 (rung_in_call core start) in
+    (record { read = read; state = a.state; waits = is_waiting a.waiting; knows = k.knows; right = right.0; decided = refl }, all_decided core start before right.1)
+all_decided core start (Ticks now ∷ before) right =
+    let a : Answering = after_events (rung core start) before in
+    subst AllDecided (sym (ticked_history a now)) (all_decided core start before right)
+
+decided_at : (later : List Entry) (e : Entry) (before : List Entry) → AllDecided (later ++ e ∷ before) → IsDecided e before
+unfolding AllDecided
+decided_at [] e before a = a.0
+decided_at (x ∷ later) e before a = decided_at later e before a.1
+
+-- a command that is not passed over is answered in Page, by the reading of what it asks
+abbrev asks_page : Dcs → List Entry → Option Question
+asks_page dcs before = if is_one_image (since_answer before) then Some (record { octets = last_image before; dcs = dcs }) else None
+
+record InPage (read : Reading) (state : State) (before : List Entry) (command : Command) (d : Decision) : Type 0 where
+  dcs : Dcs
+  is_page : state ≡ Page dcs
+  right : IfAsked (asks_page dcs before) read
+  answer : d ≡ on_command read before command
+
+by_phase : (read : Reading) (state : State) (before : List Entry) (command : Command) → (on_order read state before (orders.Judge command) ≡ PassesOver → ⊥) → IfAsked (order_asks state before (orders.Judge command)) read →
+    InPage read state before command (on_order read state before (orders.Judge command))
+by_phase read Idle before command n r = absurd (n refl)
+by_phase read Identify before command n r = absurd (n refl)
+by_phase read Listen before command n r = absurd (n refl)
+by_phase read (Train dcs) before command n r = absurd (n refl)
+by_phase read (Page dcs) before command n r = record { dcs = dcs; is_page = refl; right = r; answer = refl }
+by_phase read Closing before command n r = absurd (n refl)
+
+by_frame : (read : Reading) (state : State) (waits : Bool) (before : List Entry) (octets : List ℕ) (command : Command) → order_of octets ≡ orders.Judge command →
+    (decision read state waits before (pieces.Frame octets) ≡ PassesOver → ⊥) → IfAsked (asked_of state waits before (pieces.Frame octets)) read →
+    InPage read state before command (decision read state waits before (pieces.Frame octets))
+by_frame read state true before octets command o n r = absurd (n refl)
+by_frame read state false before octets command o n r =
+    let e : orders.Judge command ≡ order_of octets = sym o in
+    subst (λ (x : Order). InPage read state before command (on_order read state before x)) e
+    (by_phase read state before command (λ p. n (ap (λ (x : Order). on_order read state before x) o ∙ p)) (subst (λ (x : Order). IfAsked (order_asks state before x) read) o r))
+
+-- a command that was answered: its reading
+record Answer (before : List Entry) (command : Command) (d : Decision) (dcs : Dcs) : Type 0 where
+  read : Reading
+  right : IfAsked (asks_page dcs before) read
+  answer : d ≡ on_command read before command
+
+in_page : (history before : List Entry) (command : Command) (d : Decision) (dcs : Dcs) → AllDecided history → IsAnswered history before command d dcs → Answer before command d dcs
+in_page history before command d dcs all a =
+    let e : Entry = record { piece = pieces.Frame a.octets; decision = d } in
+    let i : IsDecided e before = decided_at a.later e before (subst AllDecided a.split all) in
+    let p : InPage i.read i.state before command (decision i.read i.state i.waits before (pieces.Frame a.octets)) =
+    by_frame i.read i.state i.waits before a.octets command a.order (λ q. a.not_passed (i.decided ∙ q)) i.right in
+    let k : answered_dcs before ≡ Some p.dcs = subst (λ (x : State). KnowsDcs x before) p.is_page i.knows in
+    let q : Some p.dcs ≡ Some dcs = sym k ∙ a.dcs_is in
+    let same : p.dcs ≡ dcs = cc in
+    record { read = i.read; right = subst (λ (x : Dcs). IfAsked (asks_page x before) i.read) same p.right; answer = i.decided ∙ p.answer }
+
+not_zero : (n : ℕ) → 0 < n → nat_eq n 0 ≡ false
+not_zero n h = grind (arith)
+
+judged_none : (dcs : Dcs) (before : List Entry) (command : Command) (r : Reading) → IsRight (record { octets = last_image before; dcs = dcs }) r → MeansNone before dcs → judged command r ≡ GivesRtn
+judged_none dcs before command None right m = refl
+judged_none dcs before command (Some page) right m = absurd (m page right)
+
+refused : (read : Reading) (dcs : Dcs) (before : List Entry) (command : Command) → IfAsked (asks_page dcs before) read → 0 < images (since_answer before) → MeansNone before dcs → on_command read before command ≡ GivesRtn
+refused read dcs before command right h m =
+    by (is_one_image (since_answer before)) (is_repeat before command) right
+    (ap (λ (t : Bool). t && (not (gap (since_answer before)) && same_command (repeated before) command)) (not_zero (images (since_answer before)) h))
+  where
+    by : (x y : Bool) → IfAsked (if x then Some (record { octets = last_image before; dcs = dcs }) else None) read → y ≡ false → (if x then judged command read else if y then GivesMcf command None else GivesRtn) ≡ GivesRtn
+    by true y r e = judged_none dcs before command read r m
+    by false true r e = cc
+    by false false r e = refl
+
+pub refuses_no_page : RefusesNoPage
+refuses_no_page core start events before command d dcs right a h m =
+    let p : Answer before command d dcs = in_page (after_events (rung core start) events).history before command d dcs (all_decided core start events right) a in
+    p.answer ∙ refused p.read dcs before command p.right h m
+
+is_width : (width : Width) → IsWidth (elements_of width)
+is_width W1728 = inl refl
+is_width W2048 = inr (inl refl)
+is_width W2432 = inr (inr refl)
+
+abbrev Judged : Dcs → List Entry → Command → Decision → Type 0
+Judged dcs before command d =
+    ((d ≡ GivesRtn) × MeansNone before dcs)
+    ⊎ ((page : PageValue) × (d ≡ GivesMcf command (Some page)) × MeansPage (format_of dcs) (coding_of dcs) (last_image before) page)
+
+judged_exactly : (dcs : Dcs) (before : List Entry) (command : Command) (r : Reading) → IsRight (record { octets = last_image before; dcs = dcs }) r → Judged dcs before command (judged command r)
+judged_exactly dcs before command None right =
+    inl (refl, λ page m. pages_dont_fail (elements_of (format_of dcs).width) (coding_of dcs) (last_image before) page.rows right.0 (is_width (format_of dcs).width) m.1 right.1)
+judged_exactly dcs before command (Some page) right = inr (page, refl, right)
+
+pub judges_exactly : JudgesExactly
+judges_exactly core start events before command d dcs right a h =
+    let p : Answer before command d dcs = in_page (after_events (rung core start) events).history before command d dcs (all_decided core start events right) a in
+    let q : on_command p.read before command ≡ judged command p.read = ap (λ (t : Bool). if t then judged command p.read else if is_repeat before command then GivesMcf command None else GivesRtn) h in
+    let r : IsRight (record { octets = last_image before; dcs = dcs }) p.read =
+    subst (λ (t : Bool). IfAsked (if t then Some (record { octets = last_image before; dcs = dcs }) else None) p.read) h p.right in
+    subst (Judged dcs before command) (sym (p.answer ∙ q)) (judged_exactly dcs before command p.read r)

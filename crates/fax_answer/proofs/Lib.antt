@@ -1,0 +1,13 @@
+mod AnswerLemmas
+mod Confirmations
+mod EachMcf
+mod Examples
+mod FollowingLemmas
+mod HearingLemmas
+mod ImageLemmas
+mod Judging
+mod Neat
+mod ReachedLemmas
+mod Readings
+mod Rests
+mod SlotsLemmas

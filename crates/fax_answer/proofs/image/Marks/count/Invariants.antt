@@ -1,0 +1,13 @@
+use Rattle.std.proofs.Common.{◌≡◌, ◌+◌, ◌≤◌, take}
+use Rattle.fax_answer.specs.Images.{run_behind, longest_behind}
+use Rattle.fax_answer.proofs.image.Marks.count.Given as goal
+
+-- the octets so far are counted
+abbrev pub invariant-loop-octet : goal.invariant-loop-octet
+invariant-loop-octet l = record {
+  begin : l.self.begin ≡ l.fn.self.begin;
+  end : l.self.end ≡ l.fn.self.end;
+  run : l.self.run ≡ run_behind l.fn.self.run (take l.octet-index l.octets);
+  longest : l.self.longest ≡ longest_behind l.fn.self.run l.fn.self.longest (take l.octet-index l.octets);
+  few : l.self.run ≤ l.fn.self.run + l.octet-index;
+}

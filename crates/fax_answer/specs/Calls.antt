@@ -1,0 +1,183 @@
+-- The answering side over a call: what waits, timers, the pace, ticks. (ITU-T T.30, 5.4.3 for T1, T2 and T4; that
+-- timers act in ticks alone, and the pace, are this project's profile.)
+use Rattle.std.specs.Prelude.{ℕ, Bool, true, false, not, ◌&&◌, List, [], ◌∷◌, ◌++◌, Option, Some, None, if◌then◌else◌}
+use Rattle.fax_frames.specs.declared.writing.Plain.TheVariants.{Dcn}
+use Rattle.fax_frames.specs.Capabilities.{our_dis}
+use Rattle.fax_frames.specs.Written.{written_dis}
+use Rattle.fax_timers.specs.Moments.{moment_after, is_due}
+use Rattle.fax_timers.specs.Paces.{pace_allows}
+use Rattle.fax_timers.specs.Spans as spans
+use Rattle.fax_ifp.specs.Pieces as pieces
+use Rattle.fax_answer.specs.declared.state.State.{State}
+use Rattle.fax_answer.specs.declared.timers.Timers.{Timers}
+use Rattle.fax_answer.specs.declared.state.State.TheVariants.{Idle, Identify, Listen, Train, Page, Closing}
+use Rattle.fax_answer.specs.History.{Decision, PassesOver, Trains, HangsUp, GivesCfr, GivesFtt, GivesMcf, GivesRtn, Entry}
+use Rattle.fax_answer.specs.Table.{Reading, Question, decision, asked_of, state_after}
+use Rattle.fax_answer.specs.Replies.{Waiting, silent, called_tone, frame_reply, plain_reply, reply_to, is_waiting}
+
+-- our own DIS (this project's profile: all that we read)
+abbrev pub dis_reply : List Waiting
+dis_reply = frame_reply (written_dis our_dis) None
+
+abbrev pub no_timers : Timers
+no_timers = record { t1 = None; t2 = None; t4 = None }
+
+-- the answering side: its state, the history of the call, the packets that wait, the first of them first, its timers,
+-- and the moment of the last packet given on its leg
+pub record Answering : Type 0 where
+  pub state : State
+  pub history : List Entry
+  pub waiting : List Waiting
+  pub timers : Timers
+  pub last : Option ℕ
+
+abbrev pub new_answering : Answering
+new_answering = record { state = Idle; history = []; waiting = []; timers = no_timers; last = None }
+
+-- IDLE, a ring: CED and DIS; T1 is set
+abbrev pub rung : Answering → ℕ → Answering
+rung a now =
+    record {
+      state = Identify;
+      history = [];
+      waiting = silent called_tone ∷ dis_reply;
+      timers = record { t1 = Some (moment_after now spans.t1); t2 = None; t4 = None };
+      last = a.last;
+    }
+
+-- LISTEN, TRAIN, PAGE: T2 is set anew by each frame, each signal that begins and each octet of one, while no packet waits
+abbrev pub is_heard : State → pieces.Piece → Bool
+is_heard state pieces.Gap = false
+is_heard state (pieces.End whole) = false
+is_heard Listen piece = true
+is_heard (Train dcs) piece = true
+is_heard (Page dcs) piece = true
+is_heard state piece = false
+
+-- the timers behind a decision: a DCS that trains clears T1 and T4 and sets T2; T2 and T4 are clear while packets wait
+abbrev pub timers_after : Answering → pieces.Piece → Decision → ℕ → Timers
+timers_after a piece (Trains dcs) now = record { t1 = None; t2 = Some (moment_after now spans.t2); t4 = None }
+timers_after a piece HangsUp now = no_timers
+timers_after a piece PassesOver now =
+    if not (is_waiting a.waiting) && is_heard a.state piece
+    then record { t1 = a.timers.t1; t2 = Some (moment_after now spans.t2); t4 = a.timers.t4 } else a.timers
+timers_after a piece (GivesCfr dcs) now = record { t1 = a.timers.t1; t2 = None; t4 = None }
+timers_after a piece GivesFtt now = record { t1 = a.timers.t1; t2 = None; t4 = None }
+timers_after a piece (GivesMcf command page) now = record { t1 = a.timers.t1; t2 = None; t4 = None }
+timers_after a piece GivesRtn now = record { t1 = a.timers.t1; t2 = None; t4 = None }
+
+-- behind a decision at a piece
+abbrev pub decided : Answering → pieces.Piece → Decision → ℕ → Answering
+decided a piece d now =
+    record {
+      state = state_after a.state d;
+      history = record { piece = piece; decision = d } ∷ a.history;
+      waiting = a.waiting ++ reply_to d;
+      timers = timers_after a piece d now;
+      last = a.last;
+    }
+
+-- a piece comes, with the reading of what it asks
+abbrev pub came : Reading → Answering → pieces.Piece → ℕ → Answering
+came read a piece now = decided a piece (decision read a.state (is_waiting a.waiting) a.history piece) now
+
+abbrev pub asked : Answering → pieces.Piece → Option Question
+asked a piece = asked_of a.state (is_waiting a.waiting) a.history piece
+
+-- What is asked while these pieces come: the first that asks. Its reply waits then, and the pieces behind it ask nothing.
+abbrev pub or_else : Option Question → Option Question → Option Question
+or_else None other = other
+or_else (Some q) other = Some q
+
+abbrev pub first_asked : Answering → List pieces.Piece → ℕ → Option Question
+first_asked a [] now = None
+first_asked a (piece ∷ more) now = or_else (asked a piece) (first_asked (came None a piece now) more now)
+
+-- the pieces of a datagram come, with its reading
+abbrev pub came_all : Reading → Answering → List pieces.Piece → ℕ → Answering
+came_all read a [] now = a
+came_all read a (piece ∷ more) now = came_all read (came read a piece now) more now
+
+-- A TICK. Timers act where no packet waits: T1 before the others.
+abbrev pub says_goodbye : Answering → Answering
+says_goodbye a = record a { state = Closing; waiting = plain_reply Dcn None; timers = no_timers }
+
+abbrev pub identifies_again : Answering → Answering
+identifies_again a = record a { waiting = dis_reply; timers = record { t1 = a.timers.t1; t2 = None; t4 = None } }
+
+-- IDENTIFY: T1 due, DCN; T4 due, DIS again. LISTEN, TRAIN, PAGE: T2 due, DCN
+abbrev pub timed_in : State → Answering → ℕ → Answering
+timed_in Idle a now = a
+timed_in Closing a now = a
+timed_in Identify a now =
+    if is_due a.timers.t1 now then says_goodbye a
+    else if is_due a.timers.t4 now then identifies_again a else a
+timed_in state a now = if is_due a.timers.t2 now then says_goodbye a else a
+
+abbrev pub timed : Answering → ℕ → Answering
+timed a now = if is_waiting a.waiting then a else timed_in a.state a now
+
+-- the last packet that waits is given: Closing becomes Idle, and the state's T4 or T2 is set
+abbrev pub state_when_given : State → State
+state_when_given Closing = Idle
+state_when_given state = state
+
+abbrev pub timers_when_given : State → Timers → ℕ → Timers
+timers_when_given Identify t now = record { t1 = t.t1; t2 = None; t4 = Some (moment_after now spans.t4) }
+timers_when_given Listen t now = record { t1 = t.t1; t2 = Some (moment_after now spans.t2); t4 = None }
+timers_when_given (Train dcs) t now = record { t1 = t.t1; t2 = Some (moment_after now spans.t2); t4 = None }
+timers_when_given (Page dcs) t now = record { t1 = t.t1; t2 = Some (moment_after now spans.t2); t4 = None }
+timers_when_given state t now = t
+
+abbrev pub is_closing : State → Bool
+is_closing Closing = true
+is_closing state = false
+
+-- what a tick leaves, the packet that it gives, and whether the call has ended
+pub record Ticked : Type 0 where
+  pub core : Answering
+  pub given : Option Waiting
+  pub ended : Bool
+
+-- one packet is given where one waits
+abbrev pub given_first : Answering → ℕ → List Waiting → Ticked
+given_first a now [] = record { core = a; given = None; ended = false }
+given_first a now (w ∷ []) =
+    record {
+      core = record {
+        state = state_when_given a.state;
+        history = a.history;
+        waiting = [];
+        timers = timers_when_given a.state a.timers now;
+        last = Some now;
+      };
+      given = Some w;
+      ended = is_closing a.state;
+    }
+given_first a now (w ∷ v ∷ waiting) =
+    record {
+      core = record { state = a.state; history = a.history; waiting = v ∷ waiting; timers = a.timers; last = Some now };
+      given = Some w;
+      ended = false;
+    }
+
+-- and where the pace allows
+abbrev pub paced : Answering → ℕ → Ticked
+paced a now = if pace_allows a.last now then given_first a now a.waiting else record { core = a; given = None; ended = false }
+
+abbrev pub ticked : Answering → ℕ → Ticked
+ticked a now = paced (timed a now) now
+
+-- A CALL: the pieces that come, each with the reading of what it asks, and the ticks, the newest first
+pub data CallEvent : Type 0 where
+  Comes : (piece : pieces.Piece) → (now : ℕ) → (read : Reading) → CallEvent
+  Ticks : (now : ℕ) → CallEvent
+
+abbrev pub after_event : Answering → CallEvent → Answering
+after_event a (Comes piece now read) = came read a piece now
+after_event a (Ticks now) = (ticked a now).core
+
+-- from the core as it was rung, through these events
+abbrev pub after_events : Answering → List CallEvent → Answering
+after_events a [] = a
+after_events a (e ∷ before) = after_event (after_events a before) e

@@ -1,0 +1,14 @@
+pub mod Orders
+pub mod Pending
+pub mod Following
+pub mod History
+pub mod Table
+pub mod Replies
+pub mod Calls
+pub mod Confirmation
+pub mod Images
+pub mod Judging
+pub mod Kept
+pub mod Reached
+pub mod Shown
+pub mod Readings

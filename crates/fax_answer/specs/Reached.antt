@@ -1,0 +1,97 @@
+-- What an answering side keeps that a call has led to.
+use Rattle.std.specs.Prelude.{◌≡◌, ℕ, ◌≤◌, true, List, ◌++◌, reverse, length, Option, None}
+use Rattle.fax_frames.specs.declared.dcs.Dcs.{Dcs}
+use Rattle.fax_ifp.specs.Elements.{Slot}
+use Rattle.fax_ifp.specs.Pieces.{Piece, pieces}
+use Rattle.fax_ifp.specs.Tracked.{Tracked, IsTracked}
+use Rattle.fax_answer.specs.declared.command.Command.{Command}
+use Rattle.fax_answer.specs.declared.command.Order.TheVariants.{Judge}
+use Rattle.fax_answer.specs.declared.decision.Decision as code
+use Rattle.fax_answer.specs.declared.procedure.Procedure.{Procedure}
+use Rattle.fax_answer.specs.declared.state.State.TheVariants.{Page}
+use Rattle.fax_answer.specs.Orders.{order_of}
+use Rattle.fax_answer.specs.History.{Entry, since_answer, octets_since, last_image}
+use Rattle.fax_answer.specs.Table.{Reading, is_one_image, judged, on_command, on_order, order_asks}
+use Rattle.fax_answer.specs.Replies.{ConfirmedPage}
+use Rattle.fax_answer.specs.Calls.{Answering, asked, came, first_asked, came_all}
+use Rattle.fax_answer.specs.Confirmation.{IfAsked, IsRead, IsRight}
+use Rattle.fax_answer.specs.Readings.{CameSo}
+use Rattle.fax_answer.specs.Kept.{verdict_of}
+use Rattle.fax_answer.specs.Images.{ImageValue, open_octets, ended_octets, run_behind, longest_behind}
+use Rattle.fax_answer.specs.Following.{Follows, confirmed_behind}
+
+-- what is left of the slots for frames and images to come, the procedure, the octets of images, and the page that the
+-- MCF that waits confirms
+pub record Kept : Type 0 where
+  pub tracked : Tracked
+  pub procedure : Procedure
+  pub image : ImageValue
+  pub confirmed : Option ConfirmedPage
+
+-- the octets of images that a history leaves: those of the open image, and those of the last that ended where it may
+-- still be asked what it means
+pub record Holds (history : List Entry) (image : ImageValue) : Type 0 where
+  pub within : image.end ≤ length image.octets
+  pub openly : open_octets image ≡ octets_since history
+  pub run : image.run ≡ run_behind 0 (octets_since history)
+  pub longest : image.longest ≡ longest_behind 0 0 (octets_since history)
+  pub last : is_one_image (since_answer history) ≡ true → ended_octets image ≡ last_image history
+
+-- it stands for this core
+pub record Stands (core : Answering) (kept : Kept) : Type 0 where
+  pub follows : Follows core kept.confirmed kept.procedure
+  pub holds : Holds core.history kept.image
+
+-- these slots of the call, the newest first, and this core led to it
+pub record IsReached (heard : List Slot) (core : Answering) (kept : Kept) : Type 0 where
+  pub tracked : IsTracked heard kept.tracked
+  pub stands : Stands core kept
+
+-- More slots, in the order of time, led on, whatever came before: their pieces came, by one reading that is right.
+pub record Hears (slots : List Slot) (now : ℕ) (heard : List Slot) (core : Answering) (new : Kept) : Type 0 where
+  pub given : List Piece
+  pub pieces : pieces (reverse slots ++ heard) ≡ pieces heard ++ given
+  pub read : Reading
+  pub right : IsRead (first_asked core given now) read
+  pub reached : IsReached (reverse slots ++ heard) (came_all read core given now) new
+
+-- the same, with a reading for each piece
+pub record HearsSo (slots : List Slot) (now : ℕ) (heard : List Slot) (core : Answering) (new : Kept) : Type 0 where
+  pub given : List Piece
+  pub pieces : pieces (reverse slots ++ heard) ≡ pieces heard ++ given
+  pub behind : Answering
+  pub came : CameSo core given now behind
+  pub reached : IsReached (reverse slots ++ heard) behind new
+
+-- one more piece
+pub record Takes (piece : Piece) (now : ℕ) (core : Answering) (new : Kept) : Type 0 where
+  pub read : Reading
+  pub right : IfAsked (asked core piece) read
+  pub stands : Stands (came read core piece now) new
+
+-- these pieces, in the order of time
+pub record TakesAll (given : List Piece) (now : ℕ) (core : Answering) (new : Kept) : Type 0 where
+  pub behind : Answering
+  pub came : CameSo core given now behind
+  pub stands : Stands behind new
+
+-- what is decided of an image by some reading of it that is right, and the page that is confirmed
+pub record AnswersImage (octets : List ℕ) (dcs : Dcs) (command : Command) (verdict : code.Decision) (confirmed : Option ConfirmedPage) : Type 0 where
+  pub read : Reading
+  pub right : IsRight (record { octets = octets; dcs = dcs }) read
+  pub verdict_is : verdict_of (judged command read) ≡ verdict
+  pub page_is : confirmed ≡ confirmed_behind (judged command read) None
+
+-- the same at a command in Page
+pub record AnswersCommand (dcs : Dcs) (command : Command) (history : List Entry) (verdict : code.Decision) (confirmed : Option ConfirmedPage) : Type 0 where
+  pub read : Reading
+  pub right : IfAsked (order_asks (Page dcs) history (Judge command)) read
+  pub verdict_is : verdict_of (on_command read history command) ≡ verdict
+  pub page_is : confirmed ≡ confirmed_behind (on_command read history command) None
+
+-- the same at a frame where no packet waits
+pub record Answers (octets : List ℕ) (core : Answering) (verdict : code.Decision) (confirmed : Option ConfirmedPage) : Type 0 where
+  pub read : Reading
+  pub right : IfAsked (order_asks core.state core.history (order_of octets)) read
+  pub verdict_is : verdict_of (on_order read core.state core.history (order_of octets)) ≡ verdict
+  pub page_is : confirmed ≡ confirmed_behind (on_order read core.state core.history (order_of octets)) None

@@ -1,0 +1,29 @@
+-- What contracts see of a page that is confirmed.
+use Rattle.std.specs.Prelude.{◌≡◌, List, ℕ, Option, Some, None, if◌then◌else◌}
+use Rattle.fax_answer.specs.declared.step.Confirmed.{Confirmed}
+use Rattle.fax_answer.specs.declared.command.Command.TheVariants.{Mps, Eop}
+use Rattle.fax_answer.specs.declared.step.Step.{Step}
+use Rattle.fax_answer.specs.Replies.{ConfirmedPage, Waiting}
+use Rattle.fax_answer.specs.Calls.{Ticked}
+
+abbrev pub page_shown : {S : Type 0} → Confirmed S → ConfirmedPage
+page_shown c = record { page = c.page; command = if c.closes then Eop else Mps }
+
+abbrev pub confirmed_shown : {S : Type 0} → Option (Confirmed S) → Option ConfirmedPage
+confirmed_shown None = None
+confirmed_shown (Some c) = Some (page_shown c)
+
+-- the packet of a waiting one, and the page that it confirms
+abbrev pub packet_in : Option Waiting → Option (List ℕ)
+packet_in None = None
+packet_in (Some w) = Some w.packet
+
+abbrev pub confirmed_in : Option Waiting → Option ConfirmedPage
+confirmed_in None = None
+confirmed_in (Some w) = w.confirmed
+
+-- a step says what a tick gives
+pub record IsStep {S : Type 0} (t : Ticked) (step : Step S) : Type 0 where
+  pub packet : step.packet ≡ packet_in t.given
+  pub confirmed : confirmed_shown step.confirmed ≡ confirmed_in t.given
+  pub ends : step.ended ≡ t.ended

@@ -1,0 +1,115 @@
+//! The answering side of a call.
+ghost use Rattle.std.specs.Prelude.{◌≡◌, List, [], None, IfOk, OnErr, if◌then◌else◌};
+ghost use Rattle.fax_ifp.specs.Elements.{Slot as SlotShown};
+ghost use Rattle.fax_answer.specs.Calls.{Answering, new_answering, rung, ticked};
+ghost use Rattle.fax_answer.specs.Reached.{IsReached};
+ghost use Rattle.fax_answer.specs.Shown.{IsStep};
+
+use crate::State;
+use crate::image::Image;
+use crate::procedure::Procedure;
+use crate::step::{Confirmed, Step};
+use fax_bits::NoMemory;
+use fax_ifp::Signals;
+use fax_pagestore::RowStore;
+use std::alloc::Global;
+use std::marker::Model;
+
+/// The answering side of the calls of a leg, one after another (ITU-T T.30, phases B to D of a called terminal). Seen as
+/// what a call has led to: its contracts are told over every history of slots, pieces and ticks.
+#[derive(Drop)]
+pub struct Answerer<S: RowStore> {
+    pub(crate) alloc: Global,
+    pub(crate) signals: Signals,
+    pub(crate) procedure: Procedure,
+    pub(crate) image: Image,
+    /// The page that the MCF confirms that waits.
+    pub(crate) confirmed: Option<Confirmed<S>>,
+}
+
+impl<S: RowStore> Model for Answerer<S> {
+    ghost use Rattle.std.specs.Prelude.{◌≡◌, None};
+    ghost use Rattle.fax_answer.specs.declared.pending.Pending.TheVariants.{Nothing};
+    ghost use Rattle.fax_answer.specs.Reached.{Kept};
+    ghost use Rattle.fax_answer.specs.Shown.{confirmed_shown};
+
+    ghost Value = { Kept };
+
+    ghost view = { λ a. record { tracked = a.signals; procedure = a.procedure; image = a.image; confirmed = confirmed_shown a.confirmed } };
+
+    ghost invariant = { λ a. a.procedure.pending ≡ Nothing → a.confirmed ≡ None };
+}
+
+impl<S: RowStore> Answerer<S> {
+    /// An answering side on whose leg no call was. It takes no memory.
+    pub fn new(alloc: Global) -> Self
+        ensures { IsReached [] new_answering result }
+    {
+        Answerer {
+            alloc,
+            signals: Signals::new(alloc),
+            procedure: Procedure::new(),
+            image: Image::new(alloc),
+            confirmed: None,
+        }
+    }
+
+    /// A ring, where no call is on: CED and our DIS wait, and T1 is set. It takes no memory.
+    pub fn ring(&mut self, now: u64)
+        requires { self.old.procedure.state ≡ State.Idle }
+        ensures { (heard : List SlotShown) (core : Answering) → IsReached heard core self.old
+            → IsReached [] (rung core now) self.new }
+    {
+        self.signals = Signals::new(self.alloc);
+        self.procedure.ring(now);
+        self.image = Image::new(self.alloc);
+        self.confirmed = None;
+    }
+
+    /// Where the call stands.
+    pub fn state(&self) -> State
+        ensures { result ≡ self.now.procedure.state }
+    {
+        self.procedure.state
+    }
+
+    /// Time goes on: where no packet waits a timer that is due acts, and then at most one packet is given, where one waits
+    /// and the pace allows. The MCF that confirms a page is given with the page. It takes memory for the packet. An `Err`
+    /// changes nothing.
+    pub fn tick(&mut self, now: u64) -> Result<Step<S>, NoMemory>
+        ensures ticked { IfOk result (λ step. (heard : List SlotShown) (core : Answering) → IsReached heard core self.old
+            → IsReached heard (ticked core now).core self.new × IsStep (ticked core now) step) }
+        ensures err { OnErr result (self.new ≡ self.old) }
+    {
+        let mut procedure = self.procedure;
+        procedure.act(now);
+        if !procedure.gives(now) {
+            self.procedure = procedure;
+            return Ok(Step {
+                packet: None,
+                confirmed: None,
+                ended: false,
+            });
+        }
+        let packet = procedure.pending.packet(self.alloc)?;
+        let ended = procedure.give(now);
+        let confirmed = take_if(&mut self.confirmed, !procedure.is_waiting());
+        self.procedure = procedure;
+        Ok(Step {
+            packet: Some(packet),
+            confirmed,
+            ended,
+        })
+    }
+}
+
+/// Takes the page where the packet that confirms it is given.
+fn take_if<S: RowStore>(
+    confirmed: &mut Option<Confirmed<S>>,
+    is_given: bool,
+) -> Option<Confirmed<S>>
+    ensures left { confirmed.new ≡ (if is_given then None else confirmed.old) }
+    ensures taken { result ≡ (if is_given then confirmed.old else None) }
+{
+    if is_given { confirmed.take() } else { None }
+}

@@ -1,0 +1,44 @@
+//! Laws of the answering side: functions that do nothing, each of whose contracts is a theorem. Each is told of every
+//! call: from any core that is rung, through any pieces and ticks, where each image that is asked about was read rightly.
+ghost use Rattle.fax_answer.specs.Confirmation.{GivesConfirmations, EachMcfAnswers};
+ghost use Rattle.fax_answer.specs.Judging.{RefusesNoPage, JudgesExactly};
+ghost use Rattle.fax_answer.specs.Readings.{ReadingsJoin, CallsAreRead, CallsGoOn};
+
+/// Each tick that gives a confirmed page gives the MCF frame as its packet, at the last command that was answered: a
+/// command behind exactly one image since the last CFR or MCF, which is whole, with neither a missing slot nor a
+/// signal since its end, and which means the page under the DCS that the last CFR answered.
+pub fn gives_confirmations()
+    ensures { GivesConfirmations }
+{}
+
+/// Each tick that gives the MCF frame gives a confirmed page, or answers the command again that was answered last, with
+/// no image, no missing slot and no signal since.
+pub fn each_mcf_answers()
+    ensures { EachMcfAnswers }
+{}
+
+/// Where images came since the last CFR or MCF and the last of them means no page, a command is answered by RTN.
+pub fn refuses_what_means_no_page()
+    ensures { RefusesNoPage }
+{}
+
+/// One image with nothing behind it is answered by RTN exactly where it means no page, and else by MCF for the page that
+/// it means.
+pub fn judges_exactly()
+    ensures { JudgesExactly }
+{}
+
+/// One reading serves all pieces of a datagram.
+pub fn readings_join()
+    ensures { ReadingsJoin }
+{}
+
+/// Where a datagram's one reading is right, so is each reading of its pieces.
+pub fn calls_are_read()
+    ensures { CallsAreRead }
+{}
+
+/// A call goes on, whatever comes.
+pub fn calls_go_on()
+    ensures { CallsGoOn }
+{}

@@ -1,0 +1,25 @@
+//! The answering side of a call (ITU-T T.30, phases B to D of a called terminal), without sockets or a clock:
+//! slots of packets and moments go in, packets and confirmed pages come out.
+//!
+//! Moments are milliseconds. Each definition that a contract here speaks of stands in `specs/`: the answering
+//! table in `Table`, what is read off the history of a call in `History`, what waits in `Replies`, timers and
+//! pace in `Calls`.
+#![tactic(auto)]
+
+mod answerer;
+mod command;
+mod counts;
+mod decision;
+mod hearing;
+mod image;
+pub mod laws;
+mod pending;
+mod procedure;
+mod state;
+mod step;
+mod timers;
+
+pub use answerer::Answerer;
+pub use command::{Command, Order};
+pub use state::State;
+pub use step::{Confirmed, Step};

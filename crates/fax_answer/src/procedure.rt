@@ -1,0 +1,254 @@
+//! The procedure of a call (ITU-T T.30): its state, what is counted of it, what waits, timers and pace. It is plain data
+//! and takes no memory.
+ghost use Rattle.std.specs.Prelude.{◌≡◌, ◌≢◌, ◌↔◌, Option, None, IsTrue, false};
+ghost use Rattle.fax_ifp.specs.Pieces.{Piece as PieceShown};
+ghost use Rattle.fax_ifp.specs.Shown.{piece_of};
+ghost use Rattle.fax_answer.specs.History.{Decision as Decided};
+ghost use Rattle.fax_answer.specs.Table.{state_after};
+ghost use Rattle.fax_answer.specs.Replies.{ConfirmedPage, reply_to};
+ghost use Rattle.fax_answer.specs.Calls.{Answering, new_answering, rung, decided, timers_after, is_heard, timed, says_goodbye, state_when_given, timers_when_given, is_closing};
+ghost use Rattle.fax_answer.specs.Kept.{pending_reply, verdict_of};
+ghost use Rattle.fax_answer.specs.Pending.{waiting_of};
+ghost use Rattle.fax_answer.specs.Following.{Follows, CanDecide, confirmed_behind, GivesNext, gives_now, gives_up, repeats_dis};
+
+use crate::State;
+use crate::counts::Counts;
+use crate::decision::Decision;
+use crate::pending::{Pending, Reply};
+use crate::timers::Timers;
+use fax_frames::Plain;
+use fax_ifp::Piece;
+use fax_timers::{Pace, T1_MS, T2_MS, T4_MS};
+
+/// The procedure of a call.
+#[derive(Clone, Copy)]
+pub(crate) struct Procedure {
+    pub state: State,
+    pub counts: Counts,
+    pub pending: Pending,
+    pub timers: Timers,
+    pub pace: Pace,
+}
+
+impl Procedure {
+    /// No call is on, and none was.
+    pub fn new() -> Self
+        ensures { Follows new_answering None result }
+    {
+        Procedure {
+            state: State::Idle,
+            counts: Counts::new(),
+            pending: Pending::Nothing,
+            timers: Timers::clear(),
+            pace: Pace::new(),
+        }
+    }
+
+    /// A ring: CED and our DIS wait, and T1 is set.
+    pub fn ring(&mut self, now: u64)
+        ensures { (core : Answering) (confirmed : Option ConfirmedPage) → Follows core confirmed self.old
+            → Follows (rung core now) None self.new }
+    {
+        let mut timers = Timers::clear();
+        timers.t1.set(now, T1_MS);
+        *self = Procedure {
+            state: State::Identify,
+            counts: Counts::new(),
+            pending: Pending::Tone,
+            timers,
+            pace: self.pace,
+        };
+    }
+
+    /// Whether a packet waits.
+    pub fn is_waiting(&self) -> bool
+        ensures waits { IsTrue result ↔ (self.now.pending ≢ Pending.Nothing) }
+        ensures none { result ≡ false → self.now.pending ≡ Pending.Nothing }
+    {
+        self.pending != Pending::Nothing
+    }
+
+    /// Notes a piece and what is decided at it.
+    pub fn note(&mut self, piece: &Piece<'_>, decision: Decision, now: u64)
+        ensures waits { self.old.pending ≢ Pending.Nothing → self.new.pending ≡ self.old.pending }
+        ensures free { self.old.pending ≡ Pending.Nothing → self.new.pending ≡ pending_reply decision }
+        ensures noted { (core : Answering) (confirmed : Option ConfirmedPage) (p : PieceShown) (d : Decided)
+            → Follows core confirmed self.old → piece_of piece.now ≡ p → verdict_of d ≡ decision → CanDecide core d
+            → Follows (decided core p d now) (confirmed_behind d confirmed) self.new }
+    {
+        self.timers = self.timers_behind(piece, decision, now);
+        self.counts.note(piece, decision);
+        self.state = state_behind(self.state, decision);
+        if self.pending == Pending::Nothing {
+            self.pending = pending_behind(decision);
+        }
+    }
+
+    /// The timers behind a decision: a DCS that trains clears T1 and T4 and sets T2; T2 and T4 are clear while packets
+    /// wait; what is heard sets T2 anew.
+    fn timers_behind(&self, piece: &Piece<'_>, decision: Decision, now: u64) -> Timers
+        ensures { (core : Answering) (confirmed : Option ConfirmedPage) (p : PieceShown) (d : Decided)
+            → Follows core confirmed self.now → piece_of piece.now ≡ p → verdict_of d ≡ decision
+            → result ≡ timers_after core p d now }
+    {
+        let mut timers = self.timers;
+        match decision {
+            Decision::Train(_) => {
+                timers = Timers::clear();
+                timers.t2.set(now, T2_MS);
+            }
+            Decision::HangUp => timers = Timers::clear(),
+            Decision::PassOver => {
+                if !self.is_waiting() && is_heard(self.state, piece) {
+                    timers.t2.set(now, T2_MS);
+                }
+            }
+            Decision::Cfr(_) | Decision::Ftt | Decision::Mcf(_) | Decision::Rtn => {
+                timers.t2.clear();
+                timers.t4.clear();
+            }
+        }
+        timers
+    }
+
+    /// The timers act where no packet waits, T1 before the others: DCN where T1 or T2 is due, DIS again where T4 is.
+    pub fn act(&mut self, now: u64)
+        ensures quiet { self.new.pending ≡ Pending.Nothing → self.old.pending ≡ Pending.Nothing }
+        ensures acted { (core : Answering) (confirmed : Option ConfirmedPage) → Follows core confirmed self.old
+            → Follows (timed core now) confirmed self.new }
+    {
+        if self.is_waiting() {
+            return;
+        }
+        if self.gives_up(now) {
+            self.say_goodbye();
+        } else if self.repeats_dis(now) {
+            self.pending = Pending::Preamble(Reply::Dis);
+            self.timers.t2.clear();
+            self.timers.t4.clear();
+        }
+    }
+
+    /// Whether the call is given up: T1 is due in Identify, or T2 in Listen, Train or Page.
+    fn gives_up(&self, now: u64) -> bool
+        ensures { result ≡ gives_up self.now.state self.now.timers now }
+    {
+        match self.state {
+            State::Idle | State::Closing => false,
+            State::Identify => self.timers.t1.due(now),
+            State::Listen | State::Train(_) | State::Page(_) => self.timers.t2.due(now),
+        }
+    }
+
+    /// Whether the DIS is given again: T4 is due in Identify.
+    fn repeats_dis(&self, now: u64) -> bool
+        ensures { result ≡ repeats_dis self.now.state self.now.timers now }
+    {
+        self.state == State::Identify && self.timers.t4.due(now)
+    }
+
+    /// DCN waits, and the call closes with it.
+    fn say_goodbye(&mut self)
+        requires { self.old.pending ≡ Pending.Nothing }
+        ensures { (core : Answering) (confirmed : Option ConfirmedPage) → Follows core confirmed self.old
+            → Follows (says_goodbye core) confirmed self.new }
+    {
+        self.state = State::Closing;
+        self.pending = Pending::Preamble(Reply::Plain(Plain::Dcn));
+        self.timers = Timers::clear();
+    }
+
+    /// Whether a packet is given now: one waits, and the pace lets it through.
+    pub fn gives(&self, now: u64) -> bool
+        ensures gives { (core : Answering) (confirmed : Option ConfirmedPage) → Follows core confirmed self.now
+            → result ≡ gives_now core now }
+        ensures waits { IsTrue result → self.now.pending ≢ Pending.Nothing }
+    {
+        self.is_waiting() && self.pace.allows(now)
+    }
+
+    /// The next packet is given. It answers whether the call has ended with it.
+    pub fn give(&mut self, now: u64) -> bool
+        requires { self.old.pending ≢ Pending.Nothing }
+        ensures { (core : Answering) (confirmed : Option ConfirmedPage) → Follows core confirmed self.old
+            → GivesNext core confirmed now self.old self.new result }
+    {
+        self.pace.given(now);
+        match self.pending {
+            Pending::Tone => self.pending = Pending::Preamble(Reply::Dis),
+            Pending::Preamble(reply) => self.pending = Pending::Frame(reply),
+            Pending::Frame(_) | Pending::Nothing => {
+                self.pending = Pending::Nothing;
+                return self.finish_reply(now);
+            }
+        }
+        false
+    }
+
+    /// The last packet of a reply is given: the state's T2 or T4 is set, and a call that closes has ended.
+    fn finish_reply(&mut self, now: u64) -> bool
+        ensures state { self.new.state ≡ state_when_given self.old.state }
+        ensures counts { self.new.counts ≡ self.old.counts }
+        ensures pending { self.new.pending ≡ self.old.pending }
+        ensures pace { self.new.pace ≡ self.old.pace }
+        ensures timers { self.new.timers ≡ timers_when_given self.old.state self.old.timers now }
+        ensures ended { result ≡ is_closing self.old.state }
+    {
+        match self.state {
+            State::Idle => false,
+            State::Identify => {
+                self.timers.t2.clear();
+                self.timers.t4.set(now, T4_MS);
+                false
+            }
+            State::Listen | State::Train(_) | State::Page(_) => {
+                self.timers.t2.set(now, T2_MS);
+                self.timers.t4.clear();
+                false
+            }
+            State::Closing => {
+                self.state = State::Idle;
+                true
+            }
+        }
+    }
+}
+
+/// Whether a piece sets T2 anew: a frame, a signal that begins, and octets of one, in Listen, Train and Page.
+fn is_heard(state: State, piece: &Piece<'_>) -> bool
+    ensures { result ≡ is_heard state (piece_of piece.now) }
+{
+    let counts = match piece {
+        Piece::Frame(_) | Piece::Start(_) | Piece::Octets(_) => true,
+        Piece::End { .. } | Piece::Gap => false,
+    };
+    counts && matches!(state, State::Listen | State::Train(_) | State::Page(_))
+}
+
+/// The state behind a decision.
+fn state_behind(state: State, decision: Decision) -> State
+    ensures { (d : Decided) → verdict_of d ≡ decision → result ≡ state_after state d }
+{
+    match decision {
+        Decision::Train(dcs) => State::Train(dcs),
+        Decision::HangUp => State::Idle,
+        Decision::Cfr(dcs) => State::Page(dcs),
+        Decision::Ftt => State::Listen,
+        Decision::PassOver | Decision::Mcf(_) | Decision::Rtn => state,
+    }
+}
+
+/// What waits behind a decision, where nothing waited.
+fn pending_behind(decision: Decision) -> Pending
+    ensures reply { (d : Decided) → verdict_of d ≡ decision → waiting_of result (confirmed_behind d None) ≡ reply_to d }
+    ensures pending { result ≡ pending_reply decision }
+{
+    let plain = match decision {
+        Decision::PassOver | Decision::Train(_) | Decision::HangUp => return Pending::Nothing,
+        Decision::Cfr(_) => Plain::Cfr,
+        Decision::Ftt => Plain::Ftt,
+        Decision::Mcf(_) => Plain::Mcf,
+        Decision::Rtn => Plain::Rtn,
+    };
+    Pending::Preamble(Reply::Plain(plain))
+}
