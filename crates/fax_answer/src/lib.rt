@@ -17,6 +17,8 @@ mod pending;
 mod procedure;
 mod state;
 mod step;
+#[cfg(test)]
+mod tests;
 mod timers;
 
 pub use answerer::Answerer;
