@@ -1,0 +1,102 @@
+-- The book of jobs: what it has, and what each of its steps makes of it. (This project's profile.)
+use Rattle.std.specs.Prelude.{ℕ, ◌-◌, Bool, true, false, not, ◌&&◌, nat_lt, nat_eq, List, [], ◌∷◌, ◌++◌, length, drop, Option, Some, None, if◌then◌else◌}
+use Rattle.fax_runcodes.specs.declared.format.Format.{Format}
+use Rattle.fax_runcodes.specs.declared.Width.{Width}
+use Rattle.fax_runcodes.specs.declared.Width.TheVariants.{W1728, W2048, W2432}
+use Rattle.fax_pagestore.specs.Pages.{PageValue}
+use Rattle.fax_jobs.specs.declared.outcome.Outcome.{Outcome}
+use Rattle.fax_jobs.specs.declared.report.Report.{Report}
+use Rattle.fax_jobs.specs.Jobs.{JobValue, most_pages}
+
+-- A book: the job that pages still join, those that wait, the first to be closed first, the one that is being sent, and
+-- the reports of the last 64 that ended, the oldest first.
+pub record Book : Type 0 where
+  pub open_job : Option JobValue
+  pub waiting : List JobValue
+  pub sending : Option JobValue
+  pub reports : List Report
+
+abbrev pub new_book : Book
+new_book = record { open_job = None; waiting = []; sending = None; reports = [] }
+
+-- a job is opened with its first page
+abbrev pub job_of : ℕ → PageValue → JobValue
+job_of call page = record { call = call; format = page.format; pages = page ∷ [] }
+
+abbrev pub opened : Book → ℕ → PageValue → Book
+opened book call page = record book { open_job = Some (job_of call page) }
+
+-- a page joins the open job
+abbrev pub longer : JobValue → PageValue → JobValue
+longer job page = record job { pages = job.pages ++ page ∷ [] }
+
+abbrev pub joined : Option JobValue → PageValue → Option JobValue
+joined None page = None
+joined (Some job) page = Some (longer job page)
+
+abbrev pub added : Book → PageValue → Book
+added book page = record book { open_job = joined book.open_job page }
+
+-- the open job is closed, and waits behind the others
+abbrev pub behind : List JobValue → Option JobValue → List JobValue
+behind jobs None = jobs
+behind jobs (Some job) = jobs ++ job ∷ []
+
+abbrev pub closed : Book → Book
+closed book = record book { open_job = None; waiting = behind book.waiting book.open_job }
+
+-- the job that was closed first is sent
+abbrev pub first_of : List JobValue → Option JobValue
+first_of [] = None
+first_of (job ∷ jobs) = Some job
+
+abbrev pub taken : Book → Book
+taken book = record book { waiting = drop 1 book.waiting; sending = first_of book.waiting }
+
+-- the job that was sent has ended, and is reported; the last 64 reports are kept
+abbrev pub kept_reports : ℕ
+kept_reports = 64
+
+abbrev pub last_of : ℕ → List Report → List Report
+last_of n reports = drop (length reports - n) reports
+
+abbrev pub report_of : JobValue → Outcome → ℕ → Report
+report_of job outcome delivered =
+    record { call = job.call; format = job.format; pages = length job.pages; delivered = delivered; outcome = outcome }
+
+abbrev pub reported : List Report → Option JobValue → Outcome → ℕ → List Report
+reported reports None outcome delivered = reports
+reported reports (Some job) outcome delivered = reports ++ report_of job outcome delivered ∷ []
+
+abbrev pub ended : Book → Outcome → ℕ → Book
+ended book outcome delivered =
+    record book { sending = None; reports = last_of kept_reports (reported book.reports book.sending outcome delivered) }
+
+-- A CONFIRMED PAGE joins the open job where that is of its call and format and has fewer than 999 pages. Else the open job
+-- is closed and another one opened. Behind EOP the job is closed.
+abbrev pub same_width : Width → Width → Bool
+same_width W1728 W1728 = true
+same_width W2048 W2048 = true
+same_width W2432 W2432 = true
+same_width v w = false
+
+abbrev pub same_bool : Bool → Bool → Bool
+same_bool true b = b
+same_bool false b = not b
+
+abbrev pub same_format : Format → Format → Bool
+same_format f g = same_width f.width g.width && same_bool f.fine g.fine
+
+abbrev pub takes_page : JobValue → ℕ → PageValue → Bool
+takes_page job call page =
+    nat_eq job.call call && (same_format job.format page.format && nat_lt (length job.pages) most_pages)
+
+abbrev pub joins : Option JobValue → ℕ → PageValue → Bool
+joins None call page = false
+joins (Some job) call page = takes_page job call page
+
+abbrev pub with_page : Book → ℕ → PageValue → Book
+with_page book call page = if joins book.open_job call page then added book page else opened (closed book) call page
+
+abbrev pub confirmed : Book → ℕ → PageValue → (closes : Bool) → Book
+confirmed book call page closes = if closes then closed (with_page book call page) else with_page book call page

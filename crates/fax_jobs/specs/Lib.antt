@@ -1,0 +1,5 @@
+pub mod Books
+pub mod Cuts
+pub mod Jobs
+pub mod Outcomes
+pub mod Pasts

@@ -1,0 +1,87 @@
+//! A job: pages that go out in one call.
+ghost use Rattle.std.specs.Prelude.{◌≡◌, ◌<◌, length, OnOk, OnErr, IfOk, IfErr};
+ghost use Rattle.fax_jobs.specs.Jobs.{IsJob, most_pages};
+ghost use Rattle.fax_jobs.specs.Books.{job_of, longer};
+
+use crate::Pages;
+use fax_pagestore::{Format, Page, RowStore};
+use std::alloc::Global;
+use std::marker::Model;
+
+/// The pages of one call that go out in one call of our own: 1 to 999 of them, all of one format. Seen as these, with the
+/// number of the call that they came in.
+#[derive(Drop)]
+pub struct Job<S: RowStore> {
+    call: u32,
+    format: Format,
+    pages: Pages<S>,
+}
+
+impl<S: RowStore> Model for Job<S> {
+    ghost use Rattle.fax_jobs.specs.Jobs.{JobValue, IsJob};
+
+    ghost Value = { JobValue };
+
+    ghost view = { λ job. record { call = job.call; format = job.format; pages = job.pages } };
+
+    ghost invariant = { λ job. IsJob (record { call = job.call; format = job.format; pages = job.pages }) };
+}
+
+impl<S: RowStore> Job<S> {
+    /// A job of one page, which came in the call of this number. For want of memory the page is handed back.
+    pub fn of_page(alloc: Global, call: u32, page: Page<S>) -> Result<Self, Page<S>>
+        ensures made { IfOk result (λ job. job ≡ job_of call page) }
+        ensures back { IfErr result (λ back. back ≡ page) }
+    {
+        let format = page.format();
+        let _ = page.rows();
+        let mut pages = Pages::from_vec(Vec::new(alloc));
+        pages.push(page)?;
+        Ok(Job {
+            call,
+            format,
+            pages,
+        })
+    }
+
+    /// Adds a page behind the others, or hands it back for want of memory.
+    pub fn add_page(&mut self, page: Page<S>) -> Result<(), Page<S>>
+        requires one_format { page.format ≡ self.old.format }
+        requires few { length self.old.pages < most_pages }
+        ensures added { OnOk result (self.new ≡ longer self.old page) }
+        ensures back { IfErr result (λ back. back ≡ page) }
+        ensures err { OnErr result (self.new ≡ self.old) }
+    {
+        let _ = page.rows();
+        self.pages.push(page)
+    }
+
+    /// The number of the call that its pages came in.
+    pub fn call(&self) -> u32
+        ensures { result ≡ self.now.call }
+    {
+        self.call
+    }
+
+    /// The format of its pages.
+    pub fn format(&self) -> Format
+        ensures { result ≡ self.now.format }
+    {
+        self.format
+    }
+
+    /// Its pages, in the order of their confirmations.
+    pub fn pages(&self) -> &Pages<S>
+        ensures same { result.now ≡ self.now.pages }
+        ensures is_job { IsJob self.now }
+    {
+        &self.pages
+    }
+
+    /// How many pages it has, 1 to 999.
+    pub fn page_count(&self) -> u32
+        ensures { result ≡ length self.now.pages }
+    {
+        self.pages.as_slice().len() as u32
+    }
+}
