@@ -3,11 +3,13 @@
 #![tactic(auto)]
 
 mod job;
+mod jobs;
 mod outcome;
 mod pages;
 mod report;
 
 pub use job::Job;
+pub use jobs::Jobs;
 pub use outcome::Outcome;
 pub use pages::Pages;
 pub use report::Report;
