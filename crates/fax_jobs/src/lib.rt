@@ -4,6 +4,7 @@
 
 mod job;
 mod jobs;
+pub mod laws;
 mod outcome;
 mod pages;
 mod report;
