@@ -1,5 +1,5 @@
 -- The book of jobs: what it has, and what each of its steps makes of it. (This project's profile.)
-use Rattle.std.specs.Prelude.{ℕ, ◌-◌, Bool, true, false, not, ◌&&◌, nat_lt, nat_eq, List, [], ◌∷◌, ◌++◌, length, drop, Option, Some, None, if◌then◌else◌}
+use Rattle.std.specs.Prelude.{◌≡◌, ℕ, ◌<◌, ◌-◌, Bool, true, false, not, ◌&&◌, nat_lt, nat_eq, List, [], ◌∷◌, ◌++◌, length, drop, Option, Some, None, if◌then◌else◌}
 use Rattle.fax_runcodes.specs.declared.format.Format.{Format}
 use Rattle.fax_runcodes.specs.declared.Width.{Width}
 use Rattle.fax_runcodes.specs.declared.Width.TheVariants.{W1728, W2048, W2432}
@@ -29,6 +29,11 @@ opened book call page = record book { open_job = Some (job_of call page) }
 -- a page joins the open job
 abbrev pub longer : JobValue → PageValue → JobValue
 longer job page = record job { pages = job.pages ++ page ∷ [] }
+
+-- a job is open, of the page's format, with fewer than 999 pages
+abbrev pub TakesPage : Option JobValue → PageValue → Type 0
+TakesPage None page = ⊥
+TakesPage (Some job) page = (page.format ≡ job.format) × (length job.pages < most_pages)
 
 abbrev pub joined : Option JobValue → PageValue → Option JobValue
 joined None page = None

@@ -100,7 +100,7 @@ CutsEachCall =
     (old : Past) (call : ℕ) (steps : List Step) → old.book.open_job ≡ None → AreInCall call steps
     → IsCutSince call old steps × IsCutAtEnd call old steps
 
--- While no call is on, what is sent and ends changes no order: the jobs stay the same.
+-- While no call is on, what is sent and ends changes no order: the jobs stay the same, and none is open.
 abbrev pub AreBetweenCalls : List Step → Type 0
 AreBetweenCalls [] = Unit {0}
 AreBetweenCalls (Confirms call page closes ∷ before) = ⊥
@@ -111,7 +111,7 @@ AreBetweenCalls (Ends outcome delivered ∷ before) = AreBetweenCalls before
 abbrev pub KeepsJobs : Type 0
 KeepsJobs =
     (old : Past) (steps : List Step) → old.book.open_job ≡ None → AreBetweenCalls steps
-    → jobs_of (after_steps old steps) ≡ jobs_of old
+    → (jobs_of (after_steps old steps) ≡ jobs_of old) × ((after_steps old steps).book.open_job ≡ None)
 
 -- Confirmations are cut in one way only.
 abbrev pub CutsAreOne : Type 0

@@ -3,11 +3,14 @@
 #![tactic(auto)]
 
 mod job;
+mod jobs;
+pub mod laws;
 mod outcome;
 mod pages;
 mod report;
 
 pub use job::Job;
+pub use jobs::Jobs;
 pub use outcome::Outcome;
 pub use pages::Pages;
 pub use report::Report;

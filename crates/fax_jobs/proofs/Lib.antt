@@ -1,0 +1,5 @@
+mod CallCuts
+mod CutLemmas
+mod OneCut
+mod Reporting
+mod TakenPages

@@ -1,0 +1,207 @@
+//! The book of jobs.
+ghost use Rattle.std.specs.Prelude.{◌≡◌, None, length, slice_get, option_copied, IfOk, IfErr, OnOk, OnErr, IsSome};
+ghost use Rattle.fax_jobs.specs.Books.{new_book, opened, added, closed, taken, ended, confirmed, joins, TakesPage};
+
+use crate::{Job, Outcome, Report};
+use circular_buffer::HeapCircularBuffer;
+use fax_bits::NoMemory;
+use fax_pagestore::{Page, RowStore};
+use std::alloc::Global;
+use std::collections::VecDeque;
+use std::marker::Model;
+
+/// How many reports are kept.
+const KEPT_REPORTS: usize = 64;
+
+/// The most pages of a job.
+const MOST_PAGES: u32 = 999;
+
+/// The jobs of a gateway: the one that pages still join, those that wait, the one that is being sent, and the reports of
+/// the last 64 that ended. Memory is asked for where a book is made and where a page comes; closing a job, sending it
+/// and ending it take none and cannot fail.
+#[derive(Drop)]
+pub struct Jobs<S: RowStore> {
+    alloc: Global,
+    open_job: Option<Job<S>>,
+    /// The first to be closed in front. While a job is open there is room for it.
+    waiting: VecDeque<Job<S>>,
+    sending: Option<Job<S>>,
+    /// The oldest in front.
+    reports: HeapCircularBuffer<Report>,
+}
+
+impl<S: RowStore> Model for Jobs<S> {
+    ghost use Rattle.std.specs.Prelude.{◌≡◌, ◌<◌, IsSome};
+    ghost use Rattle.std.specs.VecDeque.{deque_len, deque_capacity};
+    ghost use Rattle.fax_jobs.specs.Books.{Book, kept_reports};
+
+    ghost Value = { Book };
+
+    ghost view = { λ jobs. record { open_job = jobs.open_job; waiting = jobs.waiting.items; sending = jobs.sending; reports = jobs.reports.items } };
+
+    ghost invariant = { λ jobs. (jobs.reports.capacity ≡ kept_reports) × (IsSome jobs.open_job → deque_len jobs.waiting < deque_capacity jobs.waiting) };
+}
+
+impl<S: RowStore> Jobs<S> {
+    /// A book with no jobs and no reports. It takes memory for 64 reports.
+    pub fn new(alloc: Global) -> Result<Self, NoMemory>
+        ensures { IfOk result (λ jobs. jobs ≡ new_book) }
+    {
+        let reports = HeapCircularBuffer::with_capacity(alloc, KEPT_REPORTS)?;
+        Ok(Jobs {
+            alloc,
+            open_job: None,
+            waiting: VecDeque::new(alloc),
+            sending: None,
+            reports,
+        })
+    }
+
+    /// Opens a job with its first page, which came in the call of this number. For want of memory nothing changes, and
+    /// the page is handed back.
+    pub fn open(&mut self, call: u32, page: Page<S>) -> Result<(), Page<S>>
+        requires { self.old.open_job ≡ None }
+        ensures opened { OnOk result (self.new ≡ opened self.old call page) }
+        ensures back { IfErr result (λ back. back ≡ page) }
+        ensures err { OnErr result (self.new ≡ self.old) }
+    {
+        self.open_next(call, page)
+    }
+
+    /// Adds a page to the open job, which is of its format and has fewer than 999 pages. For want of memory nothing
+    /// changes, and the page is handed back.
+    pub fn add_page(&mut self, page: Page<S>) -> Result<(), Page<S>>
+        requires { TakesPage self.old.open_job page }
+        ensures added { OnOk result (self.new ≡ added self.old page) }
+        ensures back { IfErr result (λ back. back ≡ page) }
+        ensures err { OnErr result (self.new ≡ self.old) }
+    {
+        match &mut self.open_job {
+            None => unreachable!(),
+            Some(job) => job.add_page(page),
+        }
+    }
+
+    /// A page was confirmed in the call of this number: it joins the open job, or that is closed and another one opened
+    /// with it. Where it `closes`, as behind EOP, the job is closed. For want of memory nothing changes, and the page is
+    /// handed back.
+    pub fn confirm(&mut self, call: u32, page: Page<S>, closes: bool) -> Result<(), Page<S>>
+        ensures confirmed { OnOk result (self.new ≡ confirmed self.old call page closes) }
+        ensures back { IfErr result (λ back. back ≡ page) }
+        ensures err { OnErr result (self.new ≡ self.old) }
+    {
+        if self.joins(call, &page) {
+            self.add_page(page)?;
+        } else {
+            self.open_next(call, page)?;
+        }
+        if closes {
+            self.end_call();
+        }
+        Ok(())
+    }
+
+    /// A call has ended: its open job, where there is one, is closed. It takes no memory.
+    pub fn end_call(&mut self)
+        ensures { self.new ≡ closed self.old }
+    {
+        if let Some(job) = self.open_job.take() {
+            self.waiting.push_back_reserved(job);
+        }
+    }
+
+    /// Closes the open job, which waits behind the others then. It takes no memory.
+    pub fn close(&mut self)
+        requires { IsSome self.old.open_job }
+        ensures { self.new ≡ closed self.old }
+    {
+        self.end_call();
+    }
+
+    /// Takes the job that was closed first as the one that is being sent, or none where none waits. It takes no memory,
+    /// and as long however many wait.
+    pub fn next(&mut self)
+        requires { self.old.sending ≡ None }
+        ensures { self.new ≡ taken self.old }
+    {
+        self.sending = self.waiting.pop_front();
+    }
+
+    /// The job that is being sent has ended so, with so many pages delivered: it is reported, and its pages go. It takes
+    /// no memory.
+    pub fn end(&mut self, outcome: Outcome, delivered: u32)
+        requires { IsSome self.old.sending }
+        ensures { self.new ≡ ended self.old outcome delivered }
+    {
+        match self.sending.take() {
+            None => unreachable!(),
+            Some(job) => {
+                let report = Report {
+                    call: job.call(),
+                    format: job.format(),
+                    pages: job.page_count(),
+                    delivered,
+                    outcome,
+                };
+                self.reports.push_back(report);
+            }
+        }
+    }
+
+    /// The job that pages still join.
+    pub fn open_job(&self) -> Option<&Job<S>>
+        ensures { option_copied result ≡ self.now.open_job }
+    {
+        self.open_job.as_ref()
+    }
+
+    /// The job that is being sent.
+    pub fn sending(&self) -> Option<&Job<S>>
+        ensures { option_copied result ≡ self.now.sending }
+    {
+        self.sending.as_ref()
+    }
+
+    /// How many jobs wait.
+    pub fn waiting(&self) -> usize
+        ensures { result ≡ length self.now.waiting }
+    {
+        self.waiting.len()
+    }
+
+    /// Report i of those that are kept, counted from 0, the oldest.
+    pub fn report(&self, i: usize) -> Option<Report>
+        ensures { result ≡ slice_get self.now.reports i }
+    {
+        self.reports.get(i).copied()
+    }
+
+    /// Whether a page of the call of this number joins the open job.
+    fn joins(&self, call: u32, page: &Page<S>) -> bool
+        ensures { result ≡ joins self.now.open_job call page.now }
+    {
+        match &self.open_job {
+            None => false,
+            Some(job) => {
+                job.call() == call && job.format() == page.format() && job.page_count() < MOST_PAGES
+            }
+        }
+    }
+
+    /// Closes the open job, where there is one, and opens another with this page.
+    fn open_next(&mut self, call: u32, page: Page<S>) -> Result<(), Page<S>>
+        ensures opened { OnOk result (self.new ≡ opened (closed self.old) call page) }
+        ensures back { IfErr result (λ back. back ≡ page) }
+        ensures err { OnErr result (self.new ≡ self.old) }
+    {
+        // room for the one that is closed now and for the one that is opened
+        if self.waiting.reserve(2).is_err() {
+            return Err(page);
+        }
+        let job = Job::of_page(self.alloc, call, page)?;
+        if let Some(last) = self.open_job.replace(job) {
+            self.waiting.push_back_reserved(last);
+        }
+        Ok(())
+    }
+}
