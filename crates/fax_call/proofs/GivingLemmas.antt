@@ -1,0 +1,456 @@
+-- The next packet, of a procedure and of the core that it stands for.
+use Rattle.std.proofs.Common.{◌≡◌, ℕ, zero, suc, ◌+◌, ◌-◌, ◌*◌, ◌/◌, ◌<◌, ◌≤◌, Bool, true, false, ◌&&◌, nat_le, List, [], ◌∷◌, length, take, drop, replicate, Option, Some, None, Result, Ok, Err, refl, sym, ◌∙◌, ap, subst, arith, length-drop, if◌then◌else◌}
+use Rattle.std.specs.Prelude.{option_map}
+use Rattle.std.specs.Result.{IfOk, OnOk}
+use Rattle.std.proofs.Math.Seq.{drop-drop}
+use Rattle.std.proofs.lemmas.List.{take-replicate, drop-replicate, length-replicate}
+use Rattle.fax_frames.specs.declared.dcs.Dcs.{Dcs}
+use Rattle.fax_frames.specs.declared.rate.Rate.{Rate}
+use Rattle.fax_frames.specs.declared.rate.Rate.TheVariants.{V27At2400, V27At4800, V29At7200, V29At9600, V17At7200, V17At9600, V17At12000, V17At14400}
+use Rattle.fax_frames.specs.declared.writing.Plain.{Plain}
+use Rattle.fax_frames.specs.Rates.{bits_a_second, kind_of}
+use Rattle.fax_frames.specs.Written.{written_plain, written_dcs}
+use Rattle.fax_ifp.specs.Elements.{Slot}
+use Rattle.fax_ifp.specs.Tracked.{IsTracked}
+use Rattle.fax_timers.specs.Paces.{pace_allows}
+use Rattle.fax_jobs.specs.declared.outcome.Outcome.{Outcome}
+use Rattle.fax_jobs.specs.Jobs.{JobValue}
+use Rattle.fax_call.specs.declared.pending.Message.TheVariants as messages
+use Rattle.fax_call.specs.declared.pending.Pending.{Pending}
+use Rattle.fax_call.specs.declared.pending.Pending.TheVariants as pendings
+use Rattle.fax_call.specs.declared.procedure.Procedure.{Procedure}
+use Rattle.fax_call.specs.declared.state.State.{State}
+use Rattle.fax_call.specs.declared.state.State.TheVariants.{Idle}
+use Rattle.fax_call.specs.Writings.{Writing}
+use Rattle.fax_call.specs.Replies.{Packet, Tells, Part, written, Due, One, Text, waits, parts_of, part_length, check_length, training_check, frame_reply}
+use Rattle.fax_call.specs.Calls.{Calling, text_at, Taken, taken_text, taken, state_when_given, outcome_when_given, t4_when_given, after_giving, Ticked, given_first, paced, timed, ticked}
+use Rattle.fax_call.specs.Kept.{counts_shown, waiting_of, framed, training_behind, check_behind, check_part, text_part, packet_of, pending_behind, FitsPending}
+use Rattle.fax_call.specs.Following.{IsFit, IsLeft, Follows, IsMade, HasText, text_octets, text_behind, behind_packet, given_by, gives_now, GivesNext, IsJobOfCall}
+use Rattle.fax_call.specs.Reached.{Kept, IsReached, IsGiven}
+use Rattle.fax_call.proofs.FollowingLemmas.{pending_waits}
+
+-- THE CORE, behind a packet: some packets wait, or none
+more_wait : (a : Calling) (now : ℕ) (due : List Due) → waits due ≡ true → after_giving a now due ≡ record a { waiting = due; last = Some now }
+more_wait a now [] w = cc
+more_wait a now (d ∷ due) w = refl
+
+-- what is given first of what waits, and what is left of it
+pub record Gives (writes : Writing) (job : JobValue) (core : Calling) (packet : Packet) (rest : List Due) : Type 0 where
+  pub d : Due
+  pub due : List Due
+  pub waiting : core.waiting ≡ d ∷ due
+  pub packet_is : (taken writes job d due).packet ≡ packet
+  pub rest_is : (taken writes job d due).rest ≡ rest
+
+pub core_behind : (writes : Writing) (job : JobValue) (core : Calling) (now : ℕ) (packet : Packet) (rest : List Due) → Gives writes job core packet rest
+    → (given_first writes job core now core.waiting).core ≡ after_giving core now rest
+core_behind writes job core now packet rest g =
+    ap (λ (w : List Due). (given_first writes job core now w).core) g.waiting ∙ ap (after_giving core now) g.rest_is
+
+pub packet_given : (writes : Writing) (job : JobValue) (core : Calling) (now : ℕ) (packet : Packet) (rest : List Due) → Gives writes job core packet rest
+    → (given_first writes job core now core.waiting).given ≡ Some packet
+packet_given writes job core now packet rest g =
+    ap (λ (w : List Due). (given_first writes job core now w).given) g.waiting ∙ ap (λ (p : Packet). Some p) g.packet_is
+
+-- the procedure behind a packet, where some wait
+some_behind : (q : Pending) (p : Procedure) (now : ℕ) → (q ≡ pendings.Nothing → ⊥) → behind_packet q p now ≡ record p { pending = q; pace = Some now }
+some_behind pendings.Nothing p now some = absurd (some refl)
+some_behind pendings.Tone p now some = refl
+some_behind (pendings.Preamble m) p now some = refl
+some_behind (pendings.Frame m) p now some = refl
+some_behind (pendings.Training dcs) p now some = refl
+some_behind (pendings.Check dcs given) p now some = refl
+some_behind (pendings.Image dcs plain) p now some = refl
+some_behind (pendings.Text dcs plain) p now some = refl
+
+-- BOTH, where some packets wait behind the one that is given
+pub follows_more : (writes : Writing) (job : JobValue) (core : Calling) (text left : List ℕ) (p : Procedure) (now from : ℕ) (q : Pending)
+    → Follows writes job core text p → (q ≡ pendings.Nothing → ⊥) → waits (waiting_of q p.counts.page from) ≡ true
+    → IsLeft writes job p.counts.page from q left
+    → Follows writes job (after_giving core now (waiting_of q p.counts.page from)) left (behind_packet q p now)
+follows_more writes job core text left p now from q f some w is_left =
+    subst (λ (n : Procedure). Follows writes job (after_giving core now (waiting_of q p.counts.page from)) left n) (sym (some_behind q p now some))
+    (subst (λ (a : Calling). Follows writes job a left (record p { pending = q; pace = Some now })) (sym (more_wait core now (waiting_of q p.counts.page from) w))
+    (record {
+      state = f.state;
+      format = f.format;
+      pages = f.pages;
+      counts = f.counts;
+      from = from;
+      waiting = refl;
+      left = is_left;
+      t1 = f.t1;
+      t4 = f.t4;
+      last = refl;
+      outcome = f.outcome;
+    }))
+
+-- and where none does
+pub follows_last : (writes : Writing) (job : JobValue) (core : Calling) (text left : List ℕ) (p : Procedure) (now : ℕ)
+    → Follows writes job core text p → Follows writes job (after_giving core now []) left (behind_packet pendings.Nothing p now)
+follows_last writes job core text left p now f =
+    record {
+      state = ap state_when_given f.state;
+      format = f.format;
+      pages = f.pages;
+      counts = f.counts;
+      from = 0;
+      waiting = refl;
+      left = tt;
+      t1 = f.t1;
+      t4 = ap (λ (s : State). t4_when_given s p.t4 now) f.state ∙ ap (λ (t : Option ℕ). t4_when_given core.state t now) f.t4;
+      last = refl;
+      outcome = ap (λ (s : State). outcome_when_given s p.outcome) f.state ∙ ap (λ (o : Option Outcome). outcome_when_given core.state o) f.outcome;
+    }
+
+-- THE TRAINING CHECK
+pub part_some : (dcs : Dcs) → 1 ≤ part_length dcs
+part_some dcs = by_rate dcs.rate
+  where
+    by_rate : (r : Rate) → 1 ≤ bits_a_second r / 200
+    by_rate V27At2400 = omega arith
+    by_rate V27At4800 = omega arith
+    by_rate V29At7200 = omega arith
+    by_rate V29At9600 = omega arith
+    by_rate V17At7200 = omega arith
+    by_rate V17At9600 = omega arith
+    by_rate V17At12000 = omega arith
+    by_rate V17At14400 = omega arith
+
+pub check_some : (dcs : Dcs) → 0 < check_length dcs
+check_some dcs = by_rate dcs.rate
+  where
+    by_rate : (r : Rate) → 0 < bits_a_second r * 3 / 16
+    by_rate V27At2400 = omega arith
+    by_rate V27At4800 = omega arith
+    by_rate V29At7200 = omega arith
+    by_rate V29At9600 = omega arith
+    by_rate V17At7200 = omega arith
+    by_rate V17At9600 = omega arith
+    by_rate V17At12000 = omega arith
+    by_rate V17At14400 = omega arith
+
+same_if : (b : Bool) (x y z : List Due) → (b ≡ false → y ≡ z) → (if b then x else y) ≡ (if b then x else z)
+same_if true x y z h = refl
+same_if false x y z h = h refl
+
+not_le : (m n : ℕ) → nat_le m n ≡ false → n < m
+not_le m n h = grind arith
+
+-- as many parts as there are octets are enough
+pub parts_same : (m k kind n : ℕ) (os : List ℕ) → 1 ≤ n → length os ≤ m → length os ≤ k → 1 ≤ m → 1 ≤ k → parts_of m kind n os ≡ parts_of k kind n os
+parts_same zero k kind n os some a b x y = absurd (omega arith)
+parts_same (suc m) zero kind n os some a b x y = absurd (omega arith)
+parts_same (suc m) (suc k) kind n os some a b x y =
+    same_if (nat_le (length os) n) (One (Part kind true os) ∷ []) _ _
+    (λ h. let more : n < length os = not_le (length os) n h in
+    let fewer : length (drop n os) ≡ length os - n = length-drop n os in
+    ap (λ (due : List Due). One (Part kind false (take n os)) ∷ due) (parts_same m k kind n (drop n os) some (omega arith) (omega arith) (omega arith) (omega arith)))
+
+-- A TICK
+pub rests_now : (writes : Writing) (job : JobValue) (a : Calling) (now : ℕ) → gives_now a now ≡ false → paced writes job a now ≡ record { core = a; given = None }
+rests_now writes job a now h = by a.waiting (pace_allows a.last now) h
+  where
+    by : (due : List Due) (b : Bool) → waits due && b ≡ false → (if b then given_first writes job a now due else record { core = a; given = None }) ≡ record { core = a; given = None }
+    by [] true h = refl
+    by [] false h = refl
+    by (d ∷ due) true h = cc
+    by (d ∷ due) false h = refl
+
+pub gives_first : (writes : Writing) (job : JobValue) (a : Calling) (now : ℕ) → gives_now a now ≡ true → paced writes job a now ≡ given_first writes job a now a.waiting
+gives_first writes job a now h = by a.waiting (pace_allows a.last now) h
+  where
+    by : (due : List Due) (b : Bool) → waits due && b ≡ true → (if b then given_first writes job a now due else record { core = a; given = None }) ≡ given_first writes job a now due
+    by [] true h = cc
+    by [] false h = cc
+    by (d ∷ due) true h = refl
+    by (d ∷ due) false h = cc
+
+-- what is left of a training check begins with a part
+check_begins : (dcs : Dcs) → training_check dcs ≡ check_behind dcs 0
+unfolding training_check
+check_begins dcs =
+    let n : check_length dcs - 0 ≡ check_length dcs = omega arith in
+    sym (ap (λ (k : ℕ). parts_of k (kind_of dcs.rate) (part_length dcs) (replicate k 0)) n)
+
+one_part : (k kind n : ℕ) (os : List ℕ) → 0 < k
+    → parts_of k kind n os ≡ (if nat_le (length os) n then One (Part kind true os) ∷ [] else One (Part kind false (take n os)) ∷ parts_of (k - 1) kind n (drop n os))
+one_part zero kind n os some = absurd (omega arith)
+one_part (suc k) kind n os some =
+    let same : suc k - 1 ≡ k = omega arith in
+    ap (λ (m : ℕ). if nat_le (length os) n then One (Part kind true os) ∷ [] else One (Part kind false (take n os)) ∷ parts_of m kind n (drop n os)) (sym same)
+
+check_step : (dcs : Dcs) (given : ℕ) → given < check_length dcs
+    → check_behind dcs given ≡ (if nat_le (check_length dcs - given) (part_length dcs)
+    then One (Part (kind_of dcs.rate) true (replicate (check_length dcs - given) 0)) ∷ []
+    else One (Part (kind_of dcs.rate) false (replicate (part_length dcs) 0)) ∷ check_behind dcs (given + part_length dcs))
+check_step dcs given h = split (check_length dcs) (part_length dcs) (kind_of dcs.rate) given h (part_some dcs)
+  where
+    split : (all n kind given : ℕ) → given < all → 1 ≤ n
+        → parts_of (all - given) kind n (replicate (all - given) 0) ≡ (if nat_le (all - given) n
+        then One (Part kind true (replicate (all - given) 0)) ∷ []
+        else One (Part kind false (replicate n 0)) ∷ parts_of (all - (given + n)) kind n (replicate (all - (given + n)) 0))
+    split all n kind given h some =
+        let k : ℕ = all - given in
+        let long : length (replicate {A = ℕ} k 0) ≡ k = length-replicate k 0 in
+        one_part k kind n (replicate k 0) (omega arith)
+        ∙ ap (λ (l : ℕ). if nat_le l n then One (Part kind true (replicate k 0)) ∷ [] else One (Part kind false (take n (replicate k 0))) ∷ parts_of (k - 1) kind n (drop n (replicate k 0))) long
+        ∙ same_if (nat_le k n) (One (Part kind true (replicate k 0)) ∷ []) _ _
+        (λ f. let more : n < k = not_le k n f in
+        let left : k - n ≡ all - (given + n) = omega arith in
+        let rest : drop n (replicate k 0) ≡ replicate (all - (given + n)) 0 = drop-replicate n k 0 ∙ ap (λ (m : ℕ). replicate m 0) left in
+        let count : length (replicate {A = ℕ} (all - (given + n)) 0) ≡ all - (given + n) = length-replicate (all - (given + n)) 0 in
+        ap (λ (os : List ℕ). One (Part kind false os) ∷ parts_of (k - 1) kind n (drop n (replicate k 0))) (take-replicate n k 0 (omega arith))
+        ∙ ap (λ (os : List ℕ). One (Part kind false (replicate n 0)) ∷ parts_of (k - 1) kind n os) rest
+        ∙ ap (λ (due : List Due). One (Part kind false (replicate n 0)) ∷ due)
+        (parts_same (k - 1) (all - (given + n)) kind n (replicate (all - (given + n)) 0) some (omega arith) (omega arith) (omega arith) (omega arith)))
+
+-- THE NEXT PACKET
+abbrev Next : Writing → JobValue → Calling → Procedure → ℕ → Packet → List ℕ → Pending → Type 0
+Next writes job core p now packet left q = GivesNext writes job core now packet left (behind_packet q p now)
+
+more : (writes : Writing) (job : JobValue) (core : Calling) (text left : List ℕ) (p : Procedure) (now from : ℕ) (packet : Packet) (q : Pending)
+    → Follows writes job core text p → Gives writes job core packet (waiting_of q p.counts.page from) → (q ≡ pendings.Nothing → ⊥) → FitsPending q
+    → IsLeft writes job p.counts.page from q left → Next writes job core p now packet left q
+more writes job core text left p now from packet q f g some fits is_left =
+    record {
+      follows =
+          subst (λ (a : Calling). Follows writes job a left (behind_packet q p now)) (sym (core_behind writes job core now packet (waiting_of q p.counts.page from) g))
+          (follows_more writes job core text left p now from q f some (pending_waits q p.counts.page from fits some) is_left);
+      given = packet_given writes job core now packet (waiting_of q p.counts.page from) g;
+    }
+
+last : (writes : Writing) (job : JobValue) (core : Calling) (text left : List ℕ) (p : Procedure) (now : ℕ) (packet : Packet)
+    → Follows writes job core text p → Gives writes job core packet [] → Next writes job core p now packet left pendings.Nothing
+last writes job core text left p now packet f g =
+    record {
+      follows =
+          subst (λ (a : Calling). Follows writes job a left (behind_packet pendings.Nothing p now)) (sym (core_behind writes job core now packet [] g))
+          (follows_last writes job core text left p now f);
+      given = packet_given writes job core now packet [] g;
+    }
+
+gives_one : (writes : Writing) (job : JobValue) (core : Calling) (packet : Packet) (due : List Due) → One packet ∷ due ≡ core.waiting → Gives writes job core packet due
+gives_one writes job core packet due w = record { d = One packet; due = due; waiting = sym w; packet_is = refl; rest_is = refl }
+
+check_next : (writes : Writing) (job : JobValue) (core : Calling) (text : List ℕ) (p : Procedure) (now : ℕ) (dcs : Dcs) (given : ℕ) (b : Bool)
+    → Follows writes job core text p → (b ≡ false → given + part_length dcs < check_length dcs)
+    → (if b then One (Part (kind_of dcs.rate) true (replicate (check_length dcs - given) 0)) ∷ []
+    else One (Part (kind_of dcs.rate) false (replicate (part_length dcs) 0)) ∷ check_behind dcs (given + part_length dcs)) ≡ core.waiting
+    → Next writes job core p now
+    (if b then Part (kind_of dcs.rate) true (replicate (check_length dcs - given) 0) else Part (kind_of dcs.rate) false (replicate (part_length dcs) 0))
+    text (if b then pendings.Nothing else pendings.Check dcs (given + part_length dcs))
+check_next writes job core text p now dcs given true f fits w = last writes job core text text p now _ f (gives_one writes job core _ [] w)
+check_next writes job core text p now dcs given false f fits w =
+    more writes job core text text p now 0 _ (pendings.Check dcs (given + part_length dcs)) f (gives_one writes job core _ _ w) (λ e. cc) (fits refl) tt
+
+text_next : (writes : Writing) (job : JobValue) (core : Calling) (text : List ℕ) (p : Procedure) (now from : ℕ) (dcs : Dcs) (plain : Plain) (b : Bool)
+    → Follows writes job core text p → b ≡ nat_le (length text) (part_length dcs)
+    → Text p.counts.page dcs from ∷ frame_reply (written_plain plain true) ≡ core.waiting
+    → text ≡ drop from (text_at writes job p.counts.page dcs)
+    → Next writes job core p now
+    (if b then Part (kind_of dcs.rate) true text else Part (kind_of dcs.rate) false (take (part_length dcs) text))
+    (drop (part_length dcs) text) (if b then pendings.Preamble (messages.Plain plain) else pendings.Text dcs plain)
+text_next writes job core text p now from dcs plain true f e w left =
+    more writes job core text _ p now 0 _ (pendings.Preamble (messages.Plain plain)) f
+    (record {
+      d = Text p.counts.page dcs from;
+      due = frame_reply (written_plain plain true);
+      waiting = sym w;
+      packet_is = ap (λ (t : Taken). t.packet) whole ∙ ap (λ (os : List ℕ). Part (kind_of dcs.rate) true os) (sym left);
+      rest_is = ap (λ (t : Taken). t.rest) whole;
+    }) (λ q. cc) tt tt
+  where
+    all : List ℕ
+    all = text_at writes job p.counts.page dcs
+
+    by : (b : Bool) (x y : Taken) → b ≡ true → (if b then x else y) ≡ x
+    by true x y h = refl
+    by false x y h = cc
+
+    whole : taken writes job (Text p.counts.page dcs from) (frame_reply (written_plain plain true)) ≡ record { packet = Part (kind_of dcs.rate) true (drop from all); rest = frame_reply (written_plain plain true) }
+    whole = by (nat_le (length (drop from all)) (part_length dcs)) _ _ (sym (e ∙ ap (λ (os : List ℕ). nat_le (length os) (part_length dcs)) left))
+text_next writes job core text p now from dcs plain false f e w left =
+    more writes job core text _ p now (from + part_length dcs) _ (pendings.Text dcs plain) f
+    (record {
+      d = Text p.counts.page dcs from;
+      due = frame_reply (written_plain plain true);
+      waiting = sym w;
+      packet_is = ap (λ (t : Taken). t.packet) partly ∙ ap (λ (os : List ℕ). Part (kind_of dcs.rate) false (take (part_length dcs) os)) (sym left);
+      rest_is = ap (λ (t : Taken). t.rest) partly;
+    }) (λ q. cc) tt (ap (drop (part_length dcs)) left ∙ drops)
+  where
+    all : List ℕ
+    all = text_at writes job p.counts.page dcs
+
+    by : (b : Bool) (x y : Taken) → b ≡ false → (if b then x else y) ≡ y
+    by true x y h = cc
+    by false x y h = refl
+
+    partly : taken writes job (Text p.counts.page dcs from) (frame_reply (written_plain plain true))
+        ≡ record { packet = Part (kind_of dcs.rate) false (take (part_length dcs) (drop from all)); rest = Text p.counts.page dcs (from + part_length dcs) ∷ frame_reply (written_plain plain true) }
+    partly = by (nat_le (length (drop from all)) (part_length dcs)) _ _ (sym (e ∙ ap (λ (os : List ℕ). nat_le (length os) (part_length dcs)) left))
+
+    drops : drop (part_length dcs) (drop from all) ≡ drop (from + part_length dcs) all
+    drops = drop-drop (part_length dcs) from all
+
+next_by : (writes : Writing) (job : JobValue) (core : Calling) (text made : List ℕ) (p : Procedure) (now : ℕ) → Follows writes job core text p
+    → (q : Pending) → FitsPending q → (q ≡ pendings.Nothing → ⊥) → (from : ℕ) → waiting_of q p.counts.page from ≡ core.waiting
+    → IsLeft writes job p.counts.page from q text → IsMade writes job p.counts.page q made
+    → Next writes job core p now (packet_of q text) (text_behind q made text) (pending_behind q (length text))
+next_by writes job core text made p now f pendings.Nothing fits some from w left is = absurd (some refl)
+next_by writes job core text made p now f pendings.Tone fits some from w left is =
+    last writes job core text text p now (packet_of pendings.Tone text) f (gives_one writes job core (packet_of pendings.Tone text) [] w)
+next_by writes job core text made p now f (pendings.Preamble m) fits some from w left is =
+    more writes job core text text p now from (packet_of (pendings.Preamble m) text) (pendings.Frame m) f (gives_one writes job core (packet_of (pendings.Preamble m) text) (framed m) w) (λ e. cc) fits tt
+next_by writes job core text made p now f (pendings.Frame (messages.Dcs dcs)) fits some from w left is =
+    more writes job core text text p now from (Tells (written_dcs dcs)) (pendings.Training dcs) f (gives_one writes job core (Tells (written_dcs dcs)) (training_behind dcs) w) (λ e. cc) tt tt
+next_by writes job core text made p now f (pendings.Frame (messages.Plain plain)) fits some from w left is =
+    last writes job core text text p now (Tells (written_plain plain true)) f (gives_one writes job core (Tells (written_plain plain true)) [] w)
+next_by writes job core text made p now f (pendings.Training dcs) fits some from w left is =
+    more writes job core text text p now 0 (packet_of (pendings.Training dcs) text) (pendings.Check dcs 0) f
+    (subst (λ (due : List Due). Gives writes job core (packet_of (pendings.Training dcs) text) due) (check_begins dcs) (gives_one writes job core (packet_of (pendings.Training dcs) text) (training_check dcs) w))
+    (λ e. cc) (check_some dcs) tt
+next_by writes job core text made p now f (pendings.Check dcs given) fits some from w left is =
+    check_next writes job core text p now dcs given (nat_le (check_length dcs - given) (part_length dcs)) f
+    (λ h. let more_left : part_length dcs < check_length dcs - given = not_le (check_length dcs - given) (part_length dcs) h in omega arith)
+    (sym (check_step dcs given fits) ∙ w)
+next_by writes job core text made p now f (pendings.Image dcs plain) fits some from w left is =
+    more writes job core text made p now 0 (packet_of (pendings.Image dcs plain) text) (pendings.Text dcs plain) f
+    (gives_one writes job core (packet_of (pendings.Image dcs plain) text) (Text p.counts.page dcs 0 ∷ frame_reply (written_plain plain true)) w) (λ e. cc) tt is
+next_by writes job core text made p now f (pendings.Text dcs plain) fits some from w left is =
+    text_next writes job core text p now from dcs plain (nat_le (length text) (part_length dcs)) f refl w left
+
+not_made : (writes : Writing) (job : JobValue) (page : ℕ) (q : Pending) → ((dcs : Dcs) (plain : Plain) → q ≡ pendings.Image dcs plain → ⊥) → IsMade writes job page q []
+not_made writes job page pendings.Nothing other = tt
+not_made writes job page pendings.Tone other = tt
+not_made writes job page (pendings.Preamble m) other = tt
+not_made writes job page (pendings.Frame m) other = tt
+not_made writes job page (pendings.Training dcs) other = tt
+not_made writes job page (pendings.Check dcs given) other = tt
+not_made writes job page (pendings.Image dcs plain) other = absurd (other dcs plain refl)
+not_made writes job page (pendings.Text dcs plain) other = tt
+
+behind_drop : (q : Pending) (text : List ℕ) → ((dcs : Dcs) (plain : Plain) → q ≡ pendings.Image dcs plain → ⊥) → text_behind q [] text ≡ drop (text_octets q) text
+behind_drop pendings.Nothing text other = refl
+behind_drop pendings.Tone text other = refl
+behind_drop (pendings.Preamble m) text other = refl
+behind_drop (pendings.Frame m) text other = refl
+behind_drop (pendings.Training dcs) text other = refl
+behind_drop (pendings.Check dcs given) text other = refl
+behind_drop (pendings.Image dcs plain) text other = absurd (other dcs plain refl)
+behind_drop (pendings.Text dcs plain) text other = refl
+
+-- a packet that is no short training indicator
+pub packet_next : (writes : Writing) (job : JobValue) (core : Calling) (text : List ℕ) (p : Procedure) (now : ℕ) → IsFit p → Follows writes job core text p
+    → (p.pending ≡ pendings.Nothing → ⊥) → ((dcs : Dcs) (plain : Plain) → p.pending ≡ pendings.Image dcs plain → ⊥)
+    → GivesNext writes job core now (packet_of p.pending text) (drop (text_octets p.pending) text) (given_by p (length text) now)
+packet_next writes job core text p now fit f some other =
+    subst (λ (left : List ℕ). GivesNext writes job core now (packet_of p.pending text) left (given_by p (length text) now)) (behind_drop p.pending text other)
+    (next_by writes job core text [] p now f p.pending fit.pending some f.from f.waiting f.left (not_made writes job p.counts.page p.pending other))
+
+-- a short training indicator, with which the text is made
+pub image_next : (writes : Writing) (job : JobValue) (core : Calling) (text : List ℕ) (p : Procedure) (now : ℕ) (dcs : Dcs) (plain : Plain) → Follows writes job core text p
+    → p.pending ≡ pendings.Image dcs plain
+    → GivesNext writes job core now (packet_of p.pending []) (text_at writes job p.counts.page dcs) (given_by p 0 now)
+image_next writes job core text p now dcs plain f e =
+    let made : List ℕ = text_at writes job p.counts.page dcs in
+    let image : Pending = pendings.Image dcs plain in
+    subst (λ (q : Pending). GivesNext writes job core now (packet_of q []) made (behind_packet (pending_behind q 0) p now)) (sym e)
+    (next_by writes job core text made p now f image tt (λ h. cc) f.from
+    (subst (λ (q : Pending). waiting_of q p.counts.page f.from ≡ core.waiting) e f.waiting) tt refl)
+
+-- what a tick leaves that gives a packet
+pub reached_gives : (writes : Writing) (job : JobValue) (heard : List Slot) (core : Calling) (now : ℕ) (packet : Packet) (left : List ℕ) (new : Procedure) (kept : Kept)
+    → IsTracked heard kept.tracked → gives_now (timed core now) now ≡ true → GivesNext writes job (timed core now) now packet left new
+    → kept.procedure ≡ new → kept.text ≡ left
+    → IsReached writes job heard (ticked writes job core now).core kept × IsGiven (ticked writes job core now) (Some (written packet))
+reached_gives writes job heard core now packet left new kept tracked gives next procedure text =
+    let e : ticked writes job core now ≡ given_first writes job (timed core now) now (timed core now).waiting = gives_first writes job (timed core now) now gives in (
+      record {
+        tracked = tracked;
+        follows =
+            subst (λ (t : Ticked). Follows writes job t.core kept.text kept.procedure) (sym e)
+            (subst (λ (xs : List ℕ). Follows writes job (given_first writes job (timed core now) now (timed core now).waiting).core xs kept.procedure) (sym text)
+            (subst (λ (p : Procedure). Follows writes job (given_first writes job (timed core now) now (timed core now).waiting).core left p) (sym procedure) next.follows));
+      },
+      sym (ap (λ (t : Ticked). option_map written t.given) e ∙ ap (option_map written) next.given),
+    )
+
+pub reached_rests : (writes : Writing) (job : JobValue) (heard : List Slot) (core : Calling) (now : ℕ) (kept : Kept)
+    → IsTracked heard kept.tracked → gives_now (timed core now) now ≡ false → Follows writes job (timed core now) kept.text kept.procedure
+    → IsReached writes job heard (ticked writes job core now).core kept × IsGiven (ticked writes job core now) None
+reached_rests writes job heard core now kept tracked gives f =
+    let e : ticked writes job core now ≡ record { core = timed core now; given = None } = rests_now writes job (timed core now) now gives in (
+      record { tracked = tracked; follows = subst (λ (t : Ticked). Follows writes job t.core kept.text kept.procedure) (sym e) f },
+      sym (ap (λ (t : Ticked). option_map written t.given) e),
+    )
+
+pub if_given : {E : Type 0} (r : Result (Option (List ℕ)) E) (P : Option (List ℕ) → Type 0) (x : Option (List ℕ)) (Q : Type 0) → IfOk r (λ a. a ≡ x) → OnOk r Q → (Q → P x) → IfOk r P
+if_given (Ok a) P x Q e q f = subst P (sym e) (f q)
+if_given (Err a) P x Q e q f = tt
+
+pub on_given : {A E : Type 0} (r : Result A E) (Q R : Type 0) → OnOk r Q → (Q → R) → OnOk r R
+on_given (Ok a) Q R q f = f q
+on_given (Err a) Q R q f = tt
+
+-- the job stays that of the call
+pub job_kept : (old p : Procedure) (q : Pending) (now : ℕ) (job : JobValue) → p.format ≡ old.format → p.pages ≡ old.pages → (old.state ≡ Idle → ⊥) → IsJobOfCall old job
+    → IsJobOfCall (behind_packet q p now) job
+job_kept old p q now job format pages on is n =
+    let h = is on in
+    (h.0 ∙ sym (format_same q ∙ format), h.1 ∙ sym (pages_same q ∙ pages))
+  where
+    format_same : (q : Pending) → (behind_packet q p now).format ≡ p.format
+    format_same pendings.Nothing = refl
+    format_same pendings.Tone = refl
+    format_same (pendings.Preamble m) = refl
+    format_same (pendings.Frame m) = refl
+    format_same (pendings.Training dcs) = refl
+    format_same (pendings.Check dcs given) = refl
+    format_same (pendings.Image dcs plain) = refl
+    format_same (pendings.Text dcs plain) = refl
+
+    pages_same : (q : Pending) → (behind_packet q p now).pages ≡ p.pages
+    pages_same pendings.Nothing = refl
+    pages_same pendings.Tone = refl
+    pages_same (pendings.Preamble m) = refl
+    pages_same (pendings.Frame m) = refl
+    pages_same (pendings.Training dcs) = refl
+    pages_same (pendings.Check dcs given) = refl
+    pages_same (pendings.Image dcs plain) = refl
+    pages_same (pendings.Text dcs plain) = refl
+
+-- the text is not empty while it is given
+pub given_pending : (q : Pending) (p : Procedure) (now : ℕ) → (behind_packet q p now).pending ≡ q
+given_pending pendings.Nothing p now = refl
+given_pending pendings.Tone p now = refl
+given_pending (pendings.Preamble m) p now = refl
+given_pending (pendings.Frame m) p now = refl
+given_pending (pendings.Training dcs) p now = refl
+given_pending (pendings.Check dcs given) p now = refl
+given_pending (pendings.Image dcs plain) p now = refl
+given_pending (pendings.Text dcs plain) p now = refl
+
+pub has_behind : (q : Pending) (text : List ℕ) → ((dcs : Dcs) (plain : Plain) → q ≡ pendings.Image dcs plain → ⊥)
+    → HasText (pending_behind q (length text)) (drop (text_octets q) text)
+has_behind pendings.Nothing text other = tt
+has_behind pendings.Tone text other = tt
+has_behind (pendings.Preamble m) text other = tt
+has_behind (pendings.Frame (messages.Dcs dcs)) text other = tt
+has_behind (pendings.Frame (messages.Plain plain)) text other = tt
+has_behind (pendings.Training dcs) text other = tt
+has_behind (pendings.Check dcs given) text other = by (nat_le (check_length dcs - given) (part_length dcs))
+  where
+    by : (b : Bool) → HasText (if b then pendings.Nothing else pendings.Check dcs (given + part_length dcs)) text
+    by true = tt
+    by false = tt
+has_behind (pendings.Image dcs plain) text other = absurd (other dcs plain refl)
+has_behind (pendings.Text dcs plain) text other = by (nat_le (length text) (part_length dcs)) (λ h. h)
+  where
+    by : (b : Bool) → (b ≡ false → nat_le (length text) (part_length dcs) ≡ false) → HasText (if b then pendings.Preamble (messages.Plain plain) else pendings.Text dcs plain) (drop (part_length dcs) text)
+    by true h = tt
+    by false h =
+        let long : part_length dcs < length text = not_le (length text) (part_length dcs) (h refl) in
+        let left : length (drop (part_length dcs) text) ≡ length text - part_length dcs = length-drop (part_length dcs) text in
+        omega arith

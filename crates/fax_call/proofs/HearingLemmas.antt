@@ -1,0 +1,84 @@
+-- Slots and pieces that come, one after another.
+use Rattle.std.proofs.Common.{◌≡◌, ℕ, zero, suc, ◌+◌, ◌<◌, Bool, false, List, [], ◌∷◌, ◌++◌, length, take, reverse, replicate, map, Option, Some, None, Result, Ok, Err, get_or, refl, sym, ◌∙◌, ap, subst, append_assoc}
+use Rattle.std.proofs.lemmas.List.{reverse-append, map-append, take_more}
+use Rattle.std.specs.Borrow.{Bor}
+use Rattle.std.specs.Result.{OnOk, is_err}
+use Rattle.fax_ifp.specs.declared.piece.Piece as code_pieces
+use Rattle.fax_ifp.specs.Elements.{Slot}
+use Rattle.fax_ifp.specs.Pieces.{Piece, Gap, pieces}
+use Rattle.fax_ifp.specs.Shown.{piece_of, pieces_shown}
+use Rattle.fax_ifp.specs.Tracked.{Tracked, IsTracked, TracksRun, GivesRun, Tracks, Gives, lost_slots}
+use Rattle.fax_udptl.specs.Reading.{texts}
+use Rattle.fax_jobs.specs.Jobs.{JobValue}
+use Rattle.fax_call.specs.declared.procedure.Procedure.{Procedure}
+use Rattle.fax_call.specs.Writings.{Writing}
+use Rattle.fax_call.specs.Calls.{Calling, came, came_all}
+use Rattle.fax_call.specs.Following.{Follows}
+use Rattle.fax_call.specs.Reached.{Kept, IsReached, Hears}
+
+pub came_append : (core : Calling) (xs ys : List Piece) → came_all core (xs ++ ys) ≡ came_all (came_all core xs) ys
+came_append core [] ys = refl
+came_append core (x ∷ xs) ys = came_append (came core x) xs ys
+
+pub came_more : (core : Calling) (xs : List Piece) (p : Piece) → came_all core (xs ++ p ∷ []) ≡ came (came_all core xs) p
+came_more core xs p = came_append core xs (p ∷ [])
+
+came_gaps : (n : ℕ) (core : Calling) → came_all core (replicate n Gap) ≡ core
+came_gaps zero core = refl
+came_gaps (suc n) core = came_gaps n core
+
+pub shown_more : (ps : List code_pieces.Piece) (i : ℕ) (p : code_pieces.Piece) → i < length ps → p ≡ get_or ps i p → pieces_shown (take i ps) ++ piece_of p ∷ [] ≡ pieces_shown (take (i + 1) ps)
+shown_more ps i p h e =
+    sym (ap pieces_shown (take_more ps i p h ∙ ap (λ (x : code_pieces.Piece). take i ps ++ x ∷ []) (sym e)) ∙ map-append piece_of (take i ps) (p ∷ []))
+
+pub slots_more : (lost : ℕ) (packets : List (Bor (List ℕ))) (packet : Bor (List ℕ)) → (lost_slots lost ++ map (λ (x : List ℕ). Some x) (texts packets)) ++ Some packet.now ∷ [] ≡ lost_slots lost ++ map (λ (x : List ℕ). Some x) (texts (packets ++ packet ∷ []))
+slots_more lost packets packet =
+    append_assoc (lost_slots lost) (map (λ (x : List ℕ). Some x) (texts packets)) (Some packet.now ∷ [])
+    ∙ ap (λ (s : List Slot). lost_slots lost ++ s) (sym (ap (map (λ (x : List ℕ). Some x)) (map-append (λ (p : Bor (List ℕ)). p.now) packets (packet ∷ [])) ∙ map-append (λ (x : List ℕ). Some x) (texts packets) (packet.now ∷ [])))
+
+pub if_right : {A E : Type 0} → (r : Result A E) (P : Type 0) → is_err r ≡ false → OnOk r P → P
+if_right (Ok x) P e p = p
+if_right (Err x) P e p = cc
+
+-- a list of lost slots is the same in both orders
+one_more_lost : (n : ℕ) → lost_slots n ++ None ∷ [] ≡ None ∷ lost_slots n
+one_more_lost zero = refl
+one_more_lost (suc n) = ap (λ (s : List Slot). None ∷ s) (one_more_lost n)
+
+reversed_lost : (n : ℕ) → reverse (lost_slots n) ≡ lost_slots n
+reversed_lost zero = refl
+reversed_lost (suc n) = reverse-append (None ∷ []) (lost_slots n) ∙ ap (λ (s : List Slot). s ++ None ∷ []) (reversed_lost n) ∙ one_more_lost n
+
+-- LOST SLOTS bring nothing about
+pub loses : (writes : Writing) (job : JobValue) (count : ℕ) (heard : List Slot) (core : Calling) (old new : Kept) → IsReached writes job heard core old
+    → TracksRun (lost_slots count) old.tracked new.tracked → GivesRun (lost_slots count) old.tracked (replicate count Gap)
+    → new.procedure ≡ old.procedure → new.text ≡ old.text → Hears writes job (lost_slots count) heard core new
+loses writes job count heard core old new r tracks gives procedure text =
+    let back : reverse (lost_slots count) ≡ lost_slots count = reversed_lost count in
+    record {
+      given = replicate count Gap;
+      pieces = ap (λ (s : List Slot). pieces (s ++ heard)) back ∙ gives heard r.tracked;
+      reached = record {
+        tracked = subst (λ (s : List Slot). IsTracked (s ++ heard) new.tracked) (sym back) (tracks heard r.tracked);
+        follows =
+            subst (λ (a : Calling). Follows writes job a new.text new.procedure) (sym (came_gaps count core))
+            (subst (λ (t : List ℕ). Follows writes job core t new.procedure) (sym text)
+            (subst (λ (p : Procedure). Follows writes job core old.text p) (sym procedure) r.follows));
+      };
+    }
+
+-- A PACKET in the next slot
+pub hears_more : (writes : Writing) (job : JobValue) (slots : List Slot) (packet : List ℕ) (heard : List Slot) (core : Calling) (mid new : Kept) (tracked : Tracked) (given : List Piece)
+    → Hears writes job slots heard core mid → Tracks (Some packet) mid.tracked tracked → Gives (Some packet) mid.tracked given → new.tracked ≡ tracked
+    → ((a : Calling) → Follows writes job a mid.text mid.procedure → Follows writes job (came_all a given) new.text new.procedure)
+    → Hears writes job (slots ++ Some packet ∷ []) heard core new
+hears_more writes job slots packet heard core mid new tracked given h tracks gives same takes =
+    let back : reverse (slots ++ Some packet ∷ []) ++ heard ≡ Some packet ∷ (reverse slots ++ heard) = ap (λ (s : List Slot). s ++ heard) (reverse-append slots (Some packet ∷ [])) in
+    record {
+      given = h.given ++ given;
+      pieces = ap pieces back ∙ gives (reverse slots ++ heard) h.reached.tracked ∙ ap (λ (ps : List Piece). ps ++ given) h.pieces ∙ append_assoc (pieces heard) h.given given;
+      reached = record {
+        tracked = subst (λ (s : List Slot). IsTracked s new.tracked) (sym back) (subst (λ (k : Tracked). IsTracked (Some packet ∷ (reverse slots ++ heard)) k) (sym same) (tracks (reverse slots ++ heard) h.reached.tracked));
+        follows = subst (λ (a : Calling). Follows writes job a new.text new.procedure) (sym (came_append core h.given given)) (takes (came_all core h.given) h.reached.follows);
+      };
+    }

@@ -1,0 +1,32 @@
+use Rattle.std.proofs.Common.{◌≡◌, ◌++◌, ℕ, List, Some, map, sym, ◌∙◌, ap, subst}
+use Rattle.fax_ifp.specs.Elements.{Slot}
+use Rattle.fax_ifp.specs.Pieces.{Piece}
+use Rattle.fax_ifp.specs.Tracked.{Tracked, Tracks, Gives, lost_slots}
+use Rattle.fax_udptl.specs.Reading.{texts}
+use Rattle.fax_call.specs.Calls.{came_all}
+use Rattle.fax_call.specs.Following.{Follows, IsJobOfCall}
+use Rattle.fax_call.specs.Reached.{Kept, Hears}
+use Rattle.fax_call.proofs.HearingLemmas.{hears_more, slots_more}
+use Rattle.fax_call.proofs.caller.Caller.hear_slots.Goals as goal
+
+pub loop-packet-preserved : goal.loop-packet-preserved
+loop-packet-preserved c =
+    let before = c.loop-packet.invariant in
+    let mid : Kept = c.loop-packet.self in
+    let inside = c.self-in-loop-packet.inside in
+    let tracked : inside.signals ≡ mid.tracked = ap (λ (k : Kept). k.tracked) c.self-in-loop-packet.view_is in
+    let given : List Piece = c.slot_into.new.pieces in
+    let told = c.as_slice.ensures in
+    record {
+      heard = λ writes job heard core r.
+          subst (λ (s : List Slot). Hears writes job s heard core c.hear_all.new.self) (slots_more c.args.decided.now.lost c.loop-packet.yielded c.in-Some.packet)
+          (hears_more writes job (lost_slots c.args.decided.now.lost ++ map (λ (x : List ℕ). Some x) (texts c.loop-packet.yielded)) c.in-Some.packet.now heard core mid c.hear_all.new.self c.slot_into.new.self given (before.heard writes job heard core r)
+          (subst (λ (t : Tracked). Tracks (Some c.in-Some.packet.now) t c.slot_into.new.self) tracked c.in_ok-slot_into.ensures.tracked)
+          (subst (λ (t : Tracked). Gives (Some c.in-Some.packet.now) t given) tracked c.in_ok-slot_into.ensures.pieces)
+          c.hear_all.ensures.tracked
+          (λ a f.
+          subst (λ (ps : List Piece). Follows writes job (came_all a ps) c.hear_all.new.self.text c.hear_all.new.self.procedure) told
+          (c.hear_all.ensures.heard writes job a (subst (λ (k : Kept). Follows writes job a k.text k.procedure) (sym c.self-in-loop-packet.view_is) f))));
+      job = λ job h. c.hear_all.ensures.job job (subst (λ (k : Kept). IsJobOfCall k.procedure job) (sym c.self-in-loop-packet.view_is) (before.job job h));
+      text = c.hear_all.ensures.text ∙ ap (λ (k : Kept). k.text) c.self-in-loop-packet.view_is ∙ before.text;
+    }

@@ -1,0 +1,71 @@
+use Rattle.std.proofs.Common.{◌≡◌, ℕ, Bool, true, false, List, Option, Some, None, length, sym, ◌∙◌, ap, subst, rules}
+use Rattle.fax_frames.specs.declared.dcs.Dcs.{Dcs}
+use Rattle.fax_frames.specs.declared.writing.Plain.{Plain}
+use Rattle.fax_ifp.specs.Tracked.{Tracked, IsTracked}
+use Rattle.fax_call.specs.declared.pending.Pending.TheVariants.{Nothing, Image}
+use Rattle.fax_call.specs.declared.procedure.Procedure.{Procedure}
+use Rattle.fax_call.specs.declared.state.State.TheVariants.{Idle}
+use Rattle.fax_call.specs.Calls.{timed}
+use Rattle.fax_call.specs.Kept.{pending_behind}
+use Rattle.fax_call.specs.Following.{Follows, gives_now, IsJobOfCall}
+use Rattle.fax_call.specs.Reached.{Kept, IsReached}
+use Rattle.fax_call.proofs.GivingLemmas.{reached_rests, reached_gives, image_next, packet_next, if_given, on_given, job_kept}
+use Rattle.fax_call.proofs.caller.Caller.tick.Goals as goal
+
+pub returns-then-not-gives-clause-ticked : goal.returns-then-not-gives-clause-ticked
+returns-then-not-gives-clause-ticked g c writes heard core writing r =
+    let now : ℕ = c.args.now in
+    let job = c.args.job.now in
+    let s = subst (λ (k : Kept). IsReached writes job heard core k) (sym c.self.view_is) r in
+    let acted = c.act.ensures.acted writes job core _ s.follows in
+    let none : gives_now (timed core now) now ≡ false = sym (c.gives.ensures.gives writes job (timed core now) _ acted) ∙ c.if-not-gives.true in
+    reached_rests writes job heard core now (record { tracked = c.self.inside.signals; procedure = c.act.new.self; text = c.self.inside.text }) s.tracked none acted
+
+pub returns-in-Image-clause-ticked : goal.returns-in-Image-clause-ticked
+returns-in-Image-clause-ticked g c =
+    if_given c.begin_text.result _ _ _ c.begin_text.ensures.packet c.begin_text.ensures.given
+    (λ given writes heard core writing r.
+    let now : ℕ = c.args.now in
+    let job = c.args.job.now in
+    let s = subst (λ (k : Kept). IsReached writes job heard core k) (sym c.self.view_is) r in
+    let acted = c.act.ensures.acted writes job core _ s.follows in
+    let on : gives_now (timed core now) now ≡ true = sym (c.gives.ensures.gives writes job (timed core now) _ acted) ∙ c.if-not-gives.false in
+    let new = given writes writing in
+    reached_gives writes job heard core now _ _ _ c.begin_text.new.self
+    (subst (λ (t : Tracked). IsTracked heard t) (sym (ap (λ (k : Kept). k.tracked) new)) r.tracked) on
+    (image_next writes job (timed core now) _ c.act.new.self now c.in-Image.dcs c.in-Image.field-1 acted c.in-Image.is)
+    (ap (λ (k : Kept). k.procedure) new) (ap (λ (k : Kept). k.text) new))
+
+pub returns-in_default : goal.returns-in_default
+returns-in_default g c =
+    let now : ℕ = c.args.now in
+    let job = c.args.job.now in
+    let p : Procedure = c.act.new.self in
+    let text : List ℕ = c.args.self.now.text in
+    let some : p.pending ≡ Nothing → ⊥ = search rules in
+    let other : (dcs : Dcs) (plain : Plain) → p.pending ≡ Image dcs plain → ⊥ = c.in_default.not-Image in
+    let on_call : c.self.inside.procedure.state ≡ Idle → ⊥ =
+    λ e. some (ap (λ (x : Procedure). x.pending) (c.act.ensures.idle e) ∙ c.self.invariant.0.rests e) in
+    let on_now : c.args.self.now.procedure.state ≡ Idle → ⊥ =
+    λ e. on_call (ap (λ (k : Kept). k.procedure.state) c.self.view_is ∙ e) in
+    record {
+      ticked =
+          if_given c.give_packet.result _ _ _ c.give_packet.ensures.packet c.give_packet.ensures.given
+          (λ new writes heard core writing r.
+          let s = subst (λ (k : Kept). IsReached writes job heard core k) (sym c.self.view_is) r in
+          let acted_inside = c.act.ensures.acted writes job core _ s.follows in
+          let acted : Follows writes job (timed core now) text p = subst (λ (k : Kept). Follows writes job (timed core now) k.text p) c.self.view_is acted_inside in
+          let on : gives_now (timed core now) now ≡ true = sym (c.gives.ensures.gives writes job (timed core now) _ acted) ∙ c.if-not-gives.false in
+          reached_gives writes job heard core now _ _ _ c.give_packet.new.self
+          (subst (λ (t : Tracked). IsTracked heard t) (sym (ap (λ (k : Kept). k.tracked) new)) r.tracked) on
+          (packet_next writes job (timed core now) text p now c.act.ensures.fit acted some other)
+          (ap (λ (k : Kept). k.procedure) new) (ap (λ (k : Kept). k.text) new));
+      job =
+          on_given c.give_packet.result _ _ c.give_packet.ensures.given
+          (λ new. subst (λ (k : Kept). IsJobOfCall k.procedure job) (sym new)
+          (job_kept c.args.self.now.procedure p (pending_behind p.pending (length text)) now job
+          (c.act.ensures.same.0 ∙ ap (λ (k : Kept). k.procedure.format) c.self.view_is)
+          (c.act.ensures.same.1 ∙ ap (λ (k : Kept). k.procedure.pages) c.self.view_is) on_now c.requires));
+      idle = λ e. absurd (on_now e);
+      err = c.give_packet.ensures.err;
+    }

@@ -1,0 +1,172 @@
+-- The calling side over a call: what waits, timers, the pace, ticks. (ITU-T T.30, 5.4.3 for T1 and T4; that timers act in
+-- ticks alone, and the pace, are this project's profile.)
+use Rattle.std.specs.Prelude.{ℕ, ◌+◌, nat_le, true, false, List, [], ◌∷◌, length, take, drop, Option, Some, None, slice_get, if◌then◌else◌}
+use Rattle.fax_runcodes.specs.declared.format.Format.{Format}
+use Rattle.fax_frames.specs.declared.dcs.Dcs.{Dcs}
+use Rattle.fax_frames.specs.Capabilities.{coding_of, least_bits_of}
+use Rattle.fax_frames.specs.Frames.{frame_of}
+use Rattle.fax_frames.specs.Rates.{kind_of}
+use Rattle.fax_timers.specs.Moments.{moment_after, is_due}
+use Rattle.fax_timers.specs.Paces.{pace_allows}
+use Rattle.fax_timers.specs.Spans as spans
+use Rattle.fax_pagestore.specs.Pages.{PageValue}
+use Rattle.fax_ifp.specs.Pieces as pieces
+use Rattle.fax_jobs.specs.declared.outcome.Outcome.{Outcome}
+use Rattle.fax_jobs.specs.declared.outcome.Outcome.TheVariants as outcomes
+use Rattle.fax_jobs.specs.Jobs.{JobValue}
+use Rattle.fax_call.specs.declared.state.State.{State}
+use Rattle.fax_call.specs.declared.state.State.TheVariants.{Idle, AwaitDis, AwaitCfr, AwaitMcf, Closing}
+use Rattle.fax_call.specs.Writings.{Writing}
+use Rattle.fax_call.specs.Replies.{Packet, Part, Due, One, Text, waits, part_length, calling_tone, training, command, image, goodbye}
+use Rattle.fax_call.specs.Table.{Counts, no_counts, Move, Stays, Trains, Sends, AsksAgain, Closes, HangsUp, on_frame, on_timers}
+
+-- the calling side: its state, the job's format and number of pages, its counts, what waits, the first of it first, T1 and
+-- T4, the moment of the last packet given on its leg, and the outcome of a call that has ended
+pub record Calling : Type 0 where
+  pub state : State
+  pub format : Format
+  pub pages : ℕ
+  pub counts : Counts
+  pub waiting : List Due
+  pub t1 : Option ℕ
+  pub t4 : Option ℕ
+  pub last : Option ℕ
+  pub outcome : Option Outcome
+
+-- no call was on the leg
+abbrev pub new_calling : Format → Calling
+new_calling format =
+    record { state = Idle; format = format; pages = 1; counts = no_counts; waiting = []; t1 = None; t4 = None; last = None; outcome = None }
+
+-- IDLE, start: CNG; T1 is set
+abbrev pub started : Calling → Format → ℕ → ℕ → Calling
+started a format pages now =
+    record {
+      state = AwaitDis;
+      format = format;
+      pages = pages;
+      counts = no_counts;
+      waiting = calling_tone;
+      t1 = Some (moment_after now spans.t1);
+      t4 = None;
+      last = a.last;
+      outcome = None;
+    }
+
+-- behind a move; T1 and T4 are clear while packets wait
+abbrev pub replied_with : Calling → State → Counts → List Due → Calling
+replied_with a state c due =
+    record { state = state; format = a.format; pages = a.pages; counts = c; waiting = due; t1 = None; t4 = None; last = a.last; outcome = a.outcome }
+
+abbrev pub moved : Calling → Move → Calling
+moved a Stays = a
+moved a (Trains dis dcs c) = replied_with a (AwaitCfr dis dcs) c (training dcs)
+moved a (Sends dis dcs c) = replied_with a (AwaitMcf dis dcs) c (image a.pages c.page dcs)
+moved a (AsksAgain c) = replied_with a a.state c (command a.pages c.page)
+moved a (Closes outcome c) = replied_with a (Closing outcome) c goodbye
+moved a HangsUp =
+    record { state = Idle; format = a.format; pages = a.pages; counts = a.counts; waiting = []; t1 = None; t4 = None; last = a.last; outcome = Some outcomes.HungUp }
+
+-- A PIECE comes: frames alone matter, and none while packets wait
+abbrev pub heard : Calling → pieces.Piece → Move
+heard a (pieces.Frame octets) = if waits a.waiting then Stays else on_frame a.format a.pages a.state a.counts (frame_of octets)
+heard a piece = Stays
+
+abbrev pub came : Calling → pieces.Piece → Calling
+came a piece = moved a (heard a piece)
+
+-- the pieces of a datagram, in the order of time
+abbrev pub came_all : Calling → List pieces.Piece → Calling
+came_all a [] = a
+came_all a (piece ∷ more) = came_all (came a piece) more
+
+-- A TICK. Timers act where no packet waits.
+abbrev pub timed : Calling → ℕ → Calling
+timed a now = moved a (if waits a.waiting then Stays else on_timers (is_due a.t1 now) (is_due a.t4 now) a.state a.counts)
+
+-- the text of a page of the job under a DCS: in its coding, with its least bits of a line
+abbrev pub text_if : Writing → Dcs → Option PageValue → List ℕ
+text_if writes dcs None = []
+text_if writes dcs (Some page) = writes page (coding_of dcs) (least_bits_of dcs)
+
+abbrev pub text_at : Writing → JobValue → ℕ → Dcs → List ℕ
+text_at writes job page dcs = text_if writes dcs (slice_get job.pages page)
+
+-- what is given of what waits, and what is left of it
+pub record Taken : Type 0 where
+  pub packet : Packet
+  pub rest : List Due
+
+abbrev pub taken_text : ℕ → Dcs → ℕ → List ℕ → List Due → Taken
+taken_text page dcs from text due =
+    if nat_le (length (drop from text)) (part_length dcs)
+    then record { packet = Part (kind_of dcs.rate) true (drop from text); rest = due }
+    else record {
+      packet = Part (kind_of dcs.rate) false (take (part_length dcs) (drop from text));
+      rest = Text page dcs (from + part_length dcs) ∷ due;
+    }
+
+abbrev pub taken : Writing → JobValue → Due → List Due → Taken
+taken writes job (One packet) due = record { packet = packet; rest = due }
+taken writes job (Text page dcs from) due = taken_text page dcs from (text_at writes job page dcs) due
+
+-- the last packet that waits is given: Closing becomes Idle, with its outcome, and T4 is set
+abbrev pub state_when_given : State → State
+state_when_given (Closing outcome) = Idle
+state_when_given state = state
+
+abbrev pub outcome_when_given : State → Option Outcome → Option Outcome
+outcome_when_given (Closing outcome) old = Some outcome
+outcome_when_given state old = old
+
+abbrev pub t4_when_given : State → Option ℕ → ℕ → Option ℕ
+t4_when_given (AwaitCfr dis dcs) old now = Some (moment_after now spans.t4)
+t4_when_given (AwaitMcf dis dcs) old now = Some (moment_after now spans.t4)
+t4_when_given state old now = old
+
+abbrev pub after_giving : Calling → ℕ → List Due → Calling
+after_giving a now [] =
+    record {
+      state = state_when_given a.state;
+      format = a.format;
+      pages = a.pages;
+      counts = a.counts;
+      waiting = [];
+      t1 = a.t1;
+      t4 = t4_when_given a.state a.t4 now;
+      last = Some now;
+      outcome = outcome_when_given a.state a.outcome;
+    }
+after_giving a now (d ∷ due) = record a { waiting = d ∷ due; last = Some now }
+
+-- what a tick leaves, and the packet that it gives
+pub record Ticked : Type 0 where
+  pub core : Calling
+  pub given : Option Packet
+
+-- one packet is given where one waits, and where the pace allows
+abbrev pub given_first : Writing → JobValue → Calling → ℕ → List Due → Ticked
+given_first writes job a now [] = record { core = a; given = None }
+given_first writes job a now (d ∷ due) =
+    let t : Taken = taken writes job d due in
+    record { core = after_giving a now t.rest; given = Some t.packet }
+
+abbrev pub paced : Writing → JobValue → Calling → ℕ → Ticked
+paced writes job a now =
+    if pace_allows a.last now then given_first writes job a now a.waiting else record { core = a; given = None }
+
+abbrev pub ticked : Writing → JobValue → Calling → ℕ → Ticked
+ticked writes job a now = paced writes job (timed a now) now
+
+-- A CALL over one unchanged job: what comes and the ticks, the newest first
+pub data CallEvent : Type 0 where
+  Comes : (piece : pieces.Piece) → CallEvent
+  Ticks : (now : ℕ) → CallEvent
+
+abbrev pub after_event : Writing → JobValue → Calling → CallEvent → Calling
+after_event writes job a (Comes piece) = came a piece
+after_event writes job a (Ticks now) = (ticked writes job a now).core
+
+abbrev pub after_events : Writing → JobValue → Calling → List CallEvent → Calling
+after_events writes job a [] = a
+after_events writes job a (e ∷ before) = after_event writes job (after_events writes job a before) e

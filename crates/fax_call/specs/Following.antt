@@ -1,0 +1,88 @@
+-- What a procedure is in place of the core that it stands for. No law speaks of this module.
+use Rattle.std.specs.Prelude.{◌≡◌, ℕ, ◌<◌, Bool, ◌&&◌, List, length, drop, Option, Some}
+use Rattle.fax_timers.specs.Paces.{pace_allows}
+use Rattle.fax_jobs.specs.Jobs.{JobValue}
+use Rattle.fax_call.specs.declared.pending.Pending.{Pending}
+use Rattle.fax_call.specs.declared.pending.Pending.TheVariants as pendings
+use Rattle.fax_call.specs.declared.procedure.Procedure.{Procedure}
+use Rattle.fax_call.specs.declared.state.State.{State}
+use Rattle.fax_call.specs.declared.state.State.TheVariants.{Idle}
+use Rattle.fax_call.specs.Writings.{Writing}
+use Rattle.fax_call.specs.Replies.{Packet, waits, part_length}
+use Rattle.fax_call.specs.Calls.{Calling, text_at, given_first, state_when_given, outcome_when_given, t4_when_given}
+use Rattle.fax_call.specs.Kept.{counts_shown, waiting_of, pending_behind, FitsState, FitsPending}
+
+-- what is known of every procedure
+pub record IsFit (p : Procedure) : Type 0 where
+  pub within : p.counts.page < p.pages
+  pub state : FitsState p.state p.counts
+  pub pending : FitsPending p.pending
+  pub rests : p.state ≡ Idle → p.pending ≡ pendings.Nothing
+
+-- what is left of the text of a page, while it is given
+abbrev pub IsLeft : Writing → JobValue → (page : ℕ) → (from : ℕ) → Pending → List ℕ → Type 0
+IsLeft writes job page from (pendings.Text dcs plain) text = text ≡ drop from (text_at writes job page dcs)
+IsLeft writes job page from pending text = Unit {0}
+
+-- a procedure that stands for a core in the call of a job; what is left of the text that is given is kept beside it
+pub record Follows (writes : Writing) (job : JobValue) (core : Calling) (text : List ℕ) (p : Procedure) : Type 0 where
+  pub state : p.state ≡ core.state
+  pub format : p.format ≡ core.format
+  pub pages : p.pages ≡ core.pages
+  pub counts : counts_shown p.counts ≡ core.counts
+  pub from : ℕ
+  pub waiting : waiting_of p.pending p.counts.page from ≡ core.waiting
+  pub left : IsLeft writes job p.counts.page from p.pending text
+  pub t1 : p.t1 ≡ core.t1
+  pub t4 : p.t4 ≡ core.t4
+  pub last : p.pace ≡ core.last
+  pub outcome : p.outcome ≡ core.outcome
+
+-- whether a packet is given now: one waits, and the pace lets it through
+abbrev pub gives_now : Calling → ℕ → Bool
+gives_now core now = waits core.waiting && pace_allows core.last now
+
+-- the text is not empty while it is given
+abbrev pub HasText : Pending → List ℕ → Type 0
+HasText (pendings.Text dcs plain) text = 0 < length text
+HasText pending text = Unit {0}
+
+-- the job is the one of the call that is on, if one is
+abbrev pub IsJobOfCall : Procedure → JobValue → Type 0
+IsJobOfCall p job = (p.state ≡ Idle → ⊥) → (job.format ≡ p.format) × (length job.pages ≡ p.pages)
+
+-- how many octets of a text the next packet has at most
+abbrev pub text_octets : Pending → ℕ
+text_octets (pendings.Text dcs plain) = part_length dcs
+text_octets pending = 0
+
+-- what is left of the text behind the next packet, where this text is made with it
+abbrev pub text_behind : Pending → (made : List ℕ) → List ℕ → List ℕ
+text_behind (pendings.Image dcs plain) made text = made
+text_behind (pendings.Text dcs plain) made text = drop (part_length dcs) text
+text_behind pending made text = text
+
+-- a text is made where the short training indicator is given
+abbrev pub IsMade : Writing → JobValue → (page : ℕ) → Pending → List ℕ → Type 0
+IsMade writes job page (pendings.Image dcs plain) made = made ≡ text_at writes job page dcs
+IsMade writes job page pending made = Unit {0}
+
+-- the procedure behind the next packet, where so many octets were left of a text
+abbrev pub behind_packet : Pending → Procedure → ℕ → Procedure
+behind_packet pendings.Nothing p now =
+    record p {
+      state = state_when_given p.state;
+      pending = pendings.Nothing;
+      t4 = t4_when_given p.state p.t4 now;
+      pace = Some now;
+      outcome = outcome_when_given p.state p.outcome;
+    }
+behind_packet pending p now = record p { pending = pending; pace = Some now }
+
+abbrev pub given_by : Procedure → (left : ℕ) → ℕ → Procedure
+given_by p left now = behind_packet (pending_behind p.pending left) p now
+
+-- the next packet is given, behind which this is left of the text
+pub record GivesNext (writes : Writing) (job : JobValue) (core : Calling) (now : ℕ) (packet : Packet) (left : List ℕ) (new : Procedure) : Type 0 where
+  pub follows : Follows writes job (given_first writes job core now core.waiting).core left new
+  pub given : (given_first writes job core now core.waiting).given ≡ Some packet

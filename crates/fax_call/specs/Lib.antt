@@ -1,0 +1,11 @@
+pub mod Calls
+pub mod Delivery
+pub mod Emission
+pub mod Following
+pub mod Kept
+pub mod Numbers
+pub mod Reached
+pub mod Refusals
+pub mod Replies
+pub mod Table
+pub mod Writings

@@ -1,0 +1,73 @@
+//! What the calling side makes of the slots that come.
+ghost use Rattle.std.specs.Prelude.{◌≡◌, List, OnOk, OnErr};
+ghost use Rattle.fax_ifp.specs.Elements.{Slot as SlotShown};
+ghost use Rattle.fax_ifp.specs.Shown.{pieces_shown};
+ghost use Rattle.fax_ifp.specs.Tracked.{lost_slots};
+ghost use Rattle.fax_udptl.specs.Taking.{slots_in};
+ghost use Rattle.fax_jobs.specs.Jobs.{JobValue};
+ghost use Rattle.fax_call.specs.Writings.{Writing};
+ghost use Rattle.fax_call.specs.Calls.{Calling, came_all};
+ghost use Rattle.fax_call.specs.Following.{Follows, IsJobOfCall};
+ghost use Rattle.fax_call.specs.Reached.{IsReached, Hears};
+
+use crate::caller::Caller;
+use fax_bits::NoMemory;
+use fax_ifp::{Piece, Pieces, Slot};
+use fax_udptl::Decided;
+
+impl Caller {
+    /// Takes the slots that a datagram decides, all of them or none: frames are answered, where no packet waits. It takes
+    /// memory for packets of more than four fields. An `Err` changes nothing.
+    pub fn slots(&mut self, decided: &Decided<'_>, _now: u64) -> Result<(), NoMemory>
+        ensures heard { OnOk result ((writes : Writing) (job : JobValue) (heard : List SlotShown) (core : Calling)
+            → IsReached writes job heard core self.old → Hears writes job (slots_in decided.now) heard core self.new) }
+        ensures job { (job : JobValue) → IsJobOfCall self.old.procedure job → IsJobOfCall self.new.procedure job }
+        ensures err { OnErr result (self.new ≡ self.old) }
+    {
+        let signals = self.signals.copy();
+        let procedure = self.procedure;
+        if self.hear_slots(decided).is_err() {
+            self.signals = signals;
+            self.procedure = procedure;
+            return Err(NoMemory);
+        }
+        Ok(())
+    }
+
+    /// Hears the slots. An `Err` leaves what is left of the text.
+    fn hear_slots(&mut self, decided: &Decided<'_>) -> Result<(), NoMemory>
+        ensures heard { OnOk result ((writes : Writing) (job : JobValue) (heard : List SlotShown) (core : Calling)
+            → IsReached writes job heard core self.old → Hears writes job (slots_in decided.now) heard core self.new) }
+        ensures job { (job : JobValue) → IsJobOfCall self.old.procedure job → IsJobOfCall self.new.procedure job }
+        ensures text { self.new.text ≡ self.old.text }
+    {
+        self.lose(decided.lost());
+        let mut pieces = Pieces::new(self.alloc);
+        for packet in decided.packets() {
+            self.signals.slot_into(Slot::Packet(packet), &mut pieces)?;
+            self.hear_all(pieces.as_slice());
+        }
+        Ok(())
+    }
+
+    /// Hears pieces, in the order of time.
+    fn hear_all(&mut self, pieces: &[Piece<'_>])
+        ensures heard { (writes : Writing) (job : JobValue) (core : Calling) → Follows writes job core self.old.text self.old.procedure
+            → Follows writes job (came_all core (pieces_shown pieces.now)) self.new.text self.new.procedure }
+        ensures tracked { self.new.tracked ≡ self.old.tracked }
+        ensures text { self.new.text ≡ self.old.text }
+        ensures job { (job : JobValue) → IsJobOfCall self.old.procedure job → IsJobOfCall self.new.procedure job }
+    {
+        self.procedure.hear_all(pieces);
+    }
+
+    /// So many slots are missing.
+    fn lose(&mut self, count: u16)
+        ensures heard { (writes : Writing) (job : JobValue) (heard : List SlotShown) (core : Calling)
+            → IsReached writes job heard core self.old → Hears writes job (lost_slots count) heard core self.new }
+        ensures procedure { self.new.procedure ≡ self.old.procedure }
+        ensures text { self.new.text ≡ self.old.text }
+    {
+        self.signals.lose(count);
+    }
+}

@@ -1,0 +1,45 @@
+//! Laws of the calling side: functions that do nothing, each of whose contracts is a theorem. Each is told of every call
+//! over one unchanged job, whatever the called machine answers.
+ghost use Rattle.fax_call.specs.Delivery.{TellsWhatWasAnswered};
+ghost use Rattle.fax_call.specs.Emission.{EmitsThePages};
+ghost use Rattle.fax_call.specs.Numbers.{NumbersAreFixed};
+ghost use Rattle.fax_call.specs.Refusals.{EndsByRefusal, NoneIsLacking};
+ghost use Rattle.fax_call.specs.Writings.{PagesHaveTexts, TextsAreOne};
+
+/// Each image that is emitted to its end means, under the DCS given before it, a page of the job, its format included:
+/// the first is page 0, the next page goes out only behind an MCF or RTP that answers the command behind the image, the
+/// same page again only behind such an RTN, and nothing without an answer.
+pub fn emits_the_pages()
+    ensures { EmitsThePages }
+{}
+
+/// The number of each image is fixed by what was given and heard.
+pub fn numbers_are_fixed()
+    ensures { NumbersAreFixed }
+{}
+
+/// A call that is over has an outcome and a count of pages: those whose images were answered with MCF or RTP, one each,
+/// each emitted to its end before that answer; the outcome is Delivered exactly where they are all.
+pub fn tells_what_was_answered()
+    ensures { TellsWhatWasAnswered }
+{}
+
+/// A job for which a DIS that is taken leaves no choice ends with that refusal, whatever comes.
+pub fn ends_by_refusal()
+    ensures { EndsByRefusal }
+{}
+
+/// No image is emitted of a page whose width or resolution the called machine lacks.
+pub fn none_is_lacking()
+    ensures { NoneIsLacking }
+{}
+
+/// There is a function that gives the text of each page: so what is told over one is told of something.
+pub fn pages_have_texts()
+    ensures { PagesHaveTexts }
+{}
+
+/// The text of a page is one.
+pub fn texts_are_one()
+    ensures { TextsAreOne }
+{}

@@ -1,0 +1,20 @@
+//! The calling side of a call (ITU-T T.30, phases B to D of a calling terminal), without sockets or a clock: slots of
+//! packets and moments go in, packets come out.
+//!
+//! Moments are milliseconds. Each definition that a contract here speaks of stands in `specs/`: the calling table in
+//! `Table`, the packets of a reply in `Replies`, what waits, timers and pace in `Calls`, the text of a page in `Writings`.
+#![tactic(auto)]
+
+mod caller;
+mod counts;
+mod hearing;
+pub mod laws;
+mod pending;
+mod procedure;
+mod state;
+mod table;
+mod text;
+
+pub use caller::Caller;
+pub use fax_jobs::Outcome;
+pub use state::State;

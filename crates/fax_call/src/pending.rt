@@ -1,0 +1,190 @@
+//! What waits.
+ghost use Rattle.std.specs.Prelude.{◌≡◌, ◌≢◌, ◌≤◌, ◌<◌, ◌*◌, ◌/◌, length, take, replicate, IfOk};
+ghost use Rattle.fax_ifp.specs.WrittenPackets.{written_indicator, written_message, image_fields};
+ghost use Rattle.fax_call.specs.Replies.{written, part_length, check_length, Part};
+ghost use Rattle.fax_call.specs.Kept.{frame_text, frame_behind, packet_of, pending_behind, check_part, text_part, FitsMessage, FitsPending};
+ghost use Rattle.fax_call.specs.Following.{HasText, text_octets};
+ghost use Rattle.fax_frames.specs.Rates.{kind_of};
+
+use fax_bits::{NoMemory, Octets};
+use fax_frames::{Dcs, FrameBytes, Plain, write_dcs, write_plain};
+use fax_ifp::{Indicator, write_frame, write_image, write_indicator};
+use std::alloc::Global;
+
+/// A frame that the calling side gives.
+#[derive(Clone, Copy, PartialEq, Eq)]
+pub(crate) enum Message {
+    /// The DCS of a training, which follows it.
+    Dcs(Dcs),
+    /// A frame with no information field.
+    Plain(Plain),
+}
+
+impl Message {
+    /// The octets of the frame.
+    fn frame(self) -> FrameBytes
+        requires { FitsMessage self }
+        ensures text { result.items ≡ frame_text self }
+        ensures some { 1 ≤ length result.items }
+        ensures few { length result.items ≤ 256 }
+    {
+        match self {
+            Message::Dcs(dcs) => write_dcs(&dcs),
+            Message::Plain(plain) => write_plain(plain, true),
+        }
+    }
+
+    /// What waits behind the frame.
+    fn behind(self) -> Pending
+        ensures { result ≡ frame_behind self }
+    {
+        match self {
+            Message::Dcs(dcs) => Pending::Training(dcs),
+            Message::Plain(_) => Pending::Nothing,
+        }
+    }
+}
+
+/// The packet that is given next; those behind it follow from it.
+#[derive(Clone, Copy, PartialEq, Eq)]
+pub(crate) enum Pending {
+    Nothing,
+    /// The tone of a calling terminal, CNG.
+    Tone,
+    /// The preamble of a frame.
+    Preamble(Message),
+    Frame(Message),
+    /// The long training indicator, and the training check behind it.
+    Training(Dcs),
+    /// The training check, of which so many octets were given.
+    Check(Dcs, u16),
+    /// The short training indicator, and behind it the text of the page and this command.
+    Image(Dcs, Plain),
+    /// What is left of the text of the page, and behind it this command.
+    Text(Dcs, Plain),
+}
+
+impl Pending {
+    /// The next packet, where this is left of the text.
+    pub fn packet(self, alloc: Global, text: &[u8]) -> Result<Octets, NoMemory>
+        requires some { self ≢ Pending.Nothing }
+        requires fits { FitsPending self }
+        requires text { HasText self text.now }
+        ensures { IfOk result (λ octets. octets ≡ written (packet_of self text.now)) }
+    {
+        match self {
+            Pending::Nothing => unreachable!(),
+            Pending::Tone => indicator(alloc, Indicator::Cng.code()),
+            Pending::Preamble(_) => indicator(alloc, Indicator::V21Preamble.code()),
+            Pending::Frame(message) => write_frame(alloc, message.frame().as_slice()),
+            Pending::Training(dcs) => indicator(alloc, dcs.rate.training(true)),
+            Pending::Check(dcs, given) => check_packet(alloc, dcs, given),
+            Pending::Image(dcs, _) => indicator(alloc, dcs.rate.training(false)),
+            Pending::Text(dcs, _) => text_packet(alloc, dcs, text),
+        }
+    }
+
+    /// How many octets of a text the next packet has at most.
+    pub fn text_octets(self) -> usize
+        ensures { result ≡ text_octets self }
+    {
+        match self {
+            Pending::Text(dcs, _) => usize::from(part_length(dcs)),
+            _ => 0,
+        }
+    }
+
+    /// What waits behind it, where so many octets were left of the text.
+    pub fn behind(self, left: usize) -> Pending
+        requires { FitsPending self }
+        ensures behind { result ≡ pending_behind self left }
+        ensures fits { FitsPending result }
+    {
+        match self {
+            Pending::Nothing | Pending::Tone => Pending::Nothing,
+            Pending::Preamble(message) => Pending::Frame(message),
+            Pending::Frame(message) => message.behind(),
+            Pending::Training(dcs) => Pending::Check(dcs, 0),
+            Pending::Check(dcs, given) => {
+                let part = part_length(dcs);
+                if check_length(dcs) - given <= part {
+                    Pending::Nothing
+                } else {
+                    Pending::Check(dcs, given + part)
+                }
+            }
+            Pending::Image(dcs, command) => Pending::Text(dcs, command),
+            Pending::Text(dcs, command) => {
+                if left <= usize::from(part_length(dcs)) {
+                    Pending::Preamble(Message::Plain(command))
+                } else {
+                    self
+                }
+            }
+        }
+    }
+}
+
+/// How many octets a packet of a high-speed signal has, but for the last: 40 ms of them (this project's profile).
+pub(crate) fn part_length(dcs: Dcs) -> u16
+    ensures part { result ≡ part_length dcs }
+    ensures some { 12 ≤ result }
+    ensures few { result ≤ 72 }
+{
+    dcs.rate.bits() / 200
+}
+
+/// How many zero octets a training check has: 1.5 seconds of them (ITU-T T.30, 5.3.6.1.3).
+fn check_length(dcs: Dcs) -> u16
+    ensures check { result ≡ check_length dcs }
+    ensures some { 450 ≤ result }
+    ensures few { result ≤ 2700 }
+{
+    dcs.rate.bits() * 3 / 16
+}
+
+/// The next packet of a training check, of which so many octets were given.
+fn check_packet(alloc: Global, dcs: Dcs, given: u16) -> Result<Octets, NoMemory>
+    requires { given < check_length dcs }
+    ensures { IfOk result (λ octets. octets ≡ written (check_part dcs given)) }
+{
+    let part = part_length(dcs);
+    let left = check_length(dcs) - given;
+    if left <= part {
+        write_image(alloc, dcs.rate.kind(), true, zeros(left))
+    } else {
+        write_image(alloc, dcs.rate.kind(), false, zeros(part))
+    }
+}
+
+/// As many zero octets as a packet has at most.
+const ZEROS: [u8; 72] = [0; 72];
+
+/// So many zero octets.
+fn zeros(count: u16) -> &'static [u8]
+    requires { count ≤ 72 }
+    ensures { result.now ≡ replicate count 0 }
+{
+    &ZEROS[..usize::from(count)]
+}
+
+/// The next packet of a text, of which this is left.
+fn text_packet(alloc: Global, dcs: Dcs, text: &[u8]) -> Result<Octets, NoMemory>
+    requires { 1 ≤ length text.now }
+    ensures { IfOk result (λ octets. octets ≡ written (text_part dcs text.now)) }
+{
+    let part = usize::from(part_length(dcs));
+    if text.len() <= part {
+        write_image(alloc, dcs.rate.kind(), true, text)
+    } else {
+        write_image(alloc, dcs.rate.kind(), false, &text[..part])
+    }
+}
+
+/// The packet of an indicator.
+fn indicator(alloc: Global, code: u8) -> Result<Octets, NoMemory>
+    requires { code ≤ 15 }
+    ensures { IfOk result (λ octets. octets ≡ written_indicator code) }
+{
+    Ok(Octets::from_vec(Vec::from_slice(alloc, &write_indicator(code))?))
+}

@@ -1,0 +1,259 @@
+//! The procedure of a call (ITU-T T.30): its state, what is counted of it, what waits, timers and pace. It is plain data
+//! and takes no memory.
+ghost use Rattle.std.specs.Prelude.{◌≡◌, ◌≢◌, ◌↔◌, ◌≤◌, ◌<◌, IsTrue, List, ℕ, Option, None, Some, if◌then◌else◌, false};
+ghost use Rattle.fax_jobs.specs.Jobs.{JobValue};
+ghost use Rattle.fax_call.specs.Writings.{Writing};
+ghost use Rattle.fax_call.specs.Calls.{Calling, new_calling, started, moved, timed, came, came_all, state_when_given, outcome_when_given, t4_when_given};
+ghost use Rattle.fax_call.specs.Kept.{move_shown, pending_of, command_of, FitsMove};
+ghost use Rattle.fax_call.specs.Following.{IsFit, Follows, HasText, given_by, gives_now};
+ghost use Rattle.fax_ifp.specs.Shown.{piece_of, pieces_shown};
+
+use crate::State;
+use crate::counts::Counts;
+use crate::pending::{Message, Pending};
+use crate::table::Move;
+use fax_frames::{Frame, Plain};
+use fax_ifp::Piece;
+use fax_jobs::Outcome;
+use fax_pagestore::Format;
+use fax_runcodes::Width;
+use fax_timers::{Pace, T1_MS, T4_MS, Timer};
+
+/// The procedure of a call.
+#[derive(Clone, Copy)]
+pub(crate) struct Procedure {
+    pub state: State,
+    /// The format of the job's pages, and how many there are.
+    pub format: Format,
+    pub pages: u32,
+    pub counts: Counts,
+    pub pending: Pending,
+    pub t1: Timer,
+    pub t4: Timer,
+    pub pace: Pace,
+    pub outcome: Option<Outcome>,
+}
+
+/// The format of a calling side that was not started yet.
+const NO_FORMAT: Format = Format {
+    width: Width::W1728,
+    fine: false,
+};
+
+impl Procedure {
+    /// No call is on, and none was.
+    pub fn new() -> Self
+        ensures fit { IsFit result }
+        ensures follows { (writes : Writing) (job : JobValue) (text : List ℕ) → Follows writes job (new_calling result.format) text result }
+        ensures pending { result.pending ≡ Pending.Nothing }
+        ensures idle { result.state ≡ State.Idle }
+        ensures outcome { result.outcome ≡ None }
+    {
+        Procedure {
+            state: State::Idle,
+            format: NO_FORMAT,
+            pages: 1,
+            counts: Counts::new(),
+            pending: Pending::Nothing,
+            t1: Timer::new(),
+            t4: Timer::new(),
+            pace: Pace::new(),
+            outcome: None,
+        }
+    }
+
+    /// The call of a job begins: CNG waits, and T1 is set.
+    pub fn start(&mut self, format: Format, pages: u32, now: u64)
+        requires { 1 ≤ pages }
+        ensures fit { IsFit self.new }
+        ensures pending { self.new.pending ≡ Pending.Tone }
+        ensures job { (self.new.format ≡ format) × (self.new.pages ≡ pages) }
+        ensures started { (writes others : Writing) (job other : JobValue) (core : Calling) (text left : List ℕ) → Follows others other core text self.old
+            → Follows writes job (started core format pages now) left self.new }
+    {
+        let mut t1 = Timer::new();
+        t1.set(now, T1_MS);
+        *self = Procedure {
+            state: State::AwaitDis,
+            format,
+            pages,
+            counts: Counts::new(),
+            pending: Pending::Tone,
+            t1,
+            t4: Timer::new(),
+            pace: self.pace,
+            outcome: None,
+        };
+    }
+
+    /// Whether a packet waits.
+    pub fn is_waiting(&self) -> bool
+        ensures waits { IsTrue result ↔ (self.now.pending ≢ Pending.Nothing) }
+        ensures none { result ≡ false → self.now.pending ≡ Pending.Nothing }
+    {
+        self.pending != Pending::Nothing
+    }
+
+    /// The command behind a page: EOP behind the last one, else MPS.
+    fn command(&self, page: u32) -> Plain
+        requires { page < self.now.pages }
+        ensures { result ≡ command_of self.now.pages page }
+    {
+        let pages = self.pages;
+        if page + 1 == pages {
+            Plain::Eop
+        } else {
+            Plain::Mps
+        }
+    }
+
+    /// What is decided is done, where nothing waits.
+    pub fn make(&mut self, decided: Move)
+        requires fit { IsFit self.old }
+        requires fits { FitsMove self.old.pages self.old.state decided }
+        requires free { self.old.pending ≡ Pending.Nothing }
+        ensures fit { IsFit self.new }
+        ensures pending { self.new.pending ≡ pending_of self.old.pages self.old.counts.page decided }
+        ensures same { (self.new.format ≡ self.old.format) × (self.new.pages ≡ self.old.pages) }
+        ensures stays { decided ≡ Move.Stay → self.new ≡ self.old }
+        ensures made { (writes : Writing) (job : JobValue) (core : Calling) (text left : List ℕ) → Follows writes job core text self.old
+            → Follows writes job (moved core (move_shown decided)) left self.new }
+    {
+        match decided {
+            Move::Stay => {}
+            Move::Train(dis, dcs, counts) => {
+                self.reply(
+                    State::AwaitCfr(dis, dcs),
+                    counts,
+                    Pending::Preamble(Message::Dcs(dcs)),
+                );
+            }
+            Move::Send(dis, dcs, counts) => {
+                let pending = Pending::Image(dcs, self.command(counts.page));
+                self.reply(State::AwaitMcf(dis, dcs), counts, pending);
+            }
+            Move::AskAgain(counts) => {
+                let pending = Pending::Preamble(Message::Plain(self.command(counts.page)));
+                self.reply(self.state, counts, pending);
+            }
+            Move::Close(outcome, counts) => {
+                self.reply(
+                    State::Closing(outcome),
+                    counts,
+                    Pending::Preamble(Message::Plain(Plain::Dcn)),
+                );
+            }
+            Move::HangUp => {
+                self.reply(State::Idle, self.counts, Pending::Nothing);
+                self.outcome = Some(Outcome::HungUp);
+            }
+        }
+    }
+
+    /// A reply waits; T1 and T4 are clear.
+    fn reply(&mut self, state: State, counts: Counts, pending: Pending)
+        ensures { self.new ≡ record self.old { state = state; counts = counts; pending = pending; t1 = None; t4 = None } }
+    {
+        self.state = state;
+        self.counts = counts;
+        self.pending = pending;
+        self.t1.clear();
+        self.t4.clear();
+    }
+
+    /// Hears pieces, in the order of time.
+    pub fn hear_all(&mut self, pieces: &[Piece<'_>])
+        requires { IsFit self.old }
+        ensures fit { IsFit self.new }
+        ensures idle { self.old.state ≡ State.Idle → self.new ≡ self.old }
+        ensures same { (self.new.format ≡ self.old.format) × (self.new.pages ≡ self.old.pages) }
+        ensures text { (text : List ℕ) → HasText self.old.pending text → HasText self.new.pending text }
+        ensures heard { (writes : Writing) (job : JobValue) (core : Calling) (text : List ℕ) → Follows writes job core text self.old
+            → Follows writes job (came_all core (pieces_shown pieces.now)) text self.new }
+    {
+        for piece in pieces {
+            self.hear(piece);
+        }
+    }
+
+    /// Hears a piece: frames alone matter, and none while packets wait.
+    fn hear(&mut self, piece: &Piece<'_>)
+        requires { IsFit self.old }
+        ensures fit { IsFit self.new }
+        ensures text { (text : List ℕ) → HasText self.old.pending text → HasText self.new.pending text }
+        ensures idle { self.old.state ≡ State.Idle → self.new ≡ self.old }
+        ensures same { (self.new.format ≡ self.old.format) × (self.new.pages ≡ self.old.pages) }
+        ensures heard { (writes : Writing) (job : JobValue) (core : Calling) (text : List ℕ) → Follows writes job core text self.old
+            → Follows writes job (came core (piece_of piece.now)) text self.new }
+    {
+        let Piece::Frame(octets) = piece else {
+            return;
+        };
+        if self.is_waiting() {
+            return;
+        }
+        if let Some(frame) = Frame::read(octets.as_slice()) {
+            let decided = self.on_frame(&frame);
+            self.make(decided);
+        }
+    }
+
+    /// Whether a packet is given now: one waits, and the pace lets it through.
+    pub fn gives(&self, now: u64) -> bool
+        requires { IsFit self.now }
+        ensures gives { (writes : Writing) (job : JobValue) (core : Calling) (text : List ℕ) → Follows writes job core text self.now
+            → result ≡ gives_now core now }
+        ensures waits { IsTrue result → self.now.pending ≢ Pending.Nothing }
+    {
+        self.is_waiting() && self.pace.allows(now)
+    }
+
+    /// The timers act where no packet waits: T1 in Await DIS, T4 in Await CFR and Await MCF.
+    pub fn act(&mut self, now: u64)
+        requires { IsFit self.old }
+        ensures fit { IsFit self.new }
+        ensures waiting { self.old.pending ≢ Pending.Nothing → self.new ≡ self.old }
+        ensures idle { self.old.state ≡ State.Idle → self.new ≡ self.old }
+        ensures same { (self.new.format ≡ self.old.format) × (self.new.pages ≡ self.old.pages) }
+        ensures text { (text : List ℕ) → HasText self.old.pending text → HasText self.new.pending text }
+        ensures acted { (writes : Writing) (job : JobValue) (core : Calling) (text : List ℕ) → Follows writes job core text self.old
+            → Follows writes job (timed core now) text self.new }
+    {
+        if self.is_waiting() {
+            return;
+        }
+        let decided = self.on_timers(self.t1.due(now), self.t4.due(now));
+        self.make(decided);
+    }
+
+    /// The next packet is given, and what waits behind it is due, where this many octets were left of a text.
+    pub fn give(&mut self, left: usize, now: u64)
+        requires { IsFit self.old }
+        ensures fit { IsFit self.new }
+        ensures given { self.new ≡ given_by self.old left now }
+    {
+        self.pace.given(now);
+        self.pending = self.pending.behind(left);
+        if self.pending == Pending::Nothing {
+            self.finish_reply(now);
+        }
+    }
+
+    /// The last packet that waits is given: T4 is set in Await CFR and Await MCF, and a call that closes has ended.
+    fn finish_reply(&mut self, now: u64)
+        ensures { self.new ≡ record self.old {
+          state = state_when_given self.old.state;
+          t4 = t4_when_given self.old.state self.old.t4 now;
+          outcome = outcome_when_given self.old.state self.old.outcome;
+        } }
+    {
+        match self.state {
+            State::Idle | State::AwaitDis => {}
+            State::AwaitCfr(..) | State::AwaitMcf(..) => self.t4.set(now, T4_MS),
+            State::Closing(outcome) => {
+                self.state = State::Idle;
+                self.outcome = Some(outcome);
+            }
+        }
+    }
+}
