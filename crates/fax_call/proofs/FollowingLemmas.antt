@@ -1,7 +1,6 @@
 -- What a procedure does is what the core does that it stands for.
-use Rattle.std.proofs.Common.{◌≡◌, ℕ, zero, suc, ◌+◌, ◌-◌, ◌<◌, ◌≤◌, Bool, true, false, ◌&&◌, nat_le, List, [], ◌∷◌, length, take, drop, replicate, Option, Some, None, refl, sym, ◌∙◌, ap, subst, arith, if◌then◌else◌}
+use Rattle.std.proofs.Common.{◌≡◌, ℕ, zero, suc, ◌-◌, ◌<◌, Bool, true, false, ◌&&◌, nat_le, List, [], ◌∷◌, length, Option, Some, None, refl, sym, ◌∙◌, ap, arith, if◌then◌else◌}
 use Rattle.fax_runcodes.specs.declared.format.Format.{Format}
-use Rattle.fax_frames.specs.declared.dcs.Dcs.{Dcs}
 use Rattle.fax_frames.specs.declared.frame.Frame.{Frame}
 use Rattle.fax_frames.specs.Frames.{frame_of}
 use Rattle.fax_timers.specs.Moments.{is_due}
@@ -16,10 +15,10 @@ use Rattle.fax_call.specs.declared.procedure.Procedure.{Procedure}
 use Rattle.fax_call.specs.declared.state.State.{State}
 use Rattle.fax_call.specs.declared.state.State.TheVariants.{Idle, AwaitDis, AwaitCfr, AwaitMcf, Closing}
 use Rattle.fax_call.specs.Writings.{Writing}
-use Rattle.fax_call.specs.Replies.{Due, One, Part, waits, parts_of, check_length}
+use Rattle.fax_call.specs.Replies.{Due, waits, parts_of, check_length}
 use Rattle.fax_call.specs.Table.{Counts, Move, Stays, on_frame, on_timers}
-use Rattle.fax_call.specs.Calls.{Calling, moved, heard, came, timed}
-use Rattle.fax_call.specs.Kept.{counts_shown, waiting_of, check_behind, FitsPending}
+use Rattle.fax_call.specs.Calls.{Calling, moved, came, timed}
+use Rattle.fax_call.specs.Kept.{counts_shown, waiting_of, FitsPending}
 use Rattle.fax_call.specs.Following.{IsFit, Follows, gives_now}
 
 waits_if : (b : Bool) (d e : Due) (due : List Due) → waits (if b then d ∷ [] else e ∷ due) ≡ true

@@ -23,8 +23,8 @@ use Rattle.fax_call.specs.declared.state.State.{State}
 use Rattle.fax_call.specs.declared.state.State.TheVariants.{Idle}
 use Rattle.fax_call.specs.Writings.{Writing}
 use Rattle.fax_call.specs.Replies.{Packet, Tells, Part, written, Due, One, Text, waits, parts_of, part_length, check_length, training_check, frame_reply}
-use Rattle.fax_call.specs.Calls.{Calling, text_at, Taken, taken_text, taken, state_when_given, outcome_when_given, t4_when_given, after_giving, Ticked, given_first, paced, timed, ticked}
-use Rattle.fax_call.specs.Kept.{counts_shown, waiting_of, framed, training_behind, check_behind, check_part, text_part, packet_of, pending_behind, FitsPending}
+use Rattle.fax_call.specs.Calls.{Calling, text_at, Taken, taken, state_when_given, outcome_when_given, t4_when_given, after_giving, Ticked, given_first, paced, timed, ticked}
+use Rattle.fax_call.specs.Kept.{waiting_of, framed, training_behind, check_behind, packet_of, pending_behind, FitsPending}
 use Rattle.fax_call.specs.Following.{IsFit, IsLeft, Follows, IsMade, HasText, text_octets, text_behind, behind_packet, given_by, gives_now, GivesNext, IsJobOfCall}
 use Rattle.fax_call.specs.Reached.{Kept, IsReached, IsGiven}
 use Rattle.fax_call.proofs.FollowingLemmas.{pending_waits}

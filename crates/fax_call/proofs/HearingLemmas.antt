@@ -1,5 +1,5 @@
 -- Slots and pieces that come, one after another.
-use Rattle.std.proofs.Common.{◌≡◌, ℕ, zero, suc, ◌+◌, ◌<◌, Bool, false, List, [], ◌∷◌, ◌++◌, length, take, reverse, replicate, map, Option, Some, None, Result, Ok, Err, get_or, refl, sym, ◌∙◌, ap, subst, append_assoc}
+use Rattle.std.proofs.Common.{◌≡◌, ℕ, zero, suc, ◌+◌, ◌<◌, false, List, [], ◌∷◌, ◌++◌, length, take, reverse, replicate, map, Some, None, Result, Ok, Err, get_or, refl, sym, ◌∙◌, ap, subst, append_assoc}
 use Rattle.std.proofs.lemmas.List.{reverse-append, map-append, take_more}
 use Rattle.std.specs.Borrow.{Bor}
 use Rattle.std.specs.Result.{OnOk, is_err}

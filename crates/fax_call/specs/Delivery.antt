@@ -32,15 +32,15 @@ answered_before (Gave e ∷ marks) = answered_if (emitted_at (elements_given mar
 abbrev pub answered_images : List Mark → ℕ
 answered_images marks = good_one (replied marks) + answered_before marks
 
--- The last moment is that of 2^64 - 1 ms. A tick so near to it that a timer of more than the pace may be due before the
--- pace lets a packet go.
+-- A timer is never set beyond the last moment, 2^64 - 1 ms. A tick so near to it may find T4 due, and the pace since the
+-- command not yet over.
 abbrev pub AtTheLastMoment : List CallEvent → Type 0
 AtTheLastMoment [] = ⊥
 AtTheLastMoment (Comes piece ∷ before) = AtTheLastMoment before
 AtTheLastMoment (Ticks now ∷ before) = (2 ^ 64 ≤ now + pace) ⊎ AtTheLastMoment before
 
--- There alone a call that gives the last image up may have to wait with its DCN, and an answer that comes in that while is
--- not counted.
+-- There alone a call that gives its last image up may have to wait with the DCN, and an answer that comes in that while is
+-- not counted. (Else what is given closes the question in the tick in which T4 is due.)
 abbrev pub IsCutShort : Outcome → List CallEvent → Type 0
 IsCutShort outcome events = (outcome ≡ outcomes.NoReply) × AtTheLastMoment events
 

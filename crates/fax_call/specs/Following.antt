@@ -1,11 +1,10 @@
 -- What a procedure is in place of the core that it stands for. No law speaks of this module.
-use Rattle.std.specs.Prelude.{◌≡◌, ℕ, ◌<◌, Bool, ◌&&◌, List, length, drop, Option, Some}
+use Rattle.std.specs.Prelude.{◌≡◌, ℕ, ◌<◌, Bool, ◌&&◌, List, length, drop, Some}
 use Rattle.fax_timers.specs.Paces.{pace_allows}
 use Rattle.fax_jobs.specs.Jobs.{JobValue}
 use Rattle.fax_call.specs.declared.pending.Pending.{Pending}
 use Rattle.fax_call.specs.declared.pending.Pending.TheVariants as pendings
 use Rattle.fax_call.specs.declared.procedure.Procedure.{Procedure}
-use Rattle.fax_call.specs.declared.state.State.{State}
 use Rattle.fax_call.specs.declared.state.State.TheVariants.{Idle}
 use Rattle.fax_call.specs.Writings.{Writing}
 use Rattle.fax_call.specs.Replies.{Packet, waits, part_length}

@@ -1,5 +1,5 @@
 -- What is kept of a call, in place of the core that it stands for. No law speaks of this module.
-use Rattle.std.specs.Prelude.{◌≡◌, ℕ, ◌+◌, ◌-◌, ◌<◌, ◌≤◌, nat_le, true, false, List, [], ◌∷◌, length, take, drop, replicate, if◌then◌else◌}
+use Rattle.std.specs.Prelude.{◌≡◌, ℕ, ◌+◌, ◌-◌, ◌<◌, nat_le, true, false, List, [], ◌∷◌, length, take, replicate, if◌then◌else◌}
 use Rattle.fax_frames.specs.declared.dcs.Dcs.{Dcs}
 use Rattle.fax_frames.specs.declared.writing.Plain.{Plain}
 use Rattle.fax_frames.specs.declared.writing.Plain.TheVariants.{Mps, Eop, Dcn}
@@ -8,7 +8,6 @@ use Rattle.fax_frames.specs.Rates.{kind_of, training_of}
 use Rattle.fax_frames.specs.Written.{written_plain, written_dcs}
 use Rattle.fax_ifp.specs.declared.codes.Indicator.TheVariants.{Cng, V21Preamble}
 use Rattle.fax_ifp.specs.Codes.{indicator_code}
-use Rattle.fax_jobs.specs.Jobs.{JobValue}
 use Rattle.fax_call.specs.declared.counts.Counts as code_counts
 use Rattle.fax_call.specs.declared.pending.Message.{Message}
 use Rattle.fax_call.specs.declared.pending.Message.TheVariants as messages
@@ -18,11 +17,9 @@ use Rattle.fax_call.specs.declared.state.State.{State}
 use Rattle.fax_call.specs.declared.state.State.TheVariants.{Idle, AwaitDis, AwaitCfr, AwaitMcf}
 use Rattle.fax_call.specs.declared.table.Move as code_moves
 use Rattle.fax_call.specs.declared.table.Move.TheVariants as moves
-use Rattle.fax_call.specs.Writings.{Writing}
 use Rattle.fax_call.specs.Replies as replies
 use Rattle.fax_call.specs.Replies.{Packet, Signals, Tells, Part, Due, One, part_length, parts_of, check_length, training_check, calling_tone, frame_reply, is_last_page}
 use Rattle.fax_call.specs.Table.{Counts, Move, Stays, Trains, Sends, AsksAgain, Closes, HangsUp}
-use Rattle.fax_call.specs.Calls.{text_at}
 
 abbrev pub counts_shown : code_counts.Counts → Counts
 counts_shown c = record { page = c.page; step = c.step; tries = c.tries; refused = c.refused; delivered = c.delivered }

@@ -18,8 +18,10 @@ pub fn numbers_are_fixed()
     ensures { NumbersAreFixed }
 {}
 
-/// A call that is over has an outcome and a count of pages: those whose images were answered with MCF or RTP, one each,
-/// each emitted to its end before that answer; the outcome is Delivered exactly where they are all.
+/// A call that is over has an outcome and a count of pages: those whose images were answered with MCF or RTP until it was
+/// over, one each, each emitted to its end before that answer. No answer is passed over and asked for again; the outcome
+/// is Delivered exactly where they are all; and nothing is given behind the end. (A tick within 40 ms of the last moment,
+/// 2^64 - 1 ms, may find a timer due and the pace not yet over: an answer that comes in that while may be passed over.)
 pub fn tells_what_was_answered()
     ensures { TellsWhatWasAnswered }
 {}

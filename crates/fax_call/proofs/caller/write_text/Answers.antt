@@ -1,9 +1,9 @@
-use Rattle.std.proofs.Common.{◌≡◌, ℕ, ◌<◌, List, Some, length, slice_get, sym, ◌∙◌, ap, subst, get_or, refl}
+use Rattle.std.proofs.Common.{◌≡◌, ℕ, List, Some, length, slice_get, sym, ◌∙◌, subst, get_or, refl}
 use Rattle.std.proofs.lemmas.Option.{slice_get_read}
 use Rattle.fax_bits.specs.Laws.{AreOctets}
 use Rattle.fax_runcodes.specs.declared.format.Coding.{Coding}
 use Rattle.fax_pagestore.specs.Pages.{PageValue, IsPage}
-use Rattle.fax_frames.specs.Capabilities.{coding_of, least_bits_of}
+use Rattle.fax_frames.specs.Capabilities.{least_bits_of}
 use Rattle.fax_call.specs.Writings.{IsWrittenAs}
 use Rattle.fax_call.proofs.TextLemmas.{written_some, text_is}
 use Rattle.fax_call.proofs.caller.write_text.Goals as goal

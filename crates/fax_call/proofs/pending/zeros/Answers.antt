@@ -1,4 +1,4 @@
-use Rattle.std.proofs.Common.{◌≡◌, ℕ, ◌∙◌, ap, take, replicate}
+use Rattle.std.proofs.Common.{ℕ, ◌∙◌, ap, take, replicate}
 use Rattle.std.proofs.lemmas.List.{take-replicate}
 use Rattle.fax_call.proofs.pending.zeros.Goals as goal
 

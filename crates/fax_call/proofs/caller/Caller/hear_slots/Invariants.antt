@@ -1,4 +1,4 @@
-use Rattle.std.proofs.Common.{◌≡◌, ◌++◌, ℕ, List, Some, map}
+use Rattle.std.proofs.Common.{◌≡◌, ◌++◌, List, Some, map}
 use Rattle.fax_ifp.specs.Elements.{Slot}
 use Rattle.fax_ifp.specs.Tracked.{lost_slots}
 use Rattle.fax_udptl.specs.Reading.{texts}

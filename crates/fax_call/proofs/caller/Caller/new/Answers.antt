@@ -1,4 +1,3 @@
-use Rattle.std.proofs.Common.{◌≡◌, rules}
 use Rattle.fax_call.proofs.caller.Caller.new.Goals as goal
 
 pub returns-clause-reached : goal.returns-clause-reached

@@ -1,4 +1,4 @@
-use Rattle.std.proofs.Common.{◌≡◌, ℕ, List, sym, subst, rules}
+use Rattle.std.proofs.Common.{sym, subst}
 use Rattle.fax_call.specs.Reached.{Kept}
 use Rattle.fax_call.specs.Following.{Follows}
 use Rattle.fax_call.proofs.caller.Caller.start.Goals as goal

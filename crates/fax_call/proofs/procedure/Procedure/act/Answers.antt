@@ -1,4 +1,4 @@
-use Rattle.std.proofs.Common.{◌≡◌, ℕ, Bool, List, Option, sym, ◌∙◌, ap, subst, rules}
+use Rattle.std.proofs.Common.{◌≡◌, Bool, sym, ◌∙◌, ap, subst, rules}
 use Rattle.fax_call.specs.declared.pending.Pending.TheVariants.{Nothing}
 use Rattle.fax_timers.specs.Moments.{is_due}
 use Rattle.fax_call.specs.Calls.{Calling}

@@ -1,5 +1,4 @@
-use Rattle.std.proofs.Common.{◌≡◌, ◌<◌, sym, ◌∙◌, ap, subst, Ok, rules}
-use Rattle.fax_frames.specs.declared.dcs.Dcs.{Dcs}
+use Rattle.std.proofs.Common.{sym, ◌∙◌, rules}
 use Rattle.fax_call.proofs.KeptLemmas.{step_few}
 use Rattle.fax_call.proofs.procedure.Procedure.by_choice.Goals as goal
 

@@ -1,12 +1,9 @@
-use Rattle.std.proofs.Common.{◌≡◌, sym, ◌∙◌, ap, subst, Some, None, Option, rules}
-use Rattle.fax_frames.specs.declared.frame.Frame.{Frame}
-use Rattle.fax_frames.specs.Frames.{frame_of}
-use Rattle.fax_ifp.specs.Pieces as pieces
+use Rattle.std.proofs.Common.{◌≡◌, sym, ◌∙◌, ap, subst, rules}
 use Rattle.fax_ifp.specs.Shown.{piece_of}
 use Rattle.fax_call.specs.declared.pending.Pending.TheVariants.{Nothing}
 use Rattle.fax_call.specs.Calls.{Calling, came}
 use Rattle.fax_call.specs.Following.{Follows}
-use Rattle.fax_call.proofs.FollowingLemmas.{core_waits, passed_over, core_rests, nothing_heard, frame_heard}
+use Rattle.fax_call.proofs.FollowingLemmas.{core_waits, passed_over}
 use Rattle.fax_call.proofs.procedure.Procedure.hear.Goals as goal
 
 pub returns-then-is_waiting-clause-heard : goal.returns-then-is_waiting-clause-heard

@@ -1,4 +1,4 @@
-use Rattle.std.proofs.Common.{◌≡◌, ℕ, List, sym, ◌∙◌, ap, subst, take}
+use Rattle.std.proofs.Common.{ℕ, List, sym, ◌∙◌, ap, subst, take}
 use Rattle.fax_ifp.specs.Pieces.{Piece}
 use Rattle.fax_ifp.specs.Shown.{piece_of, pieces_shown}
 use Rattle.fax_call.specs.declared.procedure.Procedure.{Procedure}

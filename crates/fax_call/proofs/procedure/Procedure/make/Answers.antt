@@ -1,4 +1,4 @@
-use Rattle.std.proofs.Common.{◌≡◌, sym, subst, rules}
+use Rattle.std.proofs.Common.{sym, subst}
 use Rattle.fax_call.specs.declared.procedure.Procedure.{Procedure}
 use Rattle.fax_call.specs.declared.table.Move.{Move}
 use Rattle.fax_call.specs.Kept.{FitsMove}
