@@ -1,13 +1,12 @@
 -- The book cuts the confirmations of each call, whatever is sent and ends meanwhile.
 use Rattle.std.proofs.Common.{◌≡◌, ℕ, Bool, true, false, List, [], ◌∷◌, ◌++◌, Option, Some, None, refl, sym, ◌∙◌, ap, subst, append_assoc, if◌then◌else◌}
 use Rattle.std.proofs.lemmas.List.{append-nil}
-use Rattle.fax_pagestore.specs.Pages.{PageValue}
 use Rattle.fax_jobs.specs.declared.outcome.Outcome.{Outcome}
 use Rattle.fax_jobs.specs.declared.report.Report.{Report}
 use Rattle.fax_jobs.specs.Jobs.{JobValue}
-use Rattle.fax_jobs.specs.Books.{Book, job_of, longer, joined, behind, joins, takes_page, opened, added, closed, with_page, confirmed}
+use Rattle.fax_jobs.specs.Books.{Book, job_of, longer, joined, behind, joins, opened, added, closed, with_page, confirmed}
 use Rattle.fax_jobs.specs.Pasts.{Step, Confirms, CallEnds, Sends, Ends, Past, as_list, sent_if, ended_if, after_step, after_steps, jobs_of}
-use Rattle.fax_jobs.specs.Cuts.{Confirmation, IsCutOf, IsRest, IsCutSoFar, confirmations, AreInCall, AreBetweenCalls, IsCutSince, IsCutAtEnd, CutsEachCall, KeepsJobs}
+use Rattle.fax_jobs.specs.Cuts.{Confirmation, IsCutOf, IsRest, IsCutSoFar, confirmations, AreInCall, CutsEachCall, KeepsJobs}
 use Rattle.fax_jobs.proofs.CutLemmas.{UpTo, to_up, from_up, up_map, up_join, up_ends, up_more, EndsWith, first_page, further_page, other_job, stays_open, shut}
 
 -- a call so far: the jobs that were closed before it, those that are now, and the open one

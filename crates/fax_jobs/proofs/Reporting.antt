@@ -5,8 +5,8 @@ use Rattle.fax_pagestore.specs.Pages.{PageValue}
 use Rattle.fax_jobs.specs.declared.outcome.Outcome.{Outcome}
 use Rattle.fax_jobs.specs.declared.report.Report.{Report}
 use Rattle.fax_jobs.specs.Jobs.{JobValue}
-use Rattle.fax_jobs.specs.Books.{Book, joins, opened, added, closed, taken, with_page, confirmed, last_of, kept_reports, report_of}
-use Rattle.fax_jobs.specs.Pasts.{Step, Confirms, CallEnds, Sends, Ends, Past, new_past, sent_if, ended_if, after_steps, AreReported, HasReports, ReportsEachJob}
+use Rattle.fax_jobs.specs.Books.{Book, joins, opened, added, closed, with_page, last_of, kept_reports, report_of}
+use Rattle.fax_jobs.specs.Pasts.{Confirms, CallEnds, Sends, Ends, Past, new_past, sent_if, ended_if, after_steps, AreReported, HasReports, ReportsEachJob}
 
 one_more : (jobs : List JobValue) (reports : List Report) (job : JobValue) (outcome : Outcome) (delivered : ℕ) → AreReported jobs reports → AreReported (jobs ++ job ∷ []) (reports ++ report_of job outcome delivered ∷ [])
 one_more [] [] job outcome delivered a = (refl, refl, refl, tt)

@@ -4,7 +4,7 @@ use Rattle.fax_pagestore.specs.Pages.{PageValue}
 use Rattle.fax_jobs.specs.declared.outcome.Outcome.{Outcome}
 use Rattle.fax_jobs.specs.declared.report.Report.{Report}
 use Rattle.fax_jobs.specs.Jobs.{JobValue}
-use Rattle.fax_jobs.specs.Books.{Book, new_book, confirmed, closed, taken, ended, report_of, reported, last_of, kept_reports}
+use Rattle.fax_jobs.specs.Books.{Book, new_book, confirmed, closed, taken, ended, report_of, last_of, kept_reports}
 
 -- a step of the book: a page is confirmed, a call ends, the job that was closed first is sent, the job that is sent ends
 pub data Step : Type 0 where

@@ -34,6 +34,7 @@ impl<S: RowStore> Job<S> {
         ensures back { IfErr result (λ back. back ≡ page) }
     {
         let format = page.format();
+        // what it ensures of the page's rows makes this a job
         let _ = page.rows();
         let mut pages = Pages::from_vec(Vec::new(alloc));
         pages.push(page)?;
@@ -52,6 +53,7 @@ impl<S: RowStore> Job<S> {
         ensures back { IfErr result (λ back. back ≡ page) }
         ensures err { OnErr result (self.new ≡ self.old) }
     {
+        // what it ensures of the page's rows keeps this a job
         let _ = page.rows();
         self.pages.push(page)
     }

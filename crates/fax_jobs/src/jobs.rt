@@ -105,8 +105,8 @@ impl<S: RowStore> Jobs<S> {
     pub fn end_call(&mut self)
         ensures { self.new ≡ closed self.old }
     {
-        if let Some(job) = self.open_job.take() {
-            self.waiting.push_back_reserved(job);
+        if self.open_job.is_some() {
+            self.close();
         }
     }
 
@@ -115,7 +115,9 @@ impl<S: RowStore> Jobs<S> {
         requires { IsSome self.old.open_job }
         ensures { self.new ≡ closed self.old }
     {
-        self.end_call();
+        if let Some(job) = self.open_job.take() {
+            self.waiting.push_back_reserved(job);
+        }
     }
 
     /// Takes the job that was closed first as the one that is being sent, or none where none waits. It takes no memory,
