@@ -65,6 +65,7 @@ step_gives {S = S} core now confirmed acted procedure step n gives packet page =
       ends = n.ends;
     })
 
+-- where a packet is to be given, one is
 given_first_gives : (a : Answering) (now : ℕ) (ws : List Waiting) → is_waiting ws ≡ true → IsSome (given_first a now ws).given
 given_first_gives a now [] h = cc
 given_first_gives a now (w ∷ []) h = refl
