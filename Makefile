@@ -13,12 +13,15 @@ all:
 test:
 	$(RT) ci
 
-# Refuses each allocation of a run in turn, both ways and in both codings. It wants a C compiler, and a minute at most.
+# Refuses each allocation of a run in turn, both ways and in both codings, and each of a whole call of the answering
+# side. It wants a C compiler, and a minute at most behind the proofs of both crates.
 memory: all
 	tools/refuse-memory $(PROGRAM) samples/hello.hex page
 	tools/refuse-memory $(PROGRAM) samples/hello.runs page --back
 	tools/refuse-memory $(PROGRAM) samples/text-mr.hex page --coding mr
 	tools/refuse-memory $(PROGRAM) samples/text-mr.runs page --back --coding mr --fine --least 96
+	cd crates/fax_answer && $(RT) test > /dev/null
+	tools/refuse-test-memory crates/fax_answer/out/fax_answer_tests tests::memory::a_call_that_is_refused_memory
 
 # Times the codec beside libtiff and spandsp: see bench/README.md. It wants a C compiler and both libraries.
 KIT_C = $(dir $(shell $(RT) doc))c

@@ -1,6 +1,6 @@
 /* Refuses one allocation of a process: the one whose number, from 1, REFUSE gives. At the end of the
-   process it tells on file descriptor 9 how many allocations there were. For tools/refuse-memory only;
-   nothing of the product is C. */
+   process it tells on file descriptor 9 how many allocations there were. For tools/refuse-memory and
+   tools/refuse-test-memory only; nothing of the product is C. */
 #define _GNU_SOURCE
 #include <dlfcn.h>
 #include <stddef.h>

@@ -6,10 +6,10 @@ use Rattle.fax_frames.specs.Written.{written_plain}
 use Rattle.fax_pagestore.specs.Pages.{PageValue}
 use Rattle.fax_ifp.specs.Pieces.{Piece, Frame, Start, Octets, End, Gap}
 use Rattle.fax_ifp.specs.WrittenPackets.{written_behind}
-use Rattle.fax_answer.specs.declared.command.Command.TheVariants.{Mps, Eop}
+use Rattle.fax_answer.specs.declared.command.Command.TheVariants.{Eop}
 use Rattle.fax_answer.specs.Orders.{order_of}
-use Rattle.fax_answer.specs.Replies.{Waiting, silent, preamble, called_tone, frame_packet, mcf_packet}
-use Rattle.fax_answer.specs.Calls.{Answering, new_answering, rung, ticked, CallEvent, Comes, Ticks, after_events}
+use Rattle.fax_answer.specs.Replies.{Waiting, silent, preamble, frame_packet, mcf_packet}
+use Rattle.fax_answer.specs.Calls.{new_answering, rung, ticked, CallEvent, Comes, Ticks, after_events}
 
 -- a page that an image is read as
 page : PageValue

@@ -1,5 +1,5 @@
 -- What an answering side keeps stands for the core of its call.
-use Rattle.std.proofs.Common.{◌≡◌, ℕ, Bool, true, false, List, [], Option, Some, None, refl, sym, ◌∙◌, ap, subst, arith, if◌then◌else◌}
+use Rattle.std.proofs.Common.{◌≡◌, ℕ, Bool, true, false, ◌&&◌, List, [], ◌∷◌, Option, Some, None, IsSome, refl, sym, ◌∙◌, ap, subst, arith, if◌then◌else◌}
 use Rattle.fax_answer.specs.History.{Entry}
 use Rattle.fax_answer.specs.Images.{ImageValue}
 use Rattle.fax_ifp.specs.Elements.{Slot}
@@ -7,7 +7,8 @@ use Rattle.fax_answer.specs.declared.step.Step.{Step}
 use Rattle.fax_answer.specs.declared.pending.Pending.{Pending}
 use Rattle.fax_answer.specs.declared.pending.Pending.TheVariants.{Nothing, Tone, Preamble, Frame}
 use Rattle.fax_answer.specs.declared.procedure.Procedure.{Procedure}
-use Rattle.fax_answer.specs.Replies.{ConfirmedPage}
+use Rattle.fax_timers.specs.Paces.{pace_allows}
+use Rattle.fax_answer.specs.Replies.{ConfirmedPage, Waiting, is_waiting}
 use Rattle.fax_answer.specs.Calls.{Answering, Ticked, ticked, timed, given_first}
 use Rattle.fax_answer.specs.Pending.{packet_text}
 use Rattle.fax_answer.specs.Following.{Follows, GivesNext, gives_now, confirmed_left, confirmed_with}
@@ -63,6 +64,22 @@ step_gives {S = S} core now confirmed acted procedure step n gives packet page =
       confirmed = page ∙ sym (ap confirmed_in n.given);
       ends = n.ends;
     })
+
+-- where a packet is to be given, one is
+given_first_gives : (a : Answering) (now : ℕ) (ws : List Waiting) → is_waiting ws ≡ true → IsSome (given_first a now ws).given
+given_first_gives a now [] h = cc
+given_first_gives a now (w ∷ []) h = refl
+given_first_gives a now (w ∷ v ∷ ws) h = refl
+
+both_first : (b c : Bool) → (b && c) ≡ true → b ≡ true
+both_first true c h = refl
+both_first false c h = cc
+
+pub given_gives : (core : Answering) (now : ℕ) → gives_now (timed core now) now ≡ true → IsSome (ticked core now).given
+given_gives core now gives =
+    let a : Answering = timed core now in
+    subst (λ (t : Ticked). IsSome t.given) (sym (ticked_gives core now gives))
+    (given_first_gives a now a.waiting (both_first (is_waiting a.waiting) (pace_allows a.last now) gives))
 
 -- the page that is given with the last packet of a reply
 pub left_if : {S : Type 0} → (p : Pending) (is_given : Bool) (old new : Option S) (view : Option S → Option ConfirmedPage) → view None ≡ None → (is_given ≡ true → p ≡ Nothing) → (is_given ≡ false → p ≡ Nothing → ⊥)

@@ -1,5 +1,5 @@
 //! What the answering side makes of the slots that come.
-ghost use Rattle.std.specs.Prelude.{◌≡◌, ◌≢◌, ◌↔◌, List, None, IsTrue, IfOk, OnOk, OnErr, length, take, ◌&&◌, not, nat_le, is_some, if◌then◌else◌};
+ghost use Rattle.std.specs.Prelude.{◌≡◌, ◌≢◌, ◌↔◌, List, [], None, IsTrue, IsOk, IfOk, OnOk, OnErr, length, take, ◌&&◌, not, nat_le, is_some, if◌then◌else◌};
 ghost use Rattle.fax_ifp.specs.Elements.{Slot as SlotShown};
 ghost use Rattle.fax_ifp.specs.Pieces.{Frame as FrameShown, End as EndShown};
 ghost use Rattle.fax_ifp.specs.Shown.{piece_of, pieces_shown};
@@ -27,12 +27,14 @@ use fax_udptl::Decided;
 impl<S: RowStore> Answerer<S> {
     /// Takes the slots that a datagram decides, all of them or none: frames are answered, the octets of an image are kept,
     /// and at a command the one image before it is read as a page. It answers whether the call has ended. It takes memory
-    /// for the octets of images, for a page, and for packets of more than four fields. An `Err` changes nothing.
+    /// for the octets of images, for a page, and for packets of more than four fields, and none where no packet is
+    /// decided. An `Err` changes nothing.
     pub fn slots(&mut self, decided: &Decided<'_>, now: u64) -> Result<bool, NoMemory>
         ensures heard { OnOk result ((heard : List SlotShown) (core : Answering) → IsReached heard core self.old
             → Hears (slots_in decided.now) now heard core self.new) }
         ensures ended { IfOk result (λ ended. IsTrue ended ↔ (self.new.procedure.state ≡ State.Idle)) }
         ensures err { OnErr result (self.new ≡ self.old) }
+        ensures no_packet { decided.now.packets ≡ [] → IsOk result }
     {
         let signals = self.signals.copy();
         let procedure = self.procedure;
@@ -56,6 +58,7 @@ impl<S: RowStore> Answerer<S> {
             → HearsSo (slots_in decided.now) now heard core self.new) }
         ensures front { take (length self.old.image.octets) self.new.image.octets ≡ self.old.image.octets }
         ensures waits { self.old.procedure.pending ≢ Pending.Nothing → self.new.confirmed ≡ self.old.confirmed }
+        ensures no_packet { decided.now.packets ≡ [] → IsOk result }
     {
         self.lose(decided.lost(), now);
         let mut pieces = Pieces::new(self.alloc);

@@ -1,6 +1,7 @@
 //! Calls that are played: what comes, and what each tick gives.
 mod calls;
 mod hostile;
+mod memory;
 mod timing;
 
 use crate::{Answerer, State, Step};
@@ -118,6 +119,10 @@ struct Leg {
     now: u64,
     /// How many pages were confirmed.
     pages: u32,
+    /// How many calls were refused memory.
+    refused_calls: u32,
+    /// How many of the scripts' own texts were.
+    refused_texts: u32,
 }
 
 impl Leg {
@@ -130,6 +135,8 @@ impl Leg {
             rung: 0,
             now: 0,
             pages: 0,
+            refused_calls: 0,
+            refused_texts: 0,
         }
     }
 
@@ -153,7 +160,7 @@ impl Leg {
             Event::Comes(text) => self.expect_call(rt, text, false),
             Event::Ended(text) => self.expect_call(rt, text, true),
             Event::ZerosCome(head, zeros, tail) => {
-                let datagram = zeros_between(self.alloc, head, zeros, tail)?;
+                let datagram = self.text(head, zeros, tail)?;
                 let ended = self.take(datagram.as_slice())?;
                 assert_eq!(rt; ended, Some(false), "at {head}");
                 Ok(())
@@ -205,7 +212,10 @@ impl Leg {
         };
         let ended = match self.answerer.slots(&decided, self.now) {
             Ok(ended) => ended,
-            Err(NoMemory) => self.answerer.slots(&decided, self.now)?,
+            Err(NoMemory) => {
+                self.refused_calls = self.refused_calls.saturating_add(1);
+                self.answerer.slots(&decided, self.now)?
+            }
         };
         Ok(Some(ended))
     }
@@ -215,13 +225,27 @@ impl Leg {
         self.now = now;
         match self.answerer.tick(now) {
             Ok(step) => Ok(step),
-            Err(NoMemory) => self.answerer.tick(now),
+            Err(NoMemory) => {
+                self.refused_calls = self.refused_calls.saturating_add(1);
+                self.answerer.tick(now)
+            }
+        }
+    }
+
+    /// So many zero octets between those of two hex texts. Where memory is refused it is asked for again once.
+    fn text(&mut self, head: &str, zeros: u16, tail: &str) -> Result<Vec<u8>, AllocError> {
+        match zeros_between(self.alloc, head, zeros, tail) {
+            Ok(octets) => Ok(octets),
+            Err(_) => {
+                self.refused_texts = self.refused_texts.saturating_add(1);
+                zeros_between(self.alloc, head, zeros, tail)
+            }
         }
     }
 
     /// Fails unless a hex text is a datagram, behind which the call has ended or not.
     fn expect_call(&mut self, rt: &impl Abort, text: &str, is_ended: bool) -> Result<(), NoMemory> {
-        let datagram = octets_of(self.alloc, text)?;
+        let datagram = self.text(text, 0, "")?;
         let ended = self.take(datagram.as_slice())?;
         assert_eq!(rt; ended, Some(is_ended), "at {text}");
         assert_eq!(rt; self.answerer.state() == State::Idle, is_ended, "at {text}");
@@ -238,7 +262,7 @@ impl Leg {
         let step = self.tick(self.rung.saturating_add(moment))?;
         match told.packet {
             Some(text) => {
-                let wanted = octets_of(self.alloc, text)?;
+                let wanted = self.text(text, 0, "")?;
                 let given = step.packet.as_ref().map(Octets::as_slice);
                 assert_eq!(rt; given, Some(wanted.as_slice()), "at {moment}");
             }
@@ -287,26 +311,13 @@ fn expect_white_row(rt: &impl Abort, page: &Page<PlainRows>) {
     assert!(rt; rows.lend(0).changes().is_empty());
 }
 
-/// The octets that a hex text shows. Where memory is refused it is asked for again once.
+/// The octets that a hex text shows.
 fn octets_of(alloc: Global, text: &str) -> Result<Vec<u8>, AllocError> {
     zeros_between(alloc, text, 0, "")
 }
 
-/// So many zero octets between those of two hex texts. Where memory is refused it is asked for again once.
-fn zeros_between(alloc: Global, head: &str, zeros: u16, tail: &str) -> Result<Vec<u8>, AllocError> {
-    match put_zeros_between(alloc, head, zeros, tail) {
-        Ok(octets) => Ok(octets),
-        Err(_) => put_zeros_between(alloc, head, zeros, tail),
-    }
-}
-
 /// So many zero octets between those of two hex texts.
-fn put_zeros_between(
-    alloc: Global,
-    head: &str,
-    zeros: u16,
-    tail: &str,
-) -> Result<Vec<u8>, AllocError> {
+fn zeros_between(alloc: Global, head: &str, zeros: u16, tail: &str) -> Result<Vec<u8>, AllocError> {
     let mut octets = Vec::new(alloc);
     put_hex(&mut octets, head)?;
     for _ in 0..zeros {

@@ -1,11 +1,13 @@
-use Rattle.std.proofs.Common.{◌≡◌, ℕ, List, refl, sym, ◌∙◌, ap, subst, Bool, true, false, not, Option, Some, rules}
+use Rattle.std.proofs.Common.{◌≡◌, ℕ, List, refl, sym, ◌∙◌, ap, subst, Bool, true, false, not, Option, Some, Result, Ok, Err, rules}
+use Rattle.std.specs.Result.{OnErr}
 use Rattle.fax_answer.specs.declared.pending.Pending.TheVariants.{Nothing}
 use Rattle.fax_answer.specs.Replies.{ConfirmedPage}
-use Rattle.fax_answer.specs.Calls.{ticked, timed}
+use Rattle.fax_ifp.specs.Elements.{Slot}
+use Rattle.fax_answer.specs.Calls.{Answering, ticked, timed}
 use Rattle.fax_answer.specs.Following.{gives_now}
 use Rattle.fax_answer.specs.Reached.{Kept, IsReached}
 use Rattle.fax_answer.specs.Shown.{confirmed_shown}
-use Rattle.fax_answer.proofs.ReachedLemmas.{reached_rests, step_rests, reached_gives, step_gives, left_if, taken_if}
+use Rattle.fax_answer.proofs.ReachedLemmas.{reached_rests, step_rests, reached_gives, step_gives, given_gives, left_if, taken_if}
 use Rattle.fax_answer.proofs.answerer.Answerer.tick.Goals as goal
 
 not_true : (b : Bool) → not b ≡ true → b ≡ false
@@ -42,3 +44,16 @@ returns-clause-ticked g c heard core r =
       step_gives {S = g.row.S.Denot} core now (confirmed_shown {S = g.row.S.Denot} c.self.inside.confirmed) c.act.new.self c.give-ended.new.self
           (record { packet = Some c.in_ok-packet.packet; confirmed = c.take_if-confirmed.result; ended = c.give-ended.result }) next gives (ap (λ (octets : List ℕ). Some octets) c.in_ok-packet.ensures) taken,
     )
+
+on_err : {T E : Type 0} {P : Type 0} (r : Result T E) → P → OnErr r P
+on_err (Ok x) p = tt
+on_err (Err e) p = p
+
+pub returns-in_err-packet-clause-memory : goal.returns-in_err-packet-clause-memory
+returns-in_err-packet-clause-memory g c =
+    let now : ℕ = c.args.now in
+    let on : c.gives.result ≡ true = search rules in
+    on_err c.from_residual.result (λ (heard : List Slot) (core : Answering) (r : IsReached heard core c.args.self.now).
+    let s = subst (λ (k : Kept). IsReached heard core k) (sym c.self.view_is) r in
+    let acted = c.act.ensures.acted core _ s.stands.follows in
+    given_gives core now (sym (c.gives.ensures.gives (timed core now) _ acted) ∙ on))
