@@ -1,7 +1,7 @@
 -- The next packet, of a procedure and of the core that it stands for.
 use Rattle.std.proofs.Common.{◌≡◌, ℕ, zero, suc, ◌+◌, ◌-◌, ◌*◌, ◌/◌, ◌<◌, ◌≤◌, Bool, true, false, ◌&&◌, nat_le, List, [], ◌∷◌, length, take, drop, replicate, Option, Some, None, Result, Ok, Err, refl, sym, ◌∙◌, ap, subst, arith, length-drop, if◌then◌else◌}
-use Rattle.std.specs.Prelude.{option_map}
-use Rattle.std.specs.Result.{IfOk, OnOk}
+use Rattle.std.specs.Prelude.{option_map, IsSome}
+use Rattle.std.specs.Result.{IfOk, OnOk, OnErr}
 use Rattle.std.proofs.Math.Seq.{drop-drop}
 use Rattle.std.proofs.lemmas.List.{take-replicate, drop-replicate, length-replicate}
 use Rattle.fax_frames.specs.declared.dcs.Dcs.{Dcs}
@@ -165,6 +165,21 @@ gives_first writes job a now h = by a.waiting (pace_allows a.last now) h
     by [] false h = cc
     by (d ∷ due) true h = refl
     by (d ∷ due) false h = cc
+
+-- a packet is given where one waits and the pace allows
+given_some : (writes : Writing) (job : JobValue) (a : Calling) (now : ℕ) (due : List Due) (b : Bool) → waits due && b ≡ true → IsSome (given_first writes job a now due).given
+given_some writes job a now [] true h = cc
+given_some writes job a now [] false h = cc
+given_some writes job a now (d ∷ due) b h = refl
+
+pub given_gives : (writes : Writing) (job : JobValue) (core : Calling) (now : ℕ) → gives_now (timed core now) now ≡ true → IsSome (ticked writes job core now).given
+given_gives writes job core now h =
+    let a : Calling = timed core now in
+    subst (λ (t : Ticked). IsSome t.given) (sym (gives_first writes job a now h)) (given_some writes job a now a.waiting (pace_allows a.last now) h)
+
+pub on_err : {A E : Type 0} (r : Result A E) {P : Type 0} → P → OnErr r P
+on_err (Ok a) p = tt
+on_err (Err e) p = p
 
 -- what is left of a training check begins with a part
 check_begins : (dcs : Dcs) → training_check dcs ≡ check_behind dcs 0

@@ -1,5 +1,5 @@
 //! The calling side of a call.
-ghost use Rattle.std.specs.Prelude.{◌≡◌, ◌≢◌, ◌<◌, ◌≤◌, List, [], Ok, Some, None, IfOk, OnOk, OnErr, length, drop};
+ghost use Rattle.std.specs.Prelude.{◌≡◌, ◌≢◌, ◌<◌, ◌≤◌, List, [], Ok, Some, None, IsSome, IfOk, OnOk, OnErr, length, drop};
 ghost use Rattle.fax_bits.specs.Laws.{AreOctets};
 ghost use Rattle.fax_ifp.specs.Elements.{Slot as SlotShown};
 ghost use Rattle.fax_jobs.specs.Jobs.{JobValue};
@@ -107,6 +107,8 @@ impl Caller {
         ensures job { OnOk result (IsJobOfCall self.new.procedure job.now) }
         ensures idle { self.old.procedure.state ≡ State.Idle → (result ≡ Ok None) × (self.new ≡ self.old) }
         ensures err { OnErr result (self.new ≡ self.old) }
+        ensures memory { OnErr result ((writes : Writing) (heard : List SlotShown) (core : Calling) → IsReached writes job.now heard core self.old
+            → IsSome (ticked writes job.now core now).given) }
     {
         let mut procedure = self.procedure;
         procedure.act(now);

@@ -1,5 +1,5 @@
 //! What the calling side makes of the slots that come.
-ghost use Rattle.std.specs.Prelude.{◌≡◌, List, OnOk, OnErr};
+ghost use Rattle.std.specs.Prelude.{◌≡◌, List, [], IsOk, OnOk, OnErr};
 ghost use Rattle.fax_ifp.specs.Elements.{Slot as SlotShown};
 ghost use Rattle.fax_ifp.specs.Shown.{pieces_shown};
 ghost use Rattle.fax_ifp.specs.Tracked.{lost_slots};
@@ -17,12 +17,13 @@ use fax_udptl::Decided;
 
 impl Caller {
     /// Takes the slots that a datagram decides, all of them or none: frames are answered, where no packet waits. It takes
-    /// memory for packets of more than four fields. An `Err` changes nothing.
+    /// memory for packets of more than four fields, and none where no packet is decided. An `Err` changes nothing.
     pub fn slots(&mut self, decided: &Decided<'_>, _now: u64) -> Result<(), NoMemory>
         ensures heard { OnOk result ((writes : Writing) (job : JobValue) (heard : List SlotShown) (core : Calling)
             → IsReached writes job heard core self.old → Hears writes job (slots_in decided.now) heard core self.new) }
         ensures job { (job : JobValue) → IsJobOfCall self.old.procedure job → IsJobOfCall self.new.procedure job }
         ensures err { OnErr result (self.new ≡ self.old) }
+        ensures no_packet { decided.now.packets ≡ [] → IsOk result }
     {
         let signals = self.signals.copy();
         let procedure = self.procedure;
@@ -40,6 +41,7 @@ impl Caller {
             → IsReached writes job heard core self.old → Hears writes job (slots_in decided.now) heard core self.new) }
         ensures job { (job : JobValue) → IsJobOfCall self.old.procedure job → IsJobOfCall self.new.procedure job }
         ensures text { self.new.text ≡ self.old.text }
+        ensures no_packet { decided.now.packets ≡ [] → IsOk result }
     {
         self.lose(decided.lost());
         let mut pieces = Pieces::new(self.alloc);

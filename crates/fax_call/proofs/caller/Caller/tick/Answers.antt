@@ -5,11 +5,13 @@ use Rattle.fax_ifp.specs.Tracked.{Tracked, IsTracked}
 use Rattle.fax_call.specs.declared.pending.Pending.TheVariants.{Nothing, Image}
 use Rattle.fax_call.specs.declared.procedure.Procedure.{Procedure}
 use Rattle.fax_call.specs.declared.state.State.TheVariants.{Idle}
-use Rattle.fax_call.specs.Calls.{timed}
+use Rattle.fax_ifp.specs.Elements.{Slot}
+use Rattle.fax_call.specs.Writings.{Writing}
+use Rattle.fax_call.specs.Calls.{Calling, timed}
 use Rattle.fax_call.specs.Kept.{pending_behind}
 use Rattle.fax_call.specs.Following.{Follows, gives_now, IsJobOfCall}
 use Rattle.fax_call.specs.Reached.{Kept, IsReached}
-use Rattle.fax_call.proofs.GivingLemmas.{reached_rests, reached_gives, image_next, packet_next, if_given, on_given, job_kept}
+use Rattle.fax_call.proofs.GivingLemmas.{given_gives, on_err, reached_rests, reached_gives, image_next, packet_next, if_given, on_given, job_kept}
 use Rattle.fax_call.proofs.caller.Caller.tick.Goals as goal
 
 pub returns-then-not-gives-clause-ticked : goal.returns-then-not-gives-clause-ticked
@@ -68,4 +70,20 @@ returns-in_default g c =
           (c.act.ensures.same.1 ∙ ap (λ (k : Kept). k.procedure.pages) c.self.view_is) on_now c.requires));
       idle = λ e. absurd (on_now e);
       err = c.give_packet.ensures.err;
+      memory =
+          on_err c.give_packet.result
+          (λ (writes : Writing) (heard : List Slot) (core : Calling) (r : IsReached writes job heard core c.args.self.now).
+          let s = subst (λ (k : Kept). IsReached writes job heard core k) (sym c.self.view_is) r in
+          let acted = c.act.ensures.acted writes job core _ s.follows in
+          given_gives writes job core now (sym (c.gives.ensures.gives writes job (timed core now) _ acted) ∙ c.if-not-gives.false));
     }
+
+pub returns-in-Image-clause-memory : goal.returns-in-Image-clause-memory
+returns-in-Image-clause-memory g c =
+    let now : ℕ = c.args.now in
+    let job = c.args.job.now in
+    on_err c.begin_text.result
+    (λ (writes : Writing) (heard : List Slot) (core : Calling) (r : IsReached writes job heard core c.args.self.now).
+    let s = subst (λ (k : Kept). IsReached writes job heard core k) (sym c.self.view_is) r in
+    let acted = c.act.ensures.acted writes job core _ s.follows in
+    given_gives writes job core now (sym (c.gives.ensures.gives writes job (timed core now) _ acted) ∙ c.if-not-gives.false))
