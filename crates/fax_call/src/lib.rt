@@ -13,6 +13,8 @@ mod pending;
 mod procedure;
 mod state;
 mod table;
+#[cfg(test)]
+mod tests;
 mod text;
 
 pub use caller::Caller;
