@@ -4,6 +4,8 @@ use super::{
     PREAMBLE, SLOW, STANDARD, STARTED, TRAINED, WHITE, WHITE_PAGE, datagram_of, play,
 };
 use crate::{Outcome, State};
+use fax_bits::NoMemory;
+use std::alloc::Global;
 use std::process::Abort;
 use std::test::Fail;
 
@@ -56,30 +58,33 @@ fn nothing_comes_behind_a_page(rt: HostRuntime) -> Result<(), Fail> {
     Ok(())
 }
 
+/// Fails unless a call of two pages is over at once where DCN comes behind a script.
+fn expect_hang_up(
+    rt: &impl Abort,
+    alloc: Global,
+    script: &[&[Event<'_>]],
+    delivered: u32,
+) -> Result<(), NoMemory> {
+    let mut leg = Leg::new(rt, alloc, STANDARD, &[WHITE, BLACK])?;
+    leg.play(rt, script)?;
+    let datagram = datagram_of(alloc, leg.number, DCN_CAME)?;
+    leg.take(datagram.as_slice())?;
+    assert_eq!(rt; leg.caller.state(), State::Idle);
+    assert_eq!(rt; leg.caller.outcome(), Some(Outcome::HungUp));
+    assert_eq!(rt; leg.caller.delivered(), delivered);
+    leg.play(rt, &[&[Event::Quiet(40), Event::Quiet(40_000)]])
+}
+
 #[test]
 fn the_other_side_hangs_up(rt: HostRuntime) -> Result<(), Fail> {
-    let trained = [Event::Comes(DIS), Event::Trains(40, SLOW)];
-    let second = [Event::Comes(MCF)];
-    let scripts: [(&[&[Event<'_>]], u32); 3] = [
-        (&[STARTED], 0),
-        (&[STARTED, &trained], 0),
-        (
-            &[
-                STARTED, TRAINED, WHITE_PAGE, MPS_GIVEN, &second, BLACK_PAGE, EOP_GIVEN,
-            ],
-            1,
-        ),
+    let training = [Event::Comes(DIS), Event::Trains(40, SLOW)];
+    let confirmed = [Event::Comes(MCF)];
+    let second = [
+        STARTED, TRAINED, WHITE_PAGE, MPS_GIVEN, &confirmed, BLACK_PAGE, EOP_GIVEN,
     ];
-    for (script, delivered) in scripts {
-        let mut leg = Leg::new(&rt, rt.alloc(), STANDARD, &[WHITE, BLACK])?;
-        leg.play(&rt, script)?;
-        let datagram = datagram_of(rt.alloc(), leg.number, DCN_CAME)?;
-        leg.take(datagram.as_slice())?;
-        assert_eq!(rt; leg.caller.state(), State::Idle);
-        assert_eq!(rt; leg.caller.outcome(), Some(Outcome::HungUp));
-        assert_eq!(rt; leg.caller.delivered(), delivered);
-        leg.play(&rt, &[&[Event::Quiet(40), Event::Quiet(40_000)]])?;
-    }
+    expect_hang_up(&rt, rt.alloc(), &[STARTED], 0)?;
+    expect_hang_up(&rt, rt.alloc(), &[STARTED, &training], 0)?;
+    expect_hang_up(&rt, rt.alloc(), &second, 1)?;
     Ok(())
 }
 
