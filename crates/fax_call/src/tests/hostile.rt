@@ -10,11 +10,11 @@ use std::test::Fail;
 /// Packets that are no DIS.
 const NO_DIS: [&str; 11] = [
     "",
-    // not even a packet: an extension, another type, too many fields
+    // an extension, data of no known type, more than 127 fields
     "e0",
     "d200",
     "c080",
-    // a field is missing
+    // cut off in its fields
     "c00324",
     // one octet, another address, another control
     "c002800000ff40",
@@ -24,7 +24,7 @@ const NO_DIS: [&str; 11] = [
     "c002800005ffc80100400050",
     // too short
     "c002800004ffc801004040",
-    // the frame of a calling terminal
+    // a DCS
     "c002800005ffc8c100400040",
 ];
 
