@@ -12,7 +12,7 @@ use Rattle.fax_pagestore.specs.PageFaults.{FailsPage}
 use Rattle.fax_pagestore.specs.WrittenPages.{WritesPage}
 use Rattle.fax_c.specs.declared.outcome.Filled.{Filled}
 use Rattle.fax_c.specs.declared.outcome.Refusal.{Refusal}
-use Rattle.fax_c.specs.declared.outcome.Refusal.TheVariants.{Page, Room, Width, Runs}
+use Rattle.fax_c.specs.declared.outcome.Refusal.TheVariants.{Page, Room, Width, Runs, LeastBits}
 
 abbrev pub coding_by : Bool → Coding
 coding_by two_dimensional = if two_dimensional then Mr else Mh
@@ -26,19 +26,21 @@ AreRunsOf runs (row ∷ rows) = (first rest : List ℕ) × (runs ≡ first ++ re
 abbrev pub pixels_of : List Elements → List Bool
 pixels_of rows = flat_map (map pixel) rows
 
+-- the runs of the first rows need more than this room
+abbrev pub NeedsMore : List Elements → ℕ → Type 0
+NeedsMore rows room = (first more : List Elements) × (runs : List ℕ) × (rows ≡ first ++ more) × AreRunsOf runs first × (room < length runs)
+
 -- ---- rows put into a slice, which is told as it was and as it is
 
 abbrev pub FillsRuns : List Elements → List ℕ → List ℕ → Result Filled Refusal → Type 0
 FillsRuns rows old new (Ok filled) = AreRunsOf (take filled.items new) rows × (filled.rows ≡ length rows)
--- the runs of the first rows need more room
-FillsRuns rows old new (Err Room) = (first more : List Elements) × (runs : List ℕ)
-    × (rows ≡ first ++ more) × AreRunsOf runs first × (length old < length runs)
-FillsRuns rows old new (Err refusal) = refusal ≡ Page page.NoMemory
+FillsRuns rows old new (Err Room) = NeedsMore rows (length old)
+FillsRuns rows old new (Err refusal) = ⊥
 
 abbrev pub FillsPixels : List Elements → List ℕ → List ℕ → Result Filled Refusal → Type 0
 FillsPixels rows old new (Ok filled) = IsPadded (take filled.items new) (pixels_of rows) × (filled.rows ≡ length rows)
 FillsPixels rows old new (Err Room) = (packed : List ℕ) × IsPadded packed (pixels_of rows) × (length old < length packed)
-FillsPixels rows old new (Err refusal) = refusal ≡ Page page.NoMemory
+FillsPixels rows old new (Err refusal) = ⊥
 
 -- ---- reading
 
@@ -62,6 +64,10 @@ ReadsPixels width coding octets old new answer =
     ⊎ ((refusal : Refusal) × (answer ≡ Err refusal) × RefusesText width coding octets refusal)
 
 -- ---- writing
+
+-- the most that may be asked for as the least bits of a line
+abbrev pub most_least_bits : ℕ
+most_least_bits = 65535
 
 -- so many rows of the width stand in front, and this comes behind their runs
 pub record StandInFront (width : ℕ) (runs : List ℕ) (n : ℕ) (rest : List ℕ) : Type 0 where
@@ -87,7 +93,7 @@ abbrev pub RefusesRuns : ℕ → List ℕ → Refusal → Type 0
 RefusesRuns width runs (Page page.NoMemory) = Unit {0}
 RefusesRuns width runs (Page page.Empty) = runs ≡ []
 RefusesRuns width runs (Page page.TooManyRows) = (rest : List ℕ) × StandInFront width runs most_rows rest × (rest ≢ [])
-RefusesRuns width runs (Runs n) = (rest : List ℕ) × StandInFront width runs n rest
+RefusesRuns width runs (Runs n) = (n < most_rows) × (rest : List ℕ) × StandInFront width runs n rest
     × ((row : Elements) (first more : List ℕ) → length row ≡ width → AreRuns first row → rest ≡ first ++ more → ⊥)
 RefusesRuns width runs refusal = ⊥
 
@@ -96,4 +102,5 @@ WritesRuns width coding fine least runs old new (Ok filled) = AreWritten width c
 WritesRuns width coding fine least runs old new (Err Room) = (octets : List ℕ) × (n : ℕ)
     × AreWritten width coding fine least runs octets n × (length old < length octets)
 WritesRuns width coding fine least runs old new (Err Width) = IsWidth width → ⊥
+WritesRuns width coding fine least runs old new (Err LeastBits) = most_least_bits < least
 WritesRuns width coding fine least runs old new (Err refusal) = RefusesRuns width runs refusal

@@ -5,7 +5,7 @@ use Rattle.fax_pagestore.specs.declared.fault.PageFault.TheVariants as page
 use Rattle.fax_pagestore.specs.FaultNumbers.{page_fault_number}
 use Rattle.fax_c.specs.declared.outcome.Filled.{Filled}
 use Rattle.fax_c.specs.declared.outcome.Refusal.{Refusal}
-use Rattle.fax_c.specs.declared.outcome.Refusal.TheVariants.{Page, Room, Width, Runs}
+use Rattle.fax_c.specs.declared.outcome.Refusal.TheVariants.{Page, Room, Width, Runs, LeastBits}
 use Rattle.fax_c.specs.declared.outcome.Outcome.{Outcome}
 
 -- the line that cannot be read, and 0 where the fault names none
@@ -21,3 +21,4 @@ told (Err (Page fault)) = record { status = page_fault_number fault; rows = row_
 told (Err Room) = record { status = 7; rows = 0; filled = 0 }
 told (Err Width) = record { status = 8; rows = 0; filled = 0 }
 told (Err (Runs n)) = record { status = 9; rows = n; filled = 0 }
+told (Err LeastBits) = record { status = 10; rows = 0; filled = 0 }

@@ -6,11 +6,13 @@
 //! the calls to C.
 #![tactic(auto)]
 
-ghost use Rattle.std.specs.Prelude.{◌≡◌, Result};
+ghost use Rattle.std.specs.Prelude.{◌≡◌, ◌≢◌, ◌≤◌, ◌<◌, [], length, drop, Result, Err};
+ghost use Rattle.fax_runcodes.specs.Rows.{IsWidth};
+ghost use Rattle.fax_pagestore.specs.declared.fault.PageFault.TheVariants as page_faults;
 ghost use Rattle.fax_c.specs.declared.outcome.Filled.{Filled};
 ghost use Rattle.fax_c.specs.declared.outcome.Refusal.{Refusal};
 ghost use Rattle.fax_c.specs.Outcomes.{told};
-ghost use Rattle.fax_c.specs.Calls.{ReadsRuns, ReadsPixels, WritesRuns, coding_by};
+ghost use Rattle.fax_c.specs.Calls.{ReadsRuns, ReadsPixels, WritesRuns, coding_by, most_least_bits};
 
 mod outcome;
 mod page;
@@ -33,7 +35,12 @@ pub extern "C" fn fax_read_runs(
     two_dimensional: bool,
     runs: &mut [u16],
 ) -> Outcome
-    ensures { (answer : Result Filled Refusal) × ReadsRuns width (coding_by two_dimensional) octets.now runs.old runs.new answer × (result ≡ told answer) }
+    ensures page { (answer : Result Filled Refusal) × ReadsRuns width (coding_by two_dimensional) octets.now runs.old runs.new answer × (result ≡ told answer) }
+    ensures within { result.filled ≤ length runs.old }
+    ensures behind { drop result.filled runs.new ≡ drop result.filled runs.old }
+    ensures untouched { result.status ≢ 0 → runs.new ≡ runs.old }
+    ensures width_first { (IsWidth width → ⊥) → result ≡ told (Err Refusal.Width) }
+    ensures no_octets_next { IsWidth width → octets.now ≡ [] → result ≡ told (Err (Refusal.Page page_faults.NoEol)) }
 {
     Outcome::of(reading::read_runs(alloc, octets, width, two_dimensional, runs))
 }
@@ -48,7 +55,12 @@ pub extern "C" fn fax_read_pixels(
     two_dimensional: bool,
     pixels: &mut [u8],
 ) -> Outcome
-    ensures { (answer : Result Filled Refusal) × ReadsPixels width (coding_by two_dimensional) octets.now pixels.old pixels.new answer × (result ≡ told answer) }
+    ensures page { (answer : Result Filled Refusal) × ReadsPixels width (coding_by two_dimensional) octets.now pixels.old pixels.new answer × (result ≡ told answer) }
+    ensures within { result.filled ≤ length pixels.old }
+    ensures behind { drop result.filled pixels.new ≡ drop result.filled pixels.old }
+    ensures untouched { result.status ≢ 0 → pixels.new ≡ pixels.old }
+    ensures width_first { (IsWidth width → ⊥) → result ≡ told (Err Refusal.Width) }
+    ensures no_octets_next { IsWidth width → octets.now ≡ [] → result ≡ told (Err (Refusal.Page page_faults.NoEol)) }
 {
     Outcome::of(reading::read_pixels(alloc, octets, width, two_dimensional, pixels))
 }
@@ -65,7 +77,13 @@ pub extern "C" fn fax_write_runs(
     least_bits: u32,
     octets: &mut [u8],
 ) -> Outcome
-    ensures { (answer : Result Filled Refusal) × WritesRuns width (coding_by two_dimensional) fine least_bits runs.now octets.old octets.new answer × (result ≡ told answer) }
+    ensures page { (answer : Result Filled Refusal) × WritesRuns width (coding_by two_dimensional) fine least_bits runs.now octets.old octets.new answer × (result ≡ told answer) }
+    ensures within { result.filled ≤ length octets.old }
+    ensures behind { drop result.filled octets.new ≡ drop result.filled octets.old }
+    ensures untouched { result.status ≢ 0 → octets.new ≡ octets.old }
+    ensures width_first { (IsWidth width → ⊥) → result ≡ told (Err Refusal.Width) }
+    ensures least_bits_next { IsWidth width → most_least_bits < least_bits → result ≡ told (Err Refusal.LeastBits) }
+    ensures no_runs_next { IsWidth width → least_bits ≤ most_least_bits → runs.now ≡ [] → result ≡ told (Err (Refusal.Page page_faults.Empty)) }
 {
     Outcome::of(writing::write_runs(
         alloc,

@@ -11,11 +11,11 @@ use fax_pagestore::PageFault;
 pub struct Outcome {
     /// 0: done. 1 to 6: the number of the page's fault (no EOL, a line that cannot be read, no return to
     /// control, no line, too many rows, want of memory). 7: the slice has no room. 8: no width of a row.
-    /// 9: no run lengths of a row.
+    /// 9: no run lengths of a row. 10: the least bits of a line are more than 65,535.
     pub status: u32,
     /// How many rows; with status 2 or 9, how many stand before the one at fault.
     pub rows: u32,
-    /// How many elements of the slice were filled, from its start.
+    /// How many elements of the slice were filled, from its start: with a status other than 0, none.
     pub filled: usize,
 }
 
@@ -36,6 +36,8 @@ pub enum Refusal {
     Width,
     /// Behind so many rows come no run lengths of a row.
     Runs(u32),
+    /// The least bits of a line are more than 65,535.
+    LeastBits,
 }
 
 impl From<PageFault> for Refusal {
@@ -76,6 +78,7 @@ impl Outcome {
             Err(Refusal::Room) => Outcome::refused(7, 0),
             Err(Refusal::Width) => Outcome::refused(8, 0),
             Err(Refusal::Runs(rows)) => Outcome::refused(9, rows),
+            Err(Refusal::LeastBits) => Outcome::refused(10, 0),
         }
     }
 

@@ -1,12 +1,13 @@
 //! Pages read.
-ghost use Rattle.std.specs.Prelude.{◌≡◌, ◌++◌, ◌+◌, ◌≤◌, ◌<◌, List, [], ◌∷◌, ℕ, length, take, Ok, Err, IfSome, IfNone};
-ghost use Rattle.fax_bits.specs.Writing.{IsPadded};
-ghost use Rattle.fax_runcodes.specs.Rows.{Elements};
-ghost use Rattle.fax_c.specs.Calls.{ReadsRuns, ReadsPixels, AreRunsOf, FillsRuns, FillsPixels, coding_by, pixels_of};
+ghost use Rattle.std.specs.Prelude.{◌≡◌, ◌++◌, ◌+◌, ◌≤◌, ◌<◌, List, [], ◌∷◌, ℕ, length, take, drop, true, false, Ok, Err, IfOk, IfErr, OnErr, IfSome, IfNone, IsNone};
+ghost use Rattle.fax_runcodes.specs.Rows.{Elements, IsWidth, AreRuns};
+ghost use Rattle.fax_pagestore.specs.PageTexts.{MeansRows};
+ghost use Rattle.fax_c.specs.Calls.{ReadsRuns, ReadsPixels, RefusesText, AreRunsOf, NeedsMore, FillsRuns, FillsPixels, coding_by};
 
 use crate::page::{coding_of, width_of};
 use crate::{Filled, Refusal};
-use fax_pagestore::{Format, PackedRows, Page, RowStore, read_page};
+use fax_pagestore::{Format, PackedRows, Page, PageFault, RowStore, read_page};
+use fax_runcodes::RowRef;
 use std::alloc::Global;
 
 /// Reads a page, and puts its runs into a slice.
@@ -17,14 +18,15 @@ pub fn read_runs(
     two_dimensional: bool,
     runs: &mut [u16],
 ) -> Result<Filled, Refusal>
-    ensures { ReadsRuns width (coding_by two_dimensional) octets.now runs.old runs.new result }
+    ensures page { ReadsRuns width (coding_by two_dimensional) octets.now runs.old runs.new result }
+    ensures within { IfOk result (λ filled. filled.items ≤ length runs.old) }
+    ensures behind { IfOk result (λ filled. drop filled.items runs.new ≡ drop filled.items runs.old) }
+    ensures untouched { OnErr result (runs.new ≡ runs.old) }
+    ensures width_first { (IsWidth width → ⊥) → result ≡ Err Refusal.Width }
+    ensures no_octets_next { IsWidth width → octets.now ≡ [] → result ≡ Err (Refusal.Page PageFault.NoEol) }
 {
-    let format = Format {
-        width: width_of(width)?,
-        fine: false,
-    };
-    let page: Page<PackedRows> = read_page(alloc, octets, format, coding_of(two_dimensional))?;
-    fill_runs(page.rows(), runs)
+    let page = read_text(alloc, octets, width, two_dimensional)?;
+    fill_runs(&page, runs)
 }
 
 /// Reads a page, and puts its picture elements into a slice.
@@ -35,26 +37,55 @@ pub fn read_pixels(
     two_dimensional: bool,
     pixels: &mut [u8],
 ) -> Result<Filled, Refusal>
-    ensures { ReadsPixels width (coding_by two_dimensional) octets.now pixels.old pixels.new result }
+    ensures page { ReadsPixels width (coding_by two_dimensional) octets.now pixels.old pixels.new result }
+    ensures within { IfOk result (λ filled. filled.items ≤ length pixels.old) }
+    ensures behind { IfOk result (λ filled. drop filled.items pixels.new ≡ drop filled.items pixels.old) }
+    ensures untouched { OnErr result (pixels.new ≡ pixels.old) }
+    ensures width_first { (IsWidth width → ⊥) → result ≡ Err Refusal.Width }
+    ensures no_octets_next { IsWidth width → octets.now ≡ [] → result ≡ Err (Refusal.Page PageFault.NoEol) }
+{
+    let page = read_text(alloc, octets, width, two_dimensional)?;
+    fill_pixels(&page, pixels)
+}
+
+/// Reads a page. That the width is none, or that there are no octets, is told before memory is taken.
+fn read_text(
+    alloc: Global,
+    octets: &[u8],
+    width: u16,
+    two_dimensional: bool,
+) -> Result<Page<PackedRows>, Refusal>
+    ensures page { IfOk result (λ page. MeansRows width (coding_by two_dimensional) octets.now page.rows) }
+    ensures refusal { IfErr result (λ refusal. RefusesText width (coding_by two_dimensional) octets.now refusal) }
+    ensures width_first { (IsWidth width → ⊥) → result ≡ Err Refusal.Width }
+    ensures no_octets_next { IsWidth width → octets.now ≡ [] → result ≡ Err (Refusal.Page PageFault.NoEol) }
 {
     let format = Format {
         width: width_of(width)?,
         fine: false,
     };
-    let page: Page<PackedRows> = read_page(alloc, octets, format, coding_of(two_dimensional))?;
-    fill_pixels(page.rows(), pixels)
+    if octets.is_empty() {
+        return Err(Refusal::Page(PageFault::NoEol));
+    }
+    let page = read_page(alloc, octets, format, coding_of(two_dimensional))?;
+    Ok(page)
 }
 
-/// Puts the runs of rows into a slice.
-fn fill_runs<S: RowStore>(rows: &S, runs: &mut [u16]) -> Result<Filled, Refusal>
-    ensures { FillsRuns (S.rows rows.now) runs.old runs.new result }
+/// Puts the runs of a page into a slice.
+fn fill_runs<S: RowStore>(page: &Page<S>, runs: &mut [u16]) -> Result<Filled, Refusal>
+    ensures puts { FillsRuns page.now.rows runs.old runs.new result }
+    ensures within { IfOk result (λ filled. filled.items ≤ length runs.old) }
+    ensures behind { IfOk result (λ filled. drop filled.items runs.new ≡ drop filled.items runs.old) }
+    ensures untouched { OnErr result (runs.new ≡ runs.old) }
 {
+    let rows = page.rows();
+    if !have_room(rows, runs.len()) {
+        return Err(Refusal::Room);
+    }
     let mut filled = 0;
     for i in 0..rows.len() {
-        let Some(count) = rows.lend(i).put_runs(&mut runs[filled..]) else {
-            return Err(Refusal::Room);
-        };
-        filled += count;
+        let row = rows.lend(i);
+        filled = put_row(&row, count_runs(&row), runs, filled);
     }
     Ok(Filled {
         rows: rows.len(),
@@ -62,18 +93,62 @@ fn fill_runs<S: RowStore>(rows: &S, runs: &mut [u16]) -> Result<Filled, Refusal>
     })
 }
 
-/// Puts the picture elements of rows into a slice.
-fn fill_pixels<S: RowStore>(rows: &S, pixels: &mut [u8]) -> Result<Filled, Refusal>
-    ensures { FillsPixels (S.rows rows.now) pixels.old pixels.new result }
+/// Whether the runs of rows have room where there is so much.
+fn have_room<S: RowStore>(rows: &S, room: usize) -> bool
+    ensures room { result ≡ true → (list : List ℕ) × AreRunsOf list (S.rows rows.now) × (length list ≤ room) }
+    ensures none { result ≡ false → NeedsMore (S.rows rows.now) room }
 {
+    let mut left = room;
+    for i in 0..rows.len() {
+        let count = count_runs(&rows.lend(i));
+        if count > left {
+            return false;
+        }
+        left -= count;
+    }
+    true
+}
+
+/// How many runs a row has.
+fn count_runs(row: &RowRef<'_>) -> usize
+    ensures { (list : List ℕ) × AreRuns list row.now × (length list ≡ result) }
+{
+    row.changes().len() + 1
+}
+
+/// Puts the runs of a row, which are so many, into a slice, from a place on, and answers the place behind
+/// them.
+fn put_row(row: &RowRef<'_>, count: usize, runs: &mut [u16], from: usize) -> usize
+    requires some { 0 < length row.now }
+    requires counted { (list : List ℕ) × AreRuns list row.now × (length list ≡ count) }
+    requires room { from + count ≤ length runs.old }
+    ensures end { result ≡ from + count }
+    ensures within { result ≤ length runs.new }
+    ensures runs { (list : List ℕ) × AreRuns list row.now × (take result runs.new ≡ take from runs.old ++ list) }
+    ensures behind { drop result runs.new ≡ drop result runs.old }
+    ensures same_room { length runs.new ≡ length runs.old }
+{
+    let end = from + count;
+    row.put_runs(&mut runs[from..end]);
+    end
+}
+
+/// Puts the picture elements of a page into a slice.
+fn fill_pixels<S: RowStore>(page: &Page<S>, pixels: &mut [u8]) -> Result<Filled, Refusal>
+    ensures puts { FillsPixels page.now.rows pixels.old pixels.new result }
+    ensures within { IfOk result (λ filled. filled.items ≤ length pixels.old) }
+    ensures behind { IfOk result (λ filled. drop filled.items pixels.new ≡ drop filled.items pixels.old) }
+    ensures untouched { OnErr result (pixels.new ≡ pixels.old) }
+{
+    let rows = page.rows();
+    let octets = usize::from(page.format().width.elements() / 8);
+    if octets * rows.len() as usize > pixels.len() {
+        return Err(Refusal::Room);
+    }
     let mut filled = 0;
     for i in 0..rows.len() {
-        let row = rows.lend(i);
-        let octets = usize::from(row.width() / 8);
-        if octets > pixels.len() - filled {
-            return Err(Refusal::Room);
-        }
-        row.put_pixels(&mut pixels[filled..filled + octets]);
+        rows.lend(i)
+            .put_pixels(&mut pixels[filled..filled + octets]);
         filled += octets;
     }
     Ok(Filled {
@@ -88,6 +163,8 @@ pub fn put<T: Copy>(slice: &mut [T], from: usize, items: &[T]) -> Option<usize>
     ensures some { IfSome result (λ end. (end ≡ from + length items.now) × (take end slice.new ≡ take from slice.old ++ items.now)) }
     ensures within { IfSome result (λ end. end ≤ length slice.old) }
     ensures same_room { length slice.new ≡ length slice.old }
+    ensures behind { IfSome result (λ end. drop end slice.new ≡ drop end slice.old) }
+    ensures untouched { IsNone result → slice.new ≡ slice.old }
     ensures none { IfNone result (length slice.old < from + length items.now) }
 {
     let end = from.checked_add(items.len())?;

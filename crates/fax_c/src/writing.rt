@@ -1,9 +1,9 @@
 //! Pages written.
-ghost use Rattle.std.specs.Prelude.{◌≡◌, ◌≢◌, ◌++◌, ◌+◌, ◌≤◌, ◌<◌, List, [], ◌∷◌, ℕ, length, take, Ok, Err, IfOk, IfErr};
+ghost use Rattle.std.specs.Prelude.{◌≡◌, ◌≢◌, ◌++◌, ◌+◌, ◌≤◌, ◌<◌, List, [], ◌∷◌, ℕ, length, take, drop, Ok, Err, IfOk, IfErr, OnErr};
 ghost use Rattle.fax_pagestore.specs.PageRows.{AreRows};
-ghost use Rattle.fax_runcodes.specs.Rows.{Elements, AreRuns};
+ghost use Rattle.fax_runcodes.specs.Rows.{Elements, IsWidth, AreRuns};
 ghost use Rattle.fax_runcodes.specs.Widths.{elements_of};
-ghost use Rattle.fax_c.specs.Calls.{WritesRuns, RefusesRuns, AreRunsOf, coding_by};
+ghost use Rattle.fax_c.specs.Calls.{WritesRuns, RefusesRuns, AreRunsOf, coding_by, most_least_bits};
 
 use crate::page::{coding_of, width_of};
 use crate::reading::put;
@@ -15,6 +15,9 @@ use std::alloc::Global;
 /// The most rows of a page.
 const MOST_ROWS: u32 = 20_000;
 
+/// The most that may be asked for as the least bits of a line, as of the command.
+const MOST_LEAST_BITS: u32 = 65_535;
+
 /// Writes the page of these runs, and puts its text into a slice.
 pub fn write_runs(
     alloc: Global,
@@ -25,9 +28,18 @@ pub fn write_runs(
     least_bits: u32,
     octets: &mut [u8],
 ) -> Result<Filled, Refusal>
-    ensures { WritesRuns width (coding_by two_dimensional) fine least_bits runs.now octets.old octets.new result }
+    ensures page { WritesRuns width (coding_by two_dimensional) fine least_bits runs.now octets.old octets.new result }
+    ensures within { IfOk result (λ filled. filled.items ≤ length octets.old) }
+    ensures behind { IfOk result (λ filled. drop filled.items octets.new ≡ drop filled.items octets.old) }
+    ensures untouched { OnErr result (octets.new ≡ octets.old) }
+    ensures width_first { (IsWidth width → ⊥) → result ≡ Err Refusal.Width }
+    ensures least_bits_next { IsWidth width → most_least_bits < least_bits → result ≡ Err Refusal.LeastBits }
+    ensures no_runs_next { IsWidth width → least_bits ≤ most_least_bits → runs.now ≡ [] → result ≡ Err (Refusal.Page PageFault.Empty) }
 {
     let width = width_of(width)?;
+    if least_bits > MOST_LEAST_BITS {
+        return Err(Refusal::LeastBits);
+    }
     let rows: PackedRows = rows_of_runs(alloc, runs, width)?;
     let count = rows.len();
     let page = Page::new(Format { width, fine }, rows);
@@ -41,12 +53,16 @@ pub fn write_runs(
     })
 }
 
-/// The rows of a width whose runs these are.
+/// The rows of a width whose runs these are. That there are no runs is told before memory is taken.
 fn rows_of_runs<S: RowStore>(alloc: Global, runs: &[u16], width: Width) -> Result<S, Refusal>
     ensures rows { IfOk result (λ rows. AreRows (elements_of width) (S.rows rows)) }
     ensures runs { IfOk result (λ rows. AreRunsOf runs.now (S.rows rows)) }
     ensures refusal { IfErr result (λ refusal. RefusesRuns (elements_of width) runs.now refusal) }
+    ensures no_runs { runs.now ≡ [] → result ≡ Err (Refusal.Page PageFault.Empty) }
 {
+    if runs.is_empty() {
+        return Err(Refusal::Page(PageFault::Empty));
+    }
     let mut rows = S::empty(alloc);
     let mut builder = RowBuilder::new(alloc)?;
     let mut rest = runs;
@@ -60,9 +76,6 @@ fn rows_of_runs<S: RowStore>(alloc: Global, runs: &[u16], width: Width) -> Resul
         };
         rows.push_lent(&builder.lend())?;
         rest = &rest[count..];
-    }
-    if rows.len() == 0 {
-        return Err(Refusal::Page(PageFault::Empty));
     }
     Ok(rows)
 }

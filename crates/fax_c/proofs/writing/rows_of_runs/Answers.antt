@@ -10,6 +10,7 @@ pub returns-in_default-clause-refusal : goal.returns-in_default-clause-refusal
 returns-in_default-clause-refusal g c =
     let so_far = c.loop-rest.invariant in
     let rows = g.S.RowStore.rows c.loop-rest.rows in (
+      omega (arith, c.len-number.ensures),
       c.loop-rest.rest.now,
       record { rows = rows; front = so_far.front; runs_are = so_far.runs_are; are_runs = so_far.are_runs; so_many = sym c.len-number.ensures; of_width = so_far.each },
       c.in_default.ensures.none,
