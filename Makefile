@@ -27,9 +27,16 @@ memory: all
 
 # Times the codec beside libtiff and spandsp: see bench/README.md. It wants a C compiler and both libraries.
 KIT_C = $(dir $(shell $(RT) doc))c
-bench/bench: bench/bench.c bench/others.c bench/others.h bench/fax_c.h
-	cd crates/fax_c && $(RT) lib
-	$(CC) -O2 -Wall -Wextra -o $@ bench/bench.c bench/others.c crates/fax_c/out/libfax_c.a $(KIT_C)/liblibc_c.a -ltiff -lspandsp -lm
+FAX_C = crates/fax_c
+bench/bench: bench/bench.c bench/others.c bench/others.h $(FAX_C)/fax_c.h
+	cd $(FAX_C) && $(RT) lib
+	$(CC) -O2 -Wall -Wextra -I$(FAX_C) -o $@ bench/bench.c bench/others.c $(FAX_C)/out/libfax_c.a $(KIT_C)/liblibc_c.a -ltiff -lspandsp -lm
 
-bench: bench/bench
+# A small program in C over the library, which checks what it is told. It wants a C compiler, and no other library.
+bench/example: $(FAX_C)/example.c $(FAX_C)/fax_c.h
+	cd $(FAX_C) && $(RT) lib
+	$(CC) -O2 -Wall -Wextra -I$(FAX_C) -o $@ $(FAX_C)/example.c $(FAX_C)/out/libfax_c.a $(KIT_C)/liblibc_c.a
+
+bench: bench/example bench/bench
+	bench/example
 	bench/bench bench/pages

@@ -1,10 +1,7 @@
 -- Runs of rows, their sums, and picture elements.
 use Rattle.std.proofs.Common.{◌≡◌, ◌≢◌, ℕ, zero, suc, ◌+◌, ◌-◌, ◌*◌, ◌/◌, ◌≤◌, ◌<◌, Option, None, IfSome, IfNone, All, subst, List, [], ◌∷◌, ◌++◌, length, take, drop, map, Bool, refl, sym, ◌∙◌, ap, arith, inl, inr, slice_get, Some, add-one, append_assoc, append-nil, length-append, length-drop}
 use Rattle.std.proofs.Math.Nat.{mul-suc, mul-le-mul_left}
-use borrow.Rule.Slice.PartMut.{put_mid}
-use Rattle.std.proofs.Math.Seq.{take-append-add}
-use Rattle.std.proofs.lemmas.Slice.{take-put_mid}
-use Rattle.std.proofs.lemmas.List.{length-take-le, take-append-drop, take_all, length-map, drop-drop}
+use Rattle.std.proofs.lemmas.List.{length-take-le, take_all, length-map, drop-drop}
 use Rattle.std.proofs.lemmas.List.Elements.{All-head, All-tail}
 use Rattle.fax_bits.specs.Bits.{bits_of}
 use Rattle.fax_bits.proofs.BitsLemmas.{bits_of-nil}
@@ -13,7 +10,6 @@ use Rattle.fax_runcodes.specs.Painted.{painted, AreRising}
 use Rattle.fax_runcodes.proofs.RunsOfRow.{runs_between, runs_between_are_runs}
 use Rattle.fax_runcodes.proofs.RowLaws.{runs_one}
 use Rattle.fax_pagestore.specs.PageTexts.{IsFront, end_of_line}
-use Rattle.std.proofs.lemmas.List.Concat.{flat_map-append}
 use Rattle.fax_runcodes.specs.declared.Width.{Width}
 use Rattle.fax_runcodes.specs.declared.Width.TheVariants.{W1728, W2048, W2432}
 use Rattle.fax_runcodes.specs.declared.format.Coding.{Coding}
@@ -45,21 +41,6 @@ take_more_at (r ∷ rows) zero row found = let same : r ≡ row = cc in ap (λ x
 take_more_at (r ∷ rows) (suc i) row found =
     ap (λ n. take n (r ∷ rows)) (add-one (suc i)) ∙ ap (λ rest. r ∷ rest) (ap (λ n. take n rows) (sym (add-one i)) ∙ take_more_at rows i row found)
 
-take_of_take : (n m : ℕ) (xs : List ℕ) → n ≤ m → take n (take m xs) ≡ take n xs
-take_of_take zero m xs h = refl
-take_of_take (suc n) zero xs h = absurd (omega arith)
-take_of_take (suc n) (suc m) [] h = refl
-take_of_take (suc n) (suc m) (x ∷ xs) h = ap (λ (ys : List ℕ). x ∷ ys) (take_of_take n m xs (omega arith))
-
--- what stands before a part of a slice, and the front of the part
-pub take_part : (a k n : ℕ) (xs ys : List ℕ) → a ≤ length xs → n ≤ length ys → take (a + n) (put_mid a k xs ys) ≡ take a xs ++ take n ys
-take_part a k n xs ys within few =
-    let size : length (take a xs) ≡ a = length-take-le a xs within in
-    sym (take_of_take (a + n) (a + length ys) (put_mid a k xs ys) (omega arith))
-    ∙ ap (take (a + n)) (take-put_mid a k xs ys (a + length ys) refl within)
-    ∙ ap (λ (m : ℕ). take (m + n) (take a xs ++ ys)) (sym size)
-    ∙ take-append-add (take a xs) ys n
-
 -- the picture elements of one more row
 pub pixels_of-push : (rows : List Elements) (row : Elements) → pixels_of (rows ++ row ∷ []) ≡ pixels_of rows ++ map pixel row
 pixels_of-push [] row = append-nil (map pixel row)
@@ -75,14 +56,8 @@ RefusesText-page width coding octets page.NoRtc h = h (λ e. cc)
 RefusesText-page width coding octets page.Empty h = h (λ e. cc)
 RefusesText-page width coding octets page.TooManyRows h = h (λ e. cc)
 
--- rows have as many picture elements as their first ones, and more
-pub front_of_pixels : (rows : List Elements) (n : ℕ) → length (pixels_of (take n rows)) ≤ length (pixels_of rows)
-front_of_pixels rows n =
-    let parts : pixels_of rows ≡ pixels_of (take n rows) ++ pixels_of (drop n rows) = ap pixels_of (sym (take-append-drop n rows)) ∙ flat_map-append (map pixel) (take n rows) (drop n rows) in
-    omega (arith, simp length-append at (ap length parts))
-
 -- rows are as wide as whole octets
-pub whole_octets : (width : ℕ) → IsWidth width → 8 * (width / 8) ≡ width
+whole_octets : (width : ℕ) → IsWidth width → 8 * (width / 8) ≡ width
 whole_octets width (inl w) = omega arith
 whole_octets width (inr (inl w)) = omega arith
 whole_octets width (inr (inr w)) = omega arith
@@ -155,11 +130,6 @@ put_whole (Some count) old new list row some are size room h none =
     let same : length (take count new) ≡ length list = one_length (take count new) list row some h.0 are in
     let taken : length (take count new) ≡ count = length-take-le count new (omega (arith, h.1)) in
     subst (λ (xs : List ℕ). AreRuns xs row) (take_all count new (omega arith)) h.0
-
--- rows that have some run are some
-pub some_rows : (runs : List ℕ) (rows : List Elements) → AreRunsOf runs rows → runs ≢ [] → 0 < length rows
-some_rows runs [] are some = absurd (some are)
-some_rows runs (row ∷ rows) are some = omega arith
 
 -- ---- how many octets
 

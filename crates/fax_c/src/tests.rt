@@ -150,3 +150,45 @@ fn faults_have_their_numbers(rt: HostRuntime) {
         outcome(9, 0, 0)
     );
 }
+
+#[test]
+fn no_slice_is_changed_by_a_refusal(rt: HostRuntime) {
+    let mut runs = [7u16; 3];
+    assert_eq!(rt;
+        fax_read_runs(rt.alloc(), &TWO_ROWS, 1728, true, &mut runs),
+        outcome(7, 0, 0)
+    );
+    assert_eq!(rt; runs, [7, 7, 7]);
+    let mut pixels = [0x55u8; 431];
+    assert_eq!(rt;
+        fax_read_pixels(rt.alloc(), &TWO_ROWS, 1728, true, &mut pixels),
+        outcome(7, 0, 0)
+    );
+    for pixel in &pixels {
+        assert_eq!(rt; *pixel, 0x55);
+    }
+}
+
+#[test]
+fn refusals_come_in_order(rt: HostRuntime) {
+    assert_eq!(rt;
+        fax_read_runs(rt.alloc(), &[], 1729, false, &mut []),
+        outcome(8, 0, 0)
+    );
+    assert_eq!(rt;
+        fax_read_pixels(rt.alloc(), &[], 1728, false, &mut []),
+        outcome(1, 0, 0)
+    );
+    assert_eq!(rt;
+        fax_write_runs(rt.alloc(), &[], 1729, false, false, 65_536, &mut []),
+        outcome(8, 0, 0)
+    );
+    assert_eq!(rt;
+        fax_write_runs(rt.alloc(), &[], 1728, false, false, 65_536, &mut []),
+        outcome(10, 0, 0)
+    );
+    assert_eq!(rt;
+        fax_write_runs(rt.alloc(), &[], 1728, false, false, 65_535, &mut []),
+        outcome(4, 0, 0)
+    );
+}
