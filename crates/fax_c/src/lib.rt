@@ -2,7 +2,7 @@
 //! run lengths.
 //!
 //! Each call takes numbers and slices, stands on a call of `fax_pagestore`, and answers an [`Outcome`].
-//! Texts are those of ITU-T T.4, the most significant bit of an octet first. `bench/fax_c.h` declares
+//! Texts are those of ITU-T T.4, the most significant bit of an octet first. `fax_c.h`, beside this crate, declares
 //! the calls to C.
 #![tactic(auto)]
 
