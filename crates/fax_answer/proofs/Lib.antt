@@ -1,6 +1,6 @@
 mod AnswerLemmas
-mod Confirmations
-mod EachMcf
+pub mod Confirmations
+pub mod EachMcf
 mod Examples
 mod FollowingLemmas
 mod HearingLemmas
@@ -8,6 +8,6 @@ mod ImageLemmas
 mod Judging
 mod Neat
 mod ReachedLemmas
-mod Readings
-mod Rests
+pub mod Readings
+pub mod Rests
 mod SlotsLemmas

@@ -1,19 +1,19 @@
 mod Answered
-mod Emitted
+pub mod Emitted
 mod Examples
 mod FollowingLemmas
 mod GivingLemmas
 mod HearingLemmas
 mod KeptLemmas
-mod Lacking
-mod Numbered
+pub mod Lacking
+pub mod Numbered
 mod PacketsBack
 mod Paddings
 mod Paged
 mod Refusals
 mod Tally
 mod TextLemmas
-mod Texts
-mod Told
+pub mod Texts
+pub mod Told
 mod Unanswered
 mod Waiting

@@ -1,5 +1,5 @@
-mod CallCuts
+pub mod CallCuts
 mod CutLemmas
-mod OneCut
-mod Reporting
-mod TakenPages
+pub mod OneCut
+pub mod Reporting
+pub mod TakenPages

@@ -1,0 +1,52 @@
+-- A trace worked through on the definitions: a ring and four ticks, with all that a gateway answers. The newest event stands
+-- first.
+use Rattle.std.proofs.Common.{◌≡◌, ℕ, List, [], ◌∷◌, Option, Some, None, refl, ap}
+use Rattle.std.proofs.Common.{lit<}
+use Rattle.fax_bits.specs.Bits as bits
+use Rattle.fax_udptl.specs.Datagrams.{datagram_of, packet_at, packets_at, length_at, secondaries_at, written_length, written_packet, written_datagram}
+use Rattle.fax_ifp.specs.Elements.{Field}
+use Rattle.fax_ifp.specs.Packets as packets
+use Rattle.fax_ifp.specs.Packets.{packet_of, fields_at}
+use Rattle.fax_ifp.specs.WrittenPackets.{written_behind}
+use Rattle.fax_call.specs.Writings.{Writing, IsWriting}
+use Rattle.fax_call.proofs.Texts.{pages_have_texts}
+use Rattle.fax_gateway.specs.Events.{Event, Ring, Tick, Given}
+use Rattle.fax_gateway.specs.Traces.{IsTrace}
+use Rattle.fax_gateway.specs.Told.{elements_told}
+
+gives : Option (List ℕ) → Given
+gives on_calling = record { on_calling = on_calling; on_called = None; report = None }
+
+-- CED, the preamble behind it, and our DIS, each with the packets before it
+ced : List ℕ
+ced = 0x00 ∷ 0x00 ∷ 0x01 ∷ 0x04 ∷ 0x00 ∷ 0x00 ∷ []
+
+preamble : List ℕ
+preamble = 0x00 ∷ 0x01 ∷ 0x01 ∷ 0x06 ∷ 0x00 ∷ 0x01 ∷ 0x01 ∷ 0x04 ∷ []
+
+dis : List ℕ
+dis = 0x00 ∷ 0x02 ∷ 0x0C ∷ 0xC0 ∷ 0x02 ∷ 0x80 ∷ 0x00 ∷ 0x05 ∷ 0xFF ∷ 0xC8 ∷ 0x01 ∷ 0x00 ∷ 0x77 ∷ 0x5E ∷ 0x40 ∷ 0x00 ∷ 0x02 ∷ 0x01 ∷ 0x06 ∷ 0x01 ∷ 0x04 ∷ []
+
+rung : List Event
+rung = Ring 0 0 ∷ []
+
+identifies : List Event
+identifies = Tick 80 (gives (Some dis)) ∷ Tick 40 (gives (Some preamble)) ∷ Tick 20 (gives None) ∷ Tick 0 (gives (Some ced)) ∷ rung
+
+is_trace : (writes : Writing) → IsTrace writes identifies
+unfolding identifies rung ced preamble dis gives written_datagram written_packet written_length written_behind
+is_trace writes = (refl, (refl, (refl, (refl, ((refl, lit< tt, refl), tt)))))
+
+-- so the premises of the laws are met
+premises : (writes : Writing) × IsWriting writes × IsTrace writes identifies
+premises = (pages_have_texts.0, pages_have_texts.1, is_trace pages_have_texts.0)
+
+-- the DIS is read back from what was given
+tells_dis : elements_told (Some dis) ≡ Field 0 0 (0xFF ∷ 0xC8 ∷ 0x01 ∷ 0x00 ∷ 0x77 ∷ 0x5E ∷ []) ∷ Field 0 4 [] ∷ []
+unfolding dis datagram_of packet_at packets_at length_at secondaries_at packet_of fields_at bits.bit packets.fields_behind packets.field_at packets.octets_at
+tells_dis = refl
+
+-- a gateway that gives nothing has no trace behind a ring
+gives_nothing : (writes : Writing) → IsTrace writes (Tick 0 (gives None) ∷ rung) → ⊥
+unfolding rung gives
+gives_nothing writes t = let e = ap (λ (g : Given). g.on_calling) t.0 in cc

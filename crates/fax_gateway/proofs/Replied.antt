@@ -1,0 +1,187 @@
+-- What is given on the calling leg fits a datagram; a frame MCF is read back from it exactly where the MCF packet is given.
+use Rattle.std.proofs.Common.{◌≡◌, ℕ, ◌≤◌, ◌⊎◌, inl, inr, Bool, true, false, List, [], ◌∷◌, ◌++◌, length, Option, Some, None, Result, Ok, Err, refl, sym, ◌∙◌, ap, arith, if◌then◌else◌}
+use Rattle.fax_timers.specs.Moments.{is_due}
+use Rattle.fax_timers.specs.Paces.{pace_allows}
+use Rattle.fax_frames.specs.declared.writing.Plain.{Plain}
+use Rattle.fax_frames.specs.declared.writing.Plain.TheVariants as plain
+use Rattle.fax_frames.specs.Written.{written_plain}
+use Rattle.fax_udptl.specs.declared.fault.UdptlFault.{UdptlFault}
+use Rattle.fax_udptl.specs.Datagrams.{DatagramValue, datagram_of}
+use Rattle.fax_udptl.specs.Sending.{AreShort}
+use Rattle.fax_ifp.specs.Elements as elements
+use Rattle.fax_bits.specs.Bits as bits
+use Rattle.fax_ifp.specs.Packets as packets
+use Rattle.fax_ifp.specs.Packets.{packet_of, fields_at}
+use Rattle.fax_ifp.specs.Pieces as pieces
+use Rattle.fax_ifp.specs.WrittenPackets.{written_behind}
+use Rattle.fax_answer.specs.declared.state.State.{State}
+use Rattle.fax_answer.specs.declared.state.State.TheVariants.{Idle, Identify, Listen, Train, Page, Closing}
+use Rattle.fax_answer.specs.History.{Decision, PassesOver, Trains, HangsUp, GivesCfr, GivesFtt, GivesMcf, GivesRtn}
+use Rattle.fax_answer.specs.Table.{Reading, decision}
+use Rattle.fax_answer.specs.Replies.{ConfirmedPage, Waiting, silent, called_tone, preamble, frame_packet, mcf_packet, reply_to, plain_reply, is_waiting}
+use Rattle.fax_answer.specs.Calls.{Answering, rung, dis_reply, says_goodbye, identifies_again, timed_in, timed, Ticked, given_first, ticked, CallEvent, Comes, after_events}
+use Rattle.fax_answer.specs.Readings.{comes_all}
+use Rattle.fax_call.specs.Emission.{ended_frame}
+use Rattle.fax_gateway.specs.Events.{Event, Ring, FromCalling, FromCalled, Tick, clock}
+use Rattle.fax_gateway.specs.Legs.{new_pieces}
+use Rattle.fax_gateway.specs.CallingLegs.{CallingLeg, core_of, is_idle, answers, rung_leg, leg_with, packets_with, calling_after, calling_leg, told_by}
+use Rattle.fax_gateway.specs.Told.{has_mcf, gives_mcf}
+use Rattle.fax_gateway.proofs.Fitting.{told_back}
+
+abbrev pub mcf_in : List ℕ → Bool
+mcf_in packet = has_mcf [] (elements.elements_in (packet_of packet))
+
+pub record IsNeat (w : Waiting) : Type 0 where
+  pub short : length w.packet ≤ 16383
+  pub only : (mcf_in w.packet ≡ false) ⊎ (w.packet ≡ mcf_packet)
+
+abbrev pub AllNeat : List Waiting → Type 0
+AllNeat [] = Unit {0}
+AllNeat (w ∷ ws) = IsNeat w × AllNeat ws
+
+neat_both : (xs ys : List Waiting) → AllNeat xs → AllNeat ys → AllNeat (xs ++ ys)
+neat_both [] ys a b = b
+neat_both (x ∷ xs) ys a b = (a.0, neat_both xs ys a.1 b)
+
+tone_neat : IsNeat (silent called_tone)
+unfolding packet_of bits.bit packets.fields_behind
+tone_neat = record { short = omega arith; only = inl refl }
+
+preamble_neat : IsNeat (silent preamble)
+unfolding packet_of bits.bit packets.fields_behind
+preamble_neat = record { short = omega arith; only = inl refl }
+
+dis_neat : AllNeat dis_reply
+unfolding written_behind fields_at ended_frame packet_of bits.bit packets.fields_behind packets.field_at packets.octets_at
+dis_neat = (preamble_neat, (record { short = omega arith; only = inl refl }, tt))
+
+plain_only : (p : Plain) → (mcf_in (frame_packet (written_plain p false)) ≡ false) ⊎ (frame_packet (written_plain p false) ≡ mcf_packet)
+unfolding written_behind fields_at ended_frame packet_of bits.bit packets.fields_behind packets.field_at packets.octets_at
+plain_only plain.Cfr = inl refl
+plain_only plain.Ftt = inl refl
+plain_only plain.Mps = inl refl
+plain_only plain.Eop = inl refl
+plain_only plain.Mcf = inr refl
+plain_only plain.Rtn = inl refl
+plain_only plain.Dcn = inl refl
+
+plain_short : (p : Plain) → length (frame_packet (written_plain p false)) ≤ 16383
+unfolding written_behind
+plain_short p = omega arith
+
+plain_neat : (p : Plain) (confirmed : Option ConfirmedPage) → AllNeat (plain_reply p confirmed)
+plain_neat p confirmed = (preamble_neat, (record { short = plain_short p; only = plain_only p }, tt))
+
+reply_neat : (d : Decision) → AllNeat (reply_to d)
+reply_neat PassesOver = tt
+reply_neat (Trains dcs) = tt
+reply_neat HangsUp = tt
+reply_neat (GivesCfr dcs) = plain_neat plain.Cfr None
+reply_neat GivesFtt = plain_neat plain.Ftt None
+reply_neat (GivesMcf command page) = plain_neat plain.Mcf _
+reply_neat GivesRtn = plain_neat plain.Rtn None
+
+either : (b : Bool) (x y : Answering) → AllNeat x.waiting → AllNeat y.waiting → AllNeat (if b then x else y).waiting
+either true x y i j = i
+either false x y i j = j
+
+goodbye_neat : (a : Answering) → AllNeat (says_goodbye a).waiting
+goodbye_neat a = plain_neat plain.Dcn None
+
+timed_in_neat : (state : State) (a : Answering) (now : ℕ) → AllNeat a.waiting → AllNeat (timed_in state a now).waiting
+timed_in_neat Idle a now i = i
+timed_in_neat Closing a now i = i
+timed_in_neat Identify a now i =
+    either (is_due a.timers.t1 now) _ _ (goodbye_neat a) (either (is_due a.timers.t4 now) (identifies_again a) a dis_neat i)
+timed_in_neat Listen a now i = either (is_due a.timers.t2 now) _ _ (goodbye_neat a) i
+timed_in_neat (Train d) a now i = either (is_due a.timers.t2 now) _ _ (goodbye_neat a) i
+timed_in_neat (Page d) a now i = either (is_due a.timers.t2 now) _ _ (goodbye_neat a) i
+
+abbrev pub NeatGiven : Option Waiting → Type 0
+NeatGiven None = Unit {0}
+NeatGiven (Some w) = IsNeat w
+
+pub record NeatTick (t : Ticked) : Type 0 where
+  pub core : AllNeat t.core.waiting
+  pub given : NeatGiven t.given
+
+first_neat : (a : Answering) (now : ℕ) (ws : List Waiting) → AllNeat a.waiting → AllNeat ws → NeatTick (given_first a now ws)
+first_neat a now [] g h = record { core = g; given = tt }
+first_neat a now (w ∷ []) g h = record { core = tt; given = h.0 }
+first_neat a now (w ∷ v ∷ ws) g h = record { core = h.1; given = h.0 }
+
+tick_if : (b : Bool) (a : Answering) (t : Ticked) → AllNeat a.waiting → NeatTick t → NeatTick (if b then t else record { core = a; given = None; ended = false })
+tick_if true a t i k = k
+tick_if false a t i k = record { core = i; given = tt }
+
+pub ticked_neat : (a : Answering) (now : ℕ) → AllNeat a.waiting → NeatTick (ticked a now)
+ticked_neat a now h =
+    let b : Answering = timed a now in
+    let n : AllNeat b.waiting = either (is_waiting a.waiting) a (timed_in a.state a now) h (timed_in_neat a.state a now h) in
+    tick_if (pace_allows b.last now) b (given_first b now b.waiting) n (first_neat b now b.waiting n n)
+
+-- the calling leg
+pub record NeatLeg (l : CallingLeg) : Type 0 where
+  pub core : AllNeat (core_of l).waiting
+  pub short : AreShort l.given
+
+abbrev pub IfNeat : Option CallingLeg → Type 0
+IfNeat None = Unit {0}
+IfNeat (Some l) = NeatLeg l
+
+short_with : (o : Option Waiting) (given : List (List ℕ)) → NeatGiven o → AreShort given → AreShort (packets_with o given)
+short_with None given n s = s
+short_with (Some w) given n s = (n.short, s)
+
+comes_neat : (a : Answering) (ps : List pieces.Piece) (now : ℕ) (read : Reading) (events : List CallEvent) → AllNeat (after_events a events).waiting → AllNeat (after_events a (comes_all ps now read events)).waiting
+comes_neat a [] now read events h = h
+comes_neat a (p ∷ ps) now read events h =
+    let c : Answering = after_events a events in
+    comes_neat a ps now read (Comes p now read ∷ events) (neat_both c.waiting (reply_to (decision read c.state (is_waiting c.waiting) c.history p)) h (reply_neat _))
+
+rung_neat : (before : Answering) (now number : ℕ) → NeatLeg (rung_leg before now number)
+rung_neat before now number = record { core = (tone_neat, dis_neat); short = tt }
+
+with_neat : (l : CallingLeg) (now : ℕ) (read : Reading) (r : Result DatagramValue UdptlFault) → NeatLeg l → NeatLeg (leg_with l now read r)
+with_neat l now read (Err f) n = n
+with_neat l now read (Ok d) n = record { core = comes_neat (rung l.before l.begun) (new_pieces l.arrived d) now read l.events n.core; short = n.short }
+
+step_neat : (o : Option CallingLeg) (now : ℕ) (e : Event) → IfNeat o → IfNeat (calling_after o now e)
+step_neat None now (Ring at number) n = rung_neat _ now number
+step_neat None now (FromCalling octets at decided read) n = tt
+step_neat None now (FromCalled octets at decided) n = tt
+step_neat None now (Tick at given) n = tt
+step_neat (Some l) now (Ring at number) n = rung_neat (core_of l) now number
+step_neat (Some l) now (FromCalling octets at decided read) n = by (is_idle (core_of l).state)
+  where
+    by : (t : Bool) → IfNeat (if t then Some l else Some (leg_with l now read (datagram_of octets)))
+    by true = n
+    by false = with_neat l now read (datagram_of octets) n
+step_neat (Some l) now (FromCalled octets at decided) n = n
+step_neat (Some l) now (Tick at given) n =
+    let t : NeatTick (answers l now) = ticked_neat (core_of l) now n.core in
+    record { core = t.core; short = short_with (answers l now).given l.given t.given n.short }
+
+pub neat_of : (trace : List Event) → IfNeat (calling_leg trace)
+neat_of [] = tt
+neat_of (e ∷ earlier) = step_neat (calling_leg earlier) (clock (e ∷ earlier)) e (neat_of earlier)
+
+-- the packet of the frame MCF gives it
+is_mcf : mcf_in mcf_packet ≡ true
+unfolding written_behind fields_at ended_frame packet_of bits.bit packets.fields_behind packets.field_at packets.octets_at
+is_mcf = refl
+
+pub told_mcf : (given : List (List ℕ)) (o : Option Waiting) (w : Waiting) → AreShort given → NeatGiven o → o ≡ Some w → w.packet ≡ mcf_packet → gives_mcf (told_by given o) ≡ true
+told_mcf given None w s n is e = cc
+told_mcf given (Some v) w s n is e =
+    let same : v ≡ w = cc in
+    ap (has_mcf []) (told_back given v.packet s n.short) ∙ ap mcf_in (ap (λ (x : Waiting). x.packet) same ∙ e) ∙ is_mcf
+
+-- and no other packet does
+pub mcf_only : (given : List (List ℕ)) (o : Option Waiting) → AreShort given → NeatGiven o → gives_mcf (told_by given o) ≡ true → (w : Waiting) × (o ≡ Some w) × (w.packet ≡ mcf_packet)
+mcf_only given None s n h = cc
+mcf_only given (Some w) s n h = (w, refl, by n.only)
+  where
+    by : (mcf_in w.packet ≡ false) ⊎ (w.packet ≡ mcf_packet) → w.packet ≡ mcf_packet
+    by (inl f) = let q : true ≡ false = sym h ∙ (ap (has_mcf []) (told_back given w.packet s n.short) ∙ f) in cc
+    by (inr e) = e

@@ -1,0 +1,91 @@
+-- Both sides over one book. In a tick the calling leg is served first, with what the book hears of it; then, where no job
+-- is being sent, the one that was closed first is; then the called leg is served, and a call that is over is entered. So the
+-- next job starts one tick later. (This project's profile.)
+use Rattle.std.specs.Prelude.{ℕ, Bool, true, false, not, ◌&&◌, max, List, [], ◌∷◌, Option, Some, None, option_map, if◌then◌else◌}
+use Rattle.fax_jobs.specs.declared.outcome.Outcome.{Outcome}
+use Rattle.fax_jobs.specs.Jobs.{JobValue}
+use Rattle.fax_jobs.specs.Books.{Book}
+use Rattle.fax_jobs.specs.Pasts.{Step, Confirms, CallEnds, Sends, Ends, Past, new_past, after_steps}
+use Rattle.fax_answer.specs.declared.command.Command.{Command}
+use Rattle.fax_answer.specs.declared.command.Command.TheVariants.{Mps, Eop}
+use Rattle.fax_answer.specs.Replies.{ConfirmedPage}
+use Rattle.fax_call.specs.Writings.{Writing}
+use Rattle.fax_call.specs.Calls.{Calling}
+use Rattle.fax_gateway.specs.Events.{Event, Ring, FromCalling, FromCalled, Tick, clock}
+use Rattle.fax_gateway.specs.CallingLegs.{CallingLeg, calling_leg, idle_after, answers, confirmed_by}
+use Rattle.fax_gateway.specs.CalledLegs.{CalledLeg, is_free, core_left, begun_leg, leg_ticked, hears, outcome_told, delivered_told}
+
+-- the steps of the book, the newest first, and the called leg, none before the first job is sent
+pub record Sides : Type 0 where
+  pub steps : List Step
+  pub leg : Option CalledLeg
+
+abbrev pub past_of : Sides → Past
+past_of s = after_steps new_past s.steps
+
+abbrev pub book_of : Sides → Book
+book_of s = (past_of s).book
+
+-- what the book hears of the calling leg: pages that are confirmed, and calls that end
+abbrev pub closes : Command → Bool
+closes Eop = true
+closes Mps = false
+
+abbrev pub confirms_if : ℕ → Option ConfirmedPage → List Step → List Step
+confirms_if number None steps = steps
+confirms_if number (Some c) steps = Confirms number c.page (closes c.command) ∷ steps
+
+abbrev pub ends_if : Bool → List Step → List Step
+ends_if true steps = CallEnds ∷ steps
+ends_if false steps = steps
+
+abbrev pub heard_in_tick : Option CallingLeg → ℕ → List Step → List Step
+heard_in_tick None now steps = steps
+heard_in_tick (Some l) now steps =
+    ends_if (answers l now).ended (confirms_if l.number (confirmed_by (answers l now).given) steps)
+
+-- where no job is being sent, the one that was closed first is
+abbrev pub leg_of : Option JobValue → Calling → ℕ → Option CalledLeg → Option CalledLeg
+leg_of None before now leg = leg
+leg_of (Some job) before now leg = Some (begun_leg job before now)
+
+abbrev pub sends : Writing → ℕ → Sides → Sides
+sends writes now s =
+    let steps : List Step = Sends ∷ s.steps in
+    record { steps = steps; leg = leg_of (after_steps new_past steps).book.sending (core_left writes s.leg) now s.leg }
+
+abbrev pub sends_if : Writing → ℕ → Sides → Sides
+sends_if writes now s = if is_free s.leg then sends writes now s else s
+
+-- the called leg is served, and the end of its call is entered
+abbrev pub enters : ℕ → Option Outcome → List Step → List Step
+enters delivered None steps = steps
+enters delivered (Some outcome) steps = Ends outcome delivered ∷ steps
+
+abbrev pub serves : Writing → ℕ → Sides → Sides
+serves writes now s =
+    record {
+      steps = enters (delivered_told writes s.leg now) (outcome_told writes s.leg now) s.steps;
+      leg = option_map (leg_ticked writes now) s.leg;
+    }
+
+-- a tick as far as the called leg is served
+abbrev pub before_serving : Writing → Option CallingLeg → ℕ → Sides → Sides
+before_serving writes leg now s = sends_if writes now (record s { steps = heard_in_tick leg now s.steps })
+
+-- what an event does, where the calling leg is `old` before it and `new` behind it
+abbrev pub sides_after : Writing → Option CallingLeg → Option CallingLeg → ℕ → Event → Sides → Sides
+sides_after writes old new now (Ring at number) s = s
+sides_after writes old new now (FromCalling octets at decided read) s =
+    record s { steps = ends_if (not (idle_after old) && idle_after new) s.steps }
+sides_after writes old new now (FromCalled octets at decided) s = record s { leg = option_map (hears writes octets) s.leg }
+sides_after writes old new now (Tick at given) s = serves writes now (before_serving writes old now s)
+
+abbrev pub sides : Writing → List Event → Sides
+sides writes [] = record { steps = []; leg = None }
+sides writes (e ∷ earlier) =
+    sides_after writes (calling_leg earlier) (calling_leg (e ∷ earlier)) (clock (e ∷ earlier)) e (sides writes earlier)
+
+-- a tick behind a trace, as far as the called leg is served
+abbrev pub in_tick : Writing → List Event → ℕ → Sides
+in_tick writes earlier at = before_serving writes (calling_leg earlier) (max at (clock earlier)) (sides writes earlier)
