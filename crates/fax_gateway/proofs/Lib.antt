@@ -2,7 +2,10 @@ mod Confirmed
 mod Examples
 mod Fitting
 mod Forwarding
+mod Going
 mod Held
 mod InCalls
 mod LegsRead
+mod McfAnswers
 mod Replied
+mod ServedAlone

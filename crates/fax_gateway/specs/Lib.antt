@@ -1,7 +1,10 @@
+pub mod Alone
+pub mod Answers
 pub mod CalledLegs
 pub mod CallingLegs
 pub mod Events
 pub mod Forwards
+pub mod GoesOn
 pub mod Legs
 pub mod Sides
 pub mod Told

@@ -1,6 +1,9 @@
 //! Laws of the gateway: functions that do nothing, each of whose contracts is a theorem. Each is told of every trace: any
 //! rings, datagrams of both legs and ticks, with the answers of a gateway, from a new one on.
+ghost use Rattle.fax_gateway.specs.Alone.{IsServedAlone};
+ghost use Rattle.fax_gateway.specs.Answers.{EachMcfAnswers};
 ghost use Rattle.fax_gateway.specs.Forwards.{ForwardsWhatItConfirmed};
+ghost use Rattle.fax_gateway.specs.GoesOn.{LegsAreRead, TracesGoOn};
 
 /// Whatever comes: each image that a tick ends on the called leg is a page of the job that is being sent, under the DCS that
 /// was given before it, format included. That page was confirmed at an earlier tick: there the calling leg was given the
@@ -8,4 +11,26 @@ ghost use Rattle.fax_gateway.specs.Forwards.{ForwardsWhatItConfirmed};
 /// image of a job's call is page 0, the next page goes out only behind MCF or RTP, the same page again only behind RTN.
 pub fn forwards_what_it_confirmed()
     ensures { ForwardsWhatItConfirmed }
+{}
+
+/// Every trace goes on with a ring while no call is on, any octets on either leg and a tick, at any moment.
+pub fn traces_go_on()
+    ensures { TracesGoOn }
+{}
+
+/// In every trace the readings of the calling leg's call are right, so that the laws of the answering side hold of it.
+pub fn legs_are_read()
+    ensures { LegsAreRead }
+{}
+
+/// Each MCF that is given confirms a page, which the book has from that very tick on and once, or repeats the last answer,
+/// and then the book gets no page; and in a tick that gives no MCF it gets none.
+pub fn each_mcf_answers()
+    ensures { EachMcfAnswers }
+{}
+
+/// What is answered to rings and to datagrams of the calling leg, and what is given there, is fixed by these events and the
+/// ticks, whatever the called leg brings.
+pub fn calling_leg_is_served_alone()
+    ensures { IsServedAlone }
 {}

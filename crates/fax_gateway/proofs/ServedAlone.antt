@@ -1,0 +1,203 @@
+-- The calling leg is a function of its part of the trace.
+use Rattle.std.proofs.Common.{◌≡◌, ℕ, ◌+◌, Bool, true, List, [], ◌∷◌, Option, Some, None, refl, sym, ◌∙◌, ap, subst, inl, inr}
+use Rattle.fax_runcodes.specs.declared.Width.{Width}
+use Rattle.fax_runcodes.specs.declared.Width.TheVariants.{W1728, W2048, W2432}
+use Rattle.fax_runcodes.specs.declared.format.Format.{Format}
+use Rattle.fax_runcodes.specs.declared.format.Coding.{Coding}
+use Rattle.fax_runcodes.specs.Widths.{elements_of}
+use Rattle.fax_runcodes.specs.Rows.{Elements, IsWidth}
+use Rattle.fax_pagestore.specs.Pages.{PageValue}
+use Rattle.fax_pagestore.specs.PageTexts.{MeansPage}
+use Rattle.fax_pagestore.proofs.PageLaws.{pages_are_unique, pages_dont_fail}
+use Rattle.fax_frames.specs.Capabilities.{format_of, coding_of}
+use Rattle.fax_answer.specs.Table.{Reading, Question}
+use Rattle.fax_answer.specs.Confirmation.{IsRead}
+use Rattle.fax_call.specs.Writings.{Writing}
+use Rattle.fax_gateway.specs.Events.{Event, Ring, FromCalling, FromCalled, Tick, Given, clock, rings}
+use Rattle.fax_gateway.specs.CallingLegs.{CallingLeg, calling_leg, calling_after, decided_calling, told_calling, question}
+use Rattle.fax_gateway.specs.Traces.{IsTrace}
+use Rattle.fax_gateway.specs.Alone.{Heard, Rang, Came, Ticked, calling_part, CallingAnswer, Numbers, Decides, Gives, calling_answers, IsServedAlone}
+
+-- the part with how its images were read
+data Known : Type 0 where
+  RangAt : (now : ℕ) → Known
+  CameAt : (octets : List ℕ) → (now : ℕ) → (read : Reading) → Known
+  TickedAt : (now : ℕ) → Known
+
+abbrev known_with : Event → ℕ → List Known → List Known
+known_with (Ring at n) now part = RangAt now ∷ part
+known_with (FromCalling octets at decided read) now part = CameAt octets now read ∷ part
+known_with (FromCalled octets at decided) now part = part
+known_with (Tick at given) now part = TickedAt now ∷ part
+
+abbrev known_part : List Event → List Known
+known_part [] = []
+known_part (e ∷ earlier) = known_with e (clock (e ∷ earlier)) (known_part earlier)
+
+abbrev forget : List Known → List Heard
+forget [] = []
+forget (RangAt now ∷ part) = Rang now ∷ forget part
+forget (CameAt octets now read ∷ part) = Came octets now ∷ forget part
+forget (TickedAt now ∷ part) = Ticked now ∷ forget part
+
+forget_is : (trace : List Event) → forget (known_part trace) ≡ calling_part trace
+forget_is [] = refl
+forget_is (Ring at n ∷ earlier) = ap (λ (p : List Heard). Rang (clock (Ring at n ∷ earlier)) ∷ p) (forget_is earlier)
+forget_is (FromCalling octets at d read ∷ earlier) = ap (λ (p : List Heard). Came octets (clock (FromCalling octets at d read ∷ earlier)) ∷ p) (forget_is earlier)
+forget_is (FromCalled octets at d ∷ earlier) = forget_is earlier
+forget_is (Tick at g ∷ earlier) = ap (λ (p : List Heard). Ticked (clock (Tick at g ∷ earlier)) ∷ p) (forget_is earlier)
+
+-- rings are numbered by those before them
+abbrev rings_in : List Known → ℕ
+rings_in [] = 0
+rings_in (RangAt now ∷ part) = rings_in part + 1
+rings_in (CameAt octets now read ∷ part) = rings_in part
+rings_in (TickedAt now ∷ part) = rings_in part
+
+rings_are : (trace : List Event) → rings trace ≡ rings_in (known_part trace)
+rings_are [] = refl
+rings_are (Ring at n ∷ earlier) = ap (λ (k : ℕ). k + 1) (rings_are earlier)
+rings_are (FromCalling octets at d read ∷ earlier) = rings_are earlier
+rings_are (FromCalled octets at d ∷ earlier) = rings_are earlier
+rings_are (Tick at g ∷ earlier) = rings_are earlier
+
+-- the leg
+abbrev as_event : Known → ℕ → Event
+as_event (RangAt now) number = Ring now number
+as_event (CameAt octets now read) number = FromCalling octets now true read
+as_event (TickedAt now) number = Tick now (record { on_calling = None; on_called = None; report = None })
+
+abbrev moment : Known → ℕ
+moment (RangAt now) = now
+moment (CameAt octets now read) = now
+moment (TickedAt now) = now
+
+abbrev leg_of : List Known → Option CallingLeg
+leg_of [] = None
+leg_of (h ∷ part) = calling_after (leg_of part) (moment h) (as_event h (rings_in part))
+
+abbrev IfRings : Event → ℕ → Type 0
+IfRings (Ring at number) before = number ≡ before
+IfRings e before = Unit {0}
+
+if_rings : (writes : Writing) (e : Event) (earlier : List Event) → IsTrace writes (e ∷ earlier) → IfRings e (rings_in (known_part earlier))
+if_rings writes (Ring at n) earlier t = t.0.0 ∙ rings_are earlier
+if_rings writes (FromCalling octets at d read) earlier t = tt
+if_rings writes (FromCalled octets at d) earlier t = tt
+if_rings writes (Tick at g) earlier t = tt
+
+ring_is : (o : Option CallingLeg) (now at m n : ℕ) → m ≡ n → calling_after o now (Ring at m) ≡ calling_after o now (Ring now n)
+ring_is None now at m n e = ap (λ (k : ℕ). calling_after None now (Ring now k)) e
+ring_is (Some l) now at m n e = ap (λ (k : ℕ). calling_after (Some l) now (Ring now k)) e
+
+step_is : (o : Option CallingLeg) (part : List Known) (e : Event) (now : ℕ) → IfRings e (rings_in part) → o ≡ leg_of part → calling_after o now e ≡ leg_of (known_with e now part)
+step_is o part (Ring at n) now r h = ring_is o now at n (rings_in part) r ∙ ap (λ (o : Option CallingLeg). calling_after o now (Ring now (rings_in part))) h
+step_is None part (FromCalling octets at d read) now r h = ap (λ (o : Option CallingLeg). calling_after o now (FromCalling octets now true read)) h
+step_is (Some l) part (FromCalling octets at d read) now r h = ap (λ (o : Option CallingLeg). calling_after o now (FromCalling octets now true read)) h
+step_is None part (FromCalled octets at d) now r h = h
+step_is (Some l) part (FromCalled octets at d) now r h = h
+step_is None part (Tick at g) now r h = ap (λ (o : Option CallingLeg). calling_after o now (Tick now (record { on_calling = None; on_called = None; report = None }))) h
+step_is (Some l) part (Tick at g) now r h = ap (λ (o : Option CallingLeg). calling_after o now (Tick now (record { on_calling = None; on_called = None; report = None }))) h
+
+leg_is : (writes : Writing) (trace : List Event) → IsTrace writes trace → calling_leg trace ≡ leg_of (known_part trace)
+leg_is writes [] t = refl
+leg_is writes (e ∷ earlier) t = step_is (calling_leg earlier) (known_part earlier) e (clock (e ∷ earlier)) (if_rings writes e earlier t) (leg_is writes earlier t.1)
+
+-- the readings are fixed by the rest
+abbrev AreKnown : List Known → Type 0
+AreKnown [] = Unit {0}
+AreKnown (RangAt now ∷ part) = AreKnown part
+AreKnown (CameAt octets now read ∷ part) = IsRead (question (leg_of part) now octets) read × AreKnown part
+AreKnown (TickedAt now ∷ part) = AreKnown part
+
+are_known : (writes : Writing) (trace : List Event) → IsTrace writes trace → AreKnown (known_part trace)
+are_known writes [] t = tt
+are_known writes (Ring at n ∷ earlier) t = are_known writes earlier t.1
+are_known writes (FromCalling octets at d read ∷ earlier) t =
+    (subst (λ (o : Option CallingLeg). IsRead (question o (clock (FromCalling octets at d read ∷ earlier)) octets) read) (leg_is writes earlier t.1) t.0.1, are_known writes earlier t.1)
+are_known writes (FromCalled octets at d ∷ earlier) t = are_known writes earlier t.1
+are_known writes (Tick at g ∷ earlier) t = are_known writes earlier t.1
+
+is_width : (width : Width) → IsWidth (elements_of width)
+is_width W1728 = inl refl
+is_width W2048 = inr (inl refl)
+is_width W2432 = inr (inr refl)
+
+page_as : (page : PageValue) (format : Format) → page.format ≡ format → page ≡ record { format = format; rows = page.rows }
+page_as page format e = ap (λ (f : Format). let p : PageValue = record { format = f; rows = page.rows } in p) e
+
+same_page : (format : Format) (coding : Coding) (octets : List ℕ) (p v : PageValue) → MeansPage format coding octets p → MeansPage format coding octets v → p ≡ v
+same_page format coding octets p v a b =
+    let rows : p.rows ≡ v.rows = pages_are_unique (elements_of format.width) coding octets p.rows v.rows (is_width format.width) a.1 b.1 in
+    page_as p format a.0 ∙ ap (λ (rs : List Elements). let q : PageValue = record { format = format; rows = rs } in q) rows ∙ sym (page_as v format b.0)
+
+same_read : (q : Option Question) (r s : Reading) → IsRead q r → IsRead q s → r ≡ s
+same_read None r s a b = a ∙ sym b
+same_read (Some q) None None a b = refl
+same_read (Some q) None (Some p) a b = absurd (pages_dont_fail _ _ q.octets p.rows a.0 (is_width (format_of q.dcs).width) b.1 a.1)
+same_read (Some q) (Some p) None a b = absurd (pages_dont_fail _ _ q.octets p.rows b.0 (is_width (format_of q.dcs).width) a.1 b.1)
+same_read (Some q) (Some p) (Some v) a b = ap (λ (x : PageValue). let r : Reading = Some x in r) (same_page (format_of q.dcs) (coding_of q.dcs) q.octets p v a b)
+
+same_known : (xs ys : List Known) → AreKnown xs → AreKnown ys → forget xs ≡ forget ys → xs ≡ ys
+same_known [] [] a b h = refl
+same_known [] (RangAt n ∷ ys) a b h = cc
+same_known [] (TickedAt n ∷ ys) a b h = cc
+same_known [] (CameAt us n s ∷ ys) a b h = cc
+same_known (RangAt m ∷ xs) [] a b h = cc
+same_known (TickedAt m ∷ xs) [] a b h = cc
+same_known (CameAt os m r ∷ xs) [] a b h = cc
+same_known (RangAt m ∷ xs) (RangAt n ∷ ys) a b h =
+    let e : m ≡ n = cc in
+    let k : forget xs ≡ forget ys = cc in
+    ap (λ (x : ℕ). RangAt x ∷ xs) e ∙ ap (λ (p : List Known). RangAt n ∷ p) (same_known xs ys a b k)
+same_known (TickedAt m ∷ xs) (TickedAt n ∷ ys) a b h =
+    let e : m ≡ n = cc in
+    let k : forget xs ≡ forget ys = cc in
+    ap (λ (x : ℕ). TickedAt x ∷ xs) e ∙ ap (λ (p : List Known). TickedAt n ∷ p) (same_known xs ys a b k)
+same_known (CameAt os m r ∷ xs) (CameAt us n s ∷ ys) a b h =
+    let e : m ≡ n = cc in
+    let f : os ≡ us = cc in
+    let k : forget xs ≡ forget ys = cc in
+    let p : xs ≡ ys = same_known xs ys a.1 b.1 k in
+    let moved : IsRead (question (leg_of ys) n us) r =
+    subst (λ (part : List Known). IsRead (question (leg_of part) n us) r) p
+    (subst (λ (x : ℕ). IsRead (question (leg_of xs) x us) r) e (subst (λ (x : List ℕ). IsRead (question (leg_of xs) m x) r) f a.0)) in
+    ap (λ (x : List ℕ). CameAt x m r ∷ xs) f ∙ ap (λ (x : ℕ). CameAt us x r ∷ xs) e
+    ∙ ap (λ (x : Reading). CameAt us n x ∷ xs) (same_read (question (leg_of ys) n us) r s moved b.0)
+    ∙ ap (λ (part : List Known). CameAt us n s ∷ part) p
+same_known (RangAt m ∷ xs) (TickedAt n ∷ ys) a b h = cc
+same_known (RangAt m ∷ xs) (CameAt us n s ∷ ys) a b h = cc
+same_known (TickedAt m ∷ xs) (RangAt n ∷ ys) a b h = cc
+same_known (TickedAt m ∷ xs) (CameAt us n s ∷ ys) a b h = cc
+same_known (CameAt os m r ∷ xs) (RangAt n ∷ ys) a b h = cc
+same_known (CameAt os m r ∷ xs) (TickedAt n ∷ ys) a b h = cc
+
+-- the answers on the calling leg are those that its part asks for
+abbrev answer_to : Option CallingLeg → ℕ → Known → CallingAnswer
+answer_to o number (RangAt now) = Numbers number
+answer_to o number (CameAt octets now read) = Decides (decided_calling o octets)
+answer_to o number (TickedAt now) = Gives (told_calling o now)
+
+abbrev answers_to : List Known → List CallingAnswer
+answers_to [] = []
+answers_to (h ∷ part) = answer_to (leg_of part) (rings_in part) h ∷ answers_to part
+
+answers_are : (writes : Writing) (trace : List Event) → IsTrace writes trace → calling_answers trace ≡ answers_to (known_part trace)
+answers_are writes [] t = refl
+answers_are writes (Ring at n ∷ earlier) t =
+    ap (λ (k : ℕ). Numbers k ∷ calling_answers earlier) (t.0.0 ∙ rings_are earlier) ∙ ap (λ (xs : List CallingAnswer). Numbers (rings_in (known_part earlier)) ∷ xs) (answers_are writes earlier t.1)
+answers_are writes (FromCalling octets at d read ∷ earlier) t =
+    ap (λ (x : Bool). Decides x ∷ calling_answers earlier) (t.0.0 ∙ ap (λ (o : Option CallingLeg). decided_calling o octets) (leg_is writes earlier t.1))
+    ∙ ap (λ (xs : List CallingAnswer). Decides (decided_calling (leg_of (known_part earlier)) octets) ∷ xs) (answers_are writes earlier t.1)
+answers_are writes (FromCalled octets at d ∷ earlier) t = answers_are writes earlier t.1
+answers_are writes (Tick at g ∷ earlier) t =
+    let now : ℕ = clock (Tick at g ∷ earlier) in
+    ap (λ (x : Option (List ℕ)). Gives x ∷ calling_answers earlier) (ap (λ (y : Given). y.on_calling) t.0 ∙ ap (λ (o : Option CallingLeg). told_calling o now) (leg_is writes earlier t.1))
+    ∙ ap (λ (xs : List CallingAnswer). Gives (told_calling (leg_of (known_part earlier)) now) ∷ xs) (answers_are writes earlier t.1)
+
+pub served_alone : IsServedAlone
+served_alone writes others s t is_s is_t h =
+    let k : known_part s ≡ known_part t = same_known (known_part s) (known_part t) (are_known writes s is_s) (are_known others t is_t) (forget_is s ∙ h ∙ sym (forget_is t)) in (
+      leg_is writes s is_s ∙ ap leg_of k ∙ sym (leg_is others t is_t),
+      answers_are writes s is_s ∙ ap answers_to k ∙ sym (answers_are others t is_t),
+    )
