@@ -1,11 +1,14 @@
 mod Confirmed
+mod Cutting
 mod Examples
 mod Fitting
 mod Forwarding
 mod Going
 mod Held
+mod IdleLegs
 mod InCalls
 mod LegsRead
 mod McfAnswers
 mod Replied
 mod ServedAlone
+mod States

@@ -2,10 +2,12 @@ pub mod Alone
 pub mod Answers
 pub mod CalledLegs
 pub mod CallingLegs
+pub mod Cuts
 pub mod Events
 pub mod Forwards
 pub mod GoesOn
 pub mod Legs
+pub mod Reports
 pub mod Sides
 pub mod Told
 pub mod Traces

@@ -2,8 +2,10 @@
 //! rings, datagrams of both legs and ticks, with the answers of a gateway, from a new one on.
 ghost use Rattle.fax_gateway.specs.Alone.{IsServedAlone};
 ghost use Rattle.fax_gateway.specs.Answers.{EachMcfAnswers};
+ghost use Rattle.fax_gateway.specs.Cuts.{JobsAreCut};
 ghost use Rattle.fax_gateway.specs.Forwards.{ForwardsWhatItConfirmed};
 ghost use Rattle.fax_gateway.specs.GoesOn.{LegsAreRead, TracesGoOn};
+ghost use Rattle.fax_gateway.specs.Reports.{JobsHaveStates};
 
 /// Whatever comes: each image that a tick ends on the called leg is a page of the job that is being sent, under the DCS that
 /// was given before it, format included. That page was confirmed at an earlier tick: there the calling leg was given the
@@ -27,6 +29,21 @@ pub fn legs_are_read()
 /// and then the book gets no page; and in a tick that gives no MCF it gets none.
 pub fn each_mcf_answers()
     ensures { EachMcfAnswers }
+{}
+
+/// The jobs that were closed are those into which the confirmations of each call are cut, call by call in the order of the
+/// rings, and each names the number that its ring was answered with: behind a page confirmed for EOP, before a page of
+/// another format, behind the 999th page and at the end of the call. So each confirmed page stands in one job, at its place,
+/// no job has another page, and none has pages of two calls. While a call is on, the open job is the rest of it.
+pub fn jobs_are_cut()
+    ensures { JobsAreCut }
+{}
+
+/// Each job that was closed is in one state, and they are so in their order: those that ended, each with the one report that
+/// a tick gave of it (its call, its format, the number of its pages); the one whose call is on; those that wait. The last 64
+/// reports are kept.
+pub fn jobs_have_states()
+    ensures { JobsHaveStates }
 {}
 
 /// What is answered to rings and to datagrams of the calling leg, and what is given there, is fixed by these events and the

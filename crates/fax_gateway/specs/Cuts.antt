@@ -1,0 +1,55 @@
+-- The calls of a trace, and that the jobs of the book are cut from them.
+use Rattle.std.specs.Prelude.{◌≡◌, ℕ, Bool, true, false, not, List, [], ◌∷◌, ◌++◌, length, Option, Some, None}
+use Rattle.fax_jobs.specs.Jobs.{JobValue}
+use Rattle.fax_jobs.specs.Pasts.{Past, jobs_of}
+use Rattle.fax_jobs.specs.Cuts.{Confirmation, IsCutOf, IsCutSoFar}
+use Rattle.fax_answer.specs.Replies.{ConfirmedPage}
+use Rattle.fax_call.specs.Writings.{Writing}
+use Rattle.fax_gateway.specs.Events.{Event, Ring, FromCalling, FromCalled, Tick, clock}
+use Rattle.fax_gateway.specs.CallingLegs.{CallingLeg, calling_leg, idle_after, answers, confirmed_by}
+use Rattle.fax_gateway.specs.Sides.{closes, past_of, sides}
+use Rattle.fax_gateway.specs.Traces.{IsTrace}
+
+-- what a tick confirms
+abbrev pub confirmed_at : Option CallingLeg → ℕ → Option ConfirmedPage
+confirmed_at None now = None
+confirmed_at (Some l) now = confirmed_by (answers l now).given
+
+-- The calls, the newest first, each as its confirmations in their order: a ring begins a call, and each tick that confirms a
+-- page adds to the last. The call with n calls before it has the number n.
+abbrev pub with_confirmed : Option ConfirmedPage → List (List Confirmation) → List (List Confirmation)
+with_confirmed None calls = calls
+with_confirmed (Some c) [] = []
+with_confirmed (Some c) (cs ∷ calls) = (cs ++ record { page = c.page; closes = closes c.command } ∷ []) ∷ calls
+
+abbrev pub calls_of : List Event → List (List Confirmation)
+calls_of [] = []
+calls_of (Ring at number ∷ earlier) = [] ∷ calls_of earlier
+calls_of (FromCalling octets at decided read ∷ earlier) = calls_of earlier
+calls_of (FromCalled octets at decided ∷ earlier) = calls_of earlier
+calls_of (Tick at given ∷ earlier) = with_confirmed (confirmed_at (calling_leg earlier) (clock (Tick at given ∷ earlier))) (calls_of earlier)
+
+-- calls that have ended, and the jobs that were closed, in their order: those of a call are cut from its confirmations alone
+abbrev pub AreCutsOf : List (List Confirmation) → List JobValue → Type 0
+AreCutsOf [] jobs = jobs ≡ []
+AreCutsOf (cs ∷ calls) jobs =
+    (old : List JobValue) × (own : List JobValue) × (jobs ≡ old ++ own) × IsCutOf (length calls) cs own × AreCutsOf calls old
+
+-- a call that is on is cut as far as it has come, behind those that have ended
+pub record IsCutWith (calls : List (List Confirmation)) (cs : List Confirmation) (past : Past) : Type 0 where
+  pub old : List JobValue
+  pub own : List JobValue
+  pub jobs_are : jobs_of past ≡ old ++ own
+  pub cut : IsCutSoFar (length calls) cs own past.book.open_job
+  pub before : AreCutsOf calls old
+
+abbrev pub IsBookOf : (on : Bool) → List (List Confirmation) → Past → Type 0
+IsBookOf false calls past = AreCutsOf calls (jobs_of past) × (past.book.open_job ≡ None)
+IsBookOf true [] past = ⊥
+IsBookOf true (cs ∷ calls) past = IsCutWith calls cs past
+
+-- So it is in every trace; the numbers are those that the rings were answered with.
+abbrev pub JobsAreCut : Type 0
+JobsAreCut =
+    (writes : Writing) (trace : List Event) → IsTrace writes trace
+    → IsBookOf (not (idle_after (calling_leg trace))) (calls_of trace) (past_of (sides writes trace))
