@@ -110,6 +110,15 @@ enters_hold : (P : ℕ → PageValue → Type 0) (delivered : ℕ) (o : Option O
 enters_hold P delivered None steps h = h
 enters_hold P delivered (Some outcome) steps h = h
 
+pub tick_holds_from : (writes : Writing) (earlier : List Event) (at : ℕ) (given : Given) → IsTrace writes (Tick at given ∷ earlier) → StepsHold (WasConfirmedIn (Tick at given ∷ earlier)) (sides writes earlier).steps →
+    StepsHold (WasConfirmedIn (Tick at given ∷ earlier)) (in_tick writes earlier at).steps
+tick_holds_from writes earlier at given t h =
+    let P : ℕ → PageValue → Type 0 = WasConfirmedIn (Tick at given ∷ earlier) in
+    let now : ℕ = max at (clock earlier) in
+    let s : Sides = sides writes earlier in
+    sends_hold P writes now (record s { steps = heard_in_tick (calling_leg earlier) now s.steps })
+    (tick_hold writes earlier at given (calling_leg earlier) s.steps t refl h)
+
 event_holds : (writes : Writing) (e : Event) (earlier : List Event) → IsTrace writes (e ∷ earlier) → StepsHold (WasConfirmedIn (e ∷ earlier)) (sides writes earlier).steps →
     StepsHold (WasConfirmedIn (e ∷ earlier)) (sides writes (e ∷ earlier)).steps
 event_holds writes (Ring at n) earlier t h = h
@@ -119,14 +128,17 @@ event_holds writes (FromCalled octets at decided) earlier t h = h
 event_holds writes (Tick at given) earlier t h =
     let P : ℕ → PageValue → Type 0 = WasConfirmedIn (Tick at given ∷ earlier) in
     let now : ℕ = max at (clock earlier) in
-    let s : Sides = sides writes earlier in
     let z : Sides = in_tick writes earlier at in
-    enters_hold P (delivered_told writes z.leg now) (outcome_told writes z.leg now) z.steps
-    (sends_hold P writes now (record s { steps = heard_in_tick (calling_leg earlier) now s.steps })
-    (tick_hold writes earlier at given (calling_leg earlier) s.steps t refl h))
+    enters_hold P (delivered_told writes z.leg now) (outcome_told writes z.leg now) z.steps (tick_holds_from writes earlier at given t h)
 
 pub steps_hold : (writes : Writing) (trace : List Event) → IsTrace writes trace → StepsHold (WasConfirmedIn trace) (sides writes trace).steps
 steps_hold writes [] t = tt
 steps_hold writes (e ∷ earlier) t =
     event_holds writes e earlier t
     (steps_map (WasConfirmedIn earlier) (WasConfirmedIn (e ∷ earlier)) (sides writes earlier).steps (λ call page w. was_later e earlier call page w) (steps_hold writes earlier t.1))
+
+-- the same in a tick, when the called leg is served
+pub tick_holds : (writes : Writing) (earlier : List Event) (at : ℕ) (given : Given) → IsTrace writes (Tick at given ∷ earlier) → StepsHold (WasConfirmedIn (Tick at given ∷ earlier)) (in_tick writes earlier at).steps
+tick_holds writes earlier at given t =
+    tick_holds_from writes earlier at given t
+    (steps_map (WasConfirmedIn earlier) (WasConfirmedIn (Tick at given ∷ earlier)) (sides writes earlier).steps (λ call page w. was_later (Tick at given) earlier call page w) (steps_hold writes earlier t.1))

@@ -10,5 +10,6 @@ mod InCalls
 mod LegsRead
 mod McfAnswers
 mod Replied
+mod Reporting
 mod ServedAlone
 mod States

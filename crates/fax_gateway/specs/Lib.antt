@@ -8,6 +8,7 @@ pub mod Forwards
 pub mod GoesOn
 pub mod Legs
 pub mod Reports
+pub mod ReportsTold
 pub mod Sides
 pub mod Told
 pub mod Traces

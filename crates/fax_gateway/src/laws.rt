@@ -6,6 +6,7 @@ ghost use Rattle.fax_gateway.specs.Cuts.{JobsAreCut};
 ghost use Rattle.fax_gateway.specs.Forwards.{ForwardsWhatItConfirmed};
 ghost use Rattle.fax_gateway.specs.GoesOn.{LegsAreRead, TracesGoOn};
 ghost use Rattle.fax_gateway.specs.Reports.{JobsHaveStates};
+ghost use Rattle.fax_gateway.specs.ReportsTold.{ReportsTheJob};
 
 /// Whatever comes: each image that a tick ends on the called leg is a page of the job that is being sent, under the DCS that
 /// was given before it, format included. That page was confirmed at an earlier tick: there the calling leg was given the
@@ -44,6 +45,13 @@ pub fn jobs_are_cut()
 /// reports are kept.
 pub fn jobs_have_states()
     ensures { JobsHaveStates }
+{}
+
+/// Each report that a tick gives is of the job that was being sent. `delivered` is the number of its pages that went out and
+/// were answered with MCF or RTP until the call was over, one image each, and the outcome is Delivered exactly where they
+/// are all. Behind the end nothing was given.
+pub fn reports_the_job()
+    ensures { ReportsTheJob }
 {}
 
 /// What is answered to rings and to datagrams of the calling leg, and what is given there, is fixed by these events and the

@@ -1,0 +1,171 @@
+-- Each report is of the job that was being sent, and tells what was delivered of it.
+use Rattle.std.proofs.Common.{◌≡◌, ℕ, ◌≤◌, max, Bool, true, false, List, [], ◌∷◌, ◌++◌, length, Option, Some, None, option_map, refl, sym, ◌∙◌, ap, subst, arith, if◌then◌else◌}
+use Rattle.fax_frames.specs.declared.frame.Frame.{Frame}
+use Rattle.fax_frames.specs.declared.frame.Frame.TheVariants as frames
+use Rattle.fax_frames.specs.Frames.{frame_of}
+use Rattle.fax_ifp.specs.Elements as elements
+use Rattle.fax_ifp.specs.Packets.{packet_of}
+use Rattle.fax_ifp.specs.Pieces as pieces
+use Rattle.fax_pagestore.specs.Pages.{PageValue}
+use Rattle.fax_jobs.specs.declared.outcome.Outcome.{Outcome}
+use Rattle.fax_jobs.specs.declared.report.Report.{Report}
+use Rattle.fax_jobs.specs.Jobs.{JobValue, IsJob}
+use Rattle.fax_jobs.specs.Books.{Book, report_of}
+use Rattle.fax_call.specs.declared.state.State.{State}
+use Rattle.fax_call.specs.declared.state.State.TheVariants.{Idle, AwaitDis, AwaitCfr, AwaitMcf, Closing}
+use Rattle.fax_call.specs.Writings.{Writing, IsWriting}
+use Rattle.fax_call.specs.Replies.{Packet, written}
+use Rattle.fax_call.specs.Calls.{Calling, ticked, CallEvent, Comes, Ticks, after_events}
+use Rattle.fax_call.specs.Emission.{Mark, Gave, Acknowledged, Refused, Begins, gave_all, elements_given, acknowledged_by, marks_heard, marks_given, marks_after}
+use Rattle.fax_call.specs.Delivery.{is_over, marks_until_over, IsTold}
+use Rattle.fax_call.proofs.Told.{tells_what_was_answered}
+use Rattle.fax_gateway.specs.Events.{Event, Tick, Given, clock}
+use Rattle.fax_gateway.specs.CalledLegs.{CalledLeg, begun_core, calls, outcome_of, with_tick, leg_ticked, report_by, told_report}
+use Rattle.fax_gateway.specs.Sides.{Sides, book_of, sides, in_tick}
+use Rattle.fax_gateway.specs.Told.{leg_marks, marks_before}
+use Rattle.fax_gateway.specs.Forwards.{WasConfirmedIn}
+use Rattle.fax_gateway.specs.ReportsTold.{AreHeard, IsReported, ReportsTheJob}
+use Rattle.fax_gateway.proofs.Held.{IfHolds, held}
+use Rattle.fax_gateway.proofs.Confirmed.{tick_holds}
+use Rattle.fax_gateway.proofs.InCalls.{InCall, IfInCall, before_call, in_call}
+
+-- what a call heard and gave behind its end
+abbrev NoBegins : List Mark → Type 0
+NoBegins [] = Unit {0}
+NoBegins (Gave e ∷ marks) = NoBegins marks
+NoBegins (Acknowledged ∷ marks) = NoBegins marks
+NoBegins (Refused ∷ marks) = NoBegins marks
+NoBegins (Begins ∷ marks) = ⊥
+
+record Behind (until all : List Mark) : Type 0 where
+  later : List Mark
+  begins_none : NoBegins later
+  all_is : all ≡ later ++ until
+
+nothing : (until : List Mark) → Behind until until
+nothing until = record { later = []; begins_none = tt; all_is = refl }
+
+behind_frame : (until : List Mark) (o : Option Frame) (all : List Mark) → Behind until all → Behind until (acknowledged_by o all)
+behind_frame until None all b = b
+behind_frame until (Some frames.Mcf) all b = record { later = Acknowledged ∷ b.later; begins_none = b.begins_none; all_is = ap (λ (ms : List Mark). Acknowledged ∷ ms) b.all_is }
+behind_frame until (Some frames.Rtp) all b = record { later = Acknowledged ∷ b.later; begins_none = b.begins_none; all_is = ap (λ (ms : List Mark). Acknowledged ∷ ms) b.all_is }
+behind_frame until (Some frames.Rtn) all b = record { later = Refused ∷ b.later; begins_none = b.begins_none; all_is = ap (λ (ms : List Mark). Refused ∷ ms) b.all_is }
+behind_frame until (Some frame) all b = b
+
+behind_piece : (until : List Mark) (p : pieces.Piece) (all : List Mark) → Behind until all → Behind until (marks_heard p all)
+behind_piece until (pieces.Frame octets) all b = behind_frame until (frame_of octets) all b
+behind_piece until (pieces.Start kind) all b = b
+behind_piece until (pieces.Octets octets) all b = b
+behind_piece until (pieces.End whole) all b = b
+behind_piece until pieces.Gap all b = b
+
+behind_all : (until : List Mark) (es : List elements.Element) (all : List Mark) → Behind until all → Behind until (gave_all es all)
+behind_all until [] all b = b
+behind_all until (e ∷ es) all b =
+    behind_all until es (Gave e ∷ all) (record { later = Gave e ∷ b.later; begins_none = b.begins_none; all_is = ap (λ (ms : List Mark). Gave e ∷ ms) b.all_is })
+
+behind_given : (until : List Mark) (o : Option Packet) (all : List Mark) → Behind until all → Behind until (marks_given o all)
+behind_given until None all b = b
+behind_given until (Some packet) all b = behind_all until (elements.elements_in (packet_of (written packet))) all b
+
+behind_event : (writes : Writing) (job : JobValue) (old until : List Mark) (a : Calling) (e : CallEvent) (before : List CallEvent) → Behind until (marks_after writes job old a before) → Behind until (marks_after writes job old a (e ∷ before))
+behind_event writes job old until a (Comes piece) before b = behind_piece until piece (marks_after writes job old a before) b
+behind_event writes job old until a (Ticks now) before b = behind_given until (ticked writes job (after_events writes job a before) now).given (marks_after writes job old a before) b
+
+behind_end : (writes : Writing) (job : JobValue) (old : List Mark) (a : Calling) (events : List CallEvent) → Behind (marks_until_over writes job old a events) (marks_after writes job old a events)
+behind_end writes job old a [] = nothing (Begins ∷ old)
+behind_end writes job old a (e ∷ before) = by (is_over (after_events writes job a before).state) (behind_end writes job old a before)
+  where
+    by : (t : Bool) → Behind (marks_until_over writes job old a before) (marks_after writes job old a before) → Behind (if◌then◌else◌ {A = List Mark} t (marks_until_over writes job old a before) (marks_after writes job old a (e ∷ before))) (marks_after writes job old a (e ∷ before))
+    by true rest = behind_event writes job old (marks_until_over writes job old a before) a e before rest
+    by false rest = nothing (marks_after writes job old a (e ∷ before))
+
+longer : (later until : List Mark) → length (elements_given until) ≤ length (elements_given (later ++ until))
+longer [] until = omega arith
+longer (Gave e ∷ later) until = let l : length (elements_given until) ≤ length (elements_given (later ++ until)) = longer later until in omega arith
+longer (Acknowledged ∷ later) until = longer later until
+longer (Refused ∷ later) until = longer later until
+longer (Begins ∷ later) until = longer later until
+
+are_heard : (later until : List Mark) → NoBegins later → elements_given (later ++ until) ≡ elements_given until → AreHeard later
+are_heard [] until n e = tt
+are_heard (Gave x ∷ later) until n e =
+    let l : length (elements_given until) ≤ length (elements_given (later ++ until)) = longer later until in
+    let k : length (elements_given (Gave x ∷ (later ++ until))) ≡ length (elements_given until) = ap (λ (es : List elements.Element). length es) e in
+    absurd (omega arith)
+are_heard (Acknowledged ∷ later) until n e = are_heard later until n e
+are_heard (Refused ∷ later) until n e = are_heard later until n e
+are_heard (Begins ∷ later) until n e = absurd n
+
+-- a call that is over
+over_idle : (state : State) → is_over state ≡ true → state ≡ Idle
+over_idle Idle h = refl
+over_idle AwaitDis h = cc
+over_idle (AwaitCfr dis dcs) h = cc
+over_idle (AwaitMcf dis dcs) h = cc
+over_idle (Closing x) h = cc
+
+ended_so : (b : Bool) (o : Option Outcome) (outcome : Outcome) → (if◌then◌else◌ {A = Option Outcome} b o None) ≡ Some outcome → (b ≡ true) × (o ≡ Some outcome)
+ended_so true o outcome e = (refl, e)
+ended_so false o outcome e = cc
+
+same_outcome : (o : Option Outcome) (x y : Outcome) → o ≡ Some x → o ≡ Some y → x ≡ y
+same_outcome o x y e f = let q : Some x ≡ Some y = sym e ∙ f in cc
+
+-- the call of the job ends in this tick
+ends_here : (writes : Writing) (now : ℕ) (l : CalledLeg) (book : Book) (after : Option JobValue) (marks : List Mark) (outcome : Outcome) → IsWriting writes → IsJob l.job → book.sending ≡ Some l.job →
+    InCall writes (with_tick (calls writes l now) now l) after marks → outcome_of (calls writes l now).core ≡ Some outcome →
+    IsReported book (Some (with_tick (calls writes l now) now l)) marks (report_of l.job outcome (calls writes l now).core.counts.delivered)
+ends_here writes now l book after marks outcome w is s i e =
+    let core : Calling = (calls writes l now).core in
+    let events : List CallEvent = Ticks now ∷ l.events in
+    let p = ended_so (is_over core.state) core.outcome outcome e in
+    let r = tells_what_was_answered writes l.job i.old l.before l.begun events w is (over_idle core.state p.0) in
+    let until : List Mark = marks_until_over writes l.job i.old (begun_core l) events in
+    let b : Behind until (marks_after writes l.job i.old (begun_core l) events) = behind_end writes l.job i.old (begun_core l) events in
+    record {
+      l = with_tick (calls writes l now) now l;
+      is_leg = refl;
+      is_sending = s;
+      call = refl;
+      format = refl;
+      pages = refl;
+      until = until;
+      later = b.later;
+      are_heard = are_heard b.later until b.begins_none (ap elements_given (sym b.all_is) ∙ r.3);
+      marks_are = i.marks_are ∙ b.all_is;
+      told = subst (λ (x : Outcome). IsTold l.job x core.counts.delivered events until) (same_outcome core.outcome r.0 outcome r.1 p.1) r.2;
+    }
+
+by_leg : (writes : Writing) (now : ℕ) (leg : Option CalledLeg) (book : Book) (P : ℕ → PageValue → Type 0) (old marks : List Mark) (after : Option JobValue) (report : Report) → IsWriting writes →
+    IfHolds P book.sending → IfInCall writes leg book.sending old → IfInCall writes (option_map (leg_ticked writes now) leg) after marks → told_report writes leg now ≡ Some report →
+    IsReported book (option_map (leg_ticked writes now) leg) marks report
+by_leg writes now None book P old marks after report w h i j e = cc
+by_leg writes now (Some l) book P old marks after report w h i j e = by l.entered i.sends j e
+  where
+    core : Calling
+    core = (calls writes l now).core
+
+    ended : (o : Option Outcome) → outcome_of (calls writes l now).core ≡ o → book.sending ≡ Some l.job → InCall writes (with_tick (calls writes l now) now l) after marks →
+        report_by l (calls writes l now).core.counts.delivered o ≡ Some report → IsReported book (Some (with_tick (calls writes l now) now l)) marks report
+    ended None f s k e = cc
+    ended (Some outcome) f s k e =
+        let same : report_of l.job outcome (calls writes l now).core.counts.delivered ≡ report = cc in
+        subst (IsReported book (Some (with_tick (calls writes l now) now l)) marks) same (ends_here writes now l book after marks outcome w (subst (IfHolds P) s h).is_job s k f)
+
+    by : (b : Bool) → book.sending ≡ (if◌then◌else◌ {A = Option JobValue} b None (Some l.job)) →
+        InCall writes (if◌then◌else◌ {A = CalledLeg} b l (with_tick (calls writes l now) now l)) after marks →
+        report_by l (calls writes l now).core.counts.delivered (if◌then◌else◌ {A = Option Outcome} b None (outcome_of (calls writes l now).core)) ≡ Some report →
+        IsReported book (Some (if◌then◌else◌ {A = CalledLeg} b l (with_tick (calls writes l now) now l))) marks report
+    by true s k e = cc
+    by false s k e = ended (outcome_of (calls writes l now).core) refl s k e
+
+pub reports_the_job : ReportsTheJob
+reports_the_job writes earlier at given report w t e =
+    let now : ℕ = max at (clock earlier) in
+    let z : Sides = in_tick writes earlier at in
+    let trace : List Event = Tick at given ∷ earlier in
+    let old : List Mark = leg_marks writes earlier in
+    by_leg writes now z.leg (book_of z) (WasConfirmedIn trace) (marks_before writes earlier at old) (leg_marks writes trace) (book_of (sides writes trace)).sending report w
+    (held (WasConfirmedIn trace) z.steps (tick_holds writes earlier at given t)).sending
+    (before_call writes earlier at old (in_call writes earlier t.1)) (in_call writes trace t) (sym (ap (λ (g : Given). g.report) t.0) ∙ e)
