@@ -42,7 +42,7 @@ was_later e trace call page w =
     }
 
 -- a tick that gives a confirmed page
-given_with : (o : Option Waiting) (c : ConfirmedPage) → confirmed_by o ≡ Some c → (w : Waiting) × (o ≡ Some w) × (w.confirmed ≡ Some c)
+pub given_with : (o : Option Waiting) (c : ConfirmedPage) → confirmed_by o ≡ Some c → (w : Waiting) × (o ≡ Some w) × (w.confirmed ≡ Some c)
 given_with None c h = cc
 given_with (Some w) c h = (w, refl, h)
 

@@ -56,7 +56,7 @@ if_emits : (P Q : List Mark → Emission → Type 0) (marks : List Mark) (o : Op
 if_emits P Q marks None f p = tt
 if_emits P Q marks (Some x) f p = f marks x p
 
-each_emission : (P Q : List Mark → Emission → Type 0) (marks : List Mark) (es : List elements.Element) → ((ms : List Mark) (x : Emission) → P ms x → Q ms x) → EachEmission P marks es → EachEmission Q marks es
+pub each_emission : (P Q : List Mark → Emission → Type 0) (marks : List Mark) (es : List elements.Element) → ((ms : List Mark) (x : Emission) → P ms x → Q ms x) → EachEmission P marks es → EachEmission Q marks es
 each_emission P Q marks [] f p = tt
 each_emission P Q marks (e ∷ es) f p = (if_emits P Q marks (emitted_at (elements_given marks) e) f p.0, each_emission P Q (Gave e ∷ marks) es f p.1)
 

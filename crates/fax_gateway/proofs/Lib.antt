@@ -1,3 +1,4 @@
+mod Allowed
 mod Confirmed
 mod Cutting
 mod Examples

@@ -15,6 +15,7 @@ use Rattle.fax_gateway.specs.Sides.{Sides, closes, confirms_if, ends_if, heard_i
 use Rattle.fax_gateway.specs.Traces.{IsTrace}
 use Rattle.fax_gateway.specs.Told.{gives_mcf}
 use Rattle.fax_gateway.specs.Answers.{AddsNoPage, ConfirmsNow, GivesAgain, EachMcfAnswers}
+use Rattle.fax_gateway.proofs.Confirmed.{given_with}
 use Rattle.fax_gateway.proofs.LegsRead.{leg_is_read}
 use Rattle.fax_gateway.proofs.Replied.{IfNeat, NeatLeg, neat_of, ticked_neat, told_mcf, mcf_only}
 
@@ -83,16 +84,12 @@ if_mcf writes earlier now (Some l) s t is m =
     (l, refl, mcf_with writes l now s g.0 (leg_is_read writes earlier l t is) g.1 g.2)
 
 -- where no MCF is given, no page is confirmed
-given_as : (o : Option Waiting) (c : ConfirmedPage) → confirmed_by o ≡ Some c → (w : Waiting) × (o ≡ Some w) × (w.confirmed ≡ Some c)
-given_as None c h = cc
-given_as (Some w) c h = (w, refl, h)
-
 confirms_none : (writes : Writing) (earlier : List Event) (now : ℕ) (l : CallingLeg) (o : Option ConfirmedPage) → IsTrace writes earlier → calling_leg earlier ≡ Some l → gives_mcf (told_calling (Some l) now) ≡ false →
     confirmed_by (answers l now).given ≡ o → o ≡ None
 confirms_none writes earlier now l None t is m e = refl
 confirms_none writes earlier now l (Some c) t is m e =
     let n : NeatLeg l = subst IfNeat is (neat_of earlier) in
-    let g = given_as (answers l now).given c e in
+    let g = given_with (answers l now).given c e in
     let r = gives_confirmations l.before l.begun now l.events g.0 c (leg_is_read writes earlier l t is) g.1 g.2 in
     let k : gives_mcf (told_calling (Some l) now) ≡ true = told_mcf l.given (answers l now).given g.0 n.short (ticked_neat (core_of l) now n.core).given g.1 r.0 in
     let q : true ≡ false = sym k ∙ m in

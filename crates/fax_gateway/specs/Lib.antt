@@ -6,6 +6,7 @@ pub mod Cuts
 pub mod Events
 pub mod Forwards
 pub mod GoesOn
+pub mod Lacking
 pub mod Legs
 pub mod Reports
 pub mod ReportsTold

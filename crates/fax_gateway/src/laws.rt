@@ -5,6 +5,7 @@ ghost use Rattle.fax_gateway.specs.Answers.{EachMcfAnswers};
 ghost use Rattle.fax_gateway.specs.Cuts.{JobsAreCut};
 ghost use Rattle.fax_gateway.specs.Forwards.{ForwardsWhatItConfirmed};
 ghost use Rattle.fax_gateway.specs.GoesOn.{LegsAreRead, TracesGoOn};
+ghost use Rattle.fax_gateway.specs.Lacking.{NoneIsLacking};
 ghost use Rattle.fax_gateway.specs.Reports.{JobsHaveStates};
 ghost use Rattle.fax_gateway.specs.ReportsTold.{ReportsTheJob};
 
@@ -52,6 +53,12 @@ pub fn jobs_have_states()
 /// are all. Behind the end nothing was given.
 pub fn reports_the_job()
     ensures { ReportsTheJob }
+{}
+
+/// No image goes out of a page whose width or resolution the called machine lacks: in that very call a DIS was taken that has
+/// both, and that receives.
+pub fn none_is_lacking()
+    ensures { NoneIsLacking }
 {}
 
 /// What is answered to rings and to datagrams of the calling leg, and what is given there, is fixed by these events and the

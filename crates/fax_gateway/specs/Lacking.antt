@@ -1,0 +1,25 @@
+-- No image goes out that the called machine could not receive.
+use Rattle.std.specs.Prelude.{◌≡◌, ℕ, List, ◌∷◌, Option, Some}
+use Rattle.fax_frames.specs.declared.dis.Dis.{Dis}
+use Rattle.fax_call.specs.Writings.{Writing, IsWriting}
+use Rattle.fax_call.specs.Emission.{Emission, Mark}
+use Rattle.fax_call.specs.Refusals.{dis_taken, Allows}
+use Rattle.fax_gateway.specs.Events.{Event, Tick, Given}
+use Rattle.fax_gateway.specs.CalledLegs.{CalledLeg, begun_core}
+use Rattle.fax_gateway.specs.Sides.{in_tick}
+use Rattle.fax_gateway.specs.Traces.{IsTrace}
+use Rattle.fax_gateway.specs.Told.{elements_told, leg_marks, marks_before, EachEmission}
+
+-- In the call that is on, Await DIS took a DIS that has the width and the resolution of the job's pages.
+pub record IsAllowed (writes : Writing) (leg : Option CalledLeg) (marks : List Mark) (emission : Emission) : Type 0 where
+  pub l : CalledLeg
+  pub is_leg : leg ≡ Some l
+  pub dis : Dis
+  pub taken : dis_taken writes l.job (begun_core l) l.events ≡ Some dis
+  pub allows : Allows dis l.job.format
+
+abbrev pub NoneIsLacking : Type 0
+NoneIsLacking =
+    (writes : Writing) (earlier : List Event) (at : ℕ) (given : Given) → IsWriting writes → IsTrace writes (Tick at given ∷ earlier)
+    → EachEmission (IsAllowed writes (in_tick writes earlier at).leg)
+    (marks_before writes earlier at (leg_marks writes earlier)) (elements_told given.on_called)
