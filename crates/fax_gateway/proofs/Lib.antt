@@ -14,3 +14,4 @@ mod Replied
 mod Reporting
 mod ServedAlone
 mod States
+mod WholeCall
