@@ -15,3 +15,4 @@ mod Reporting
 mod ServedAlone
 mod States
 mod WholeCall
+mod OfTheirCalls

@@ -8,6 +8,7 @@ pub mod Forwards
 pub mod GoesOn
 pub mod Lacking
 pub mod Legs
+pub mod Origins
 pub mod Reports
 pub mod ReportsTold
 pub mod Sides

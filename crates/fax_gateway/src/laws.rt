@@ -6,6 +6,7 @@ ghost use Rattle.fax_gateway.specs.Cuts.{JobsAreCut};
 ghost use Rattle.fax_gateway.specs.Forwards.{ForwardsWhatItConfirmed};
 ghost use Rattle.fax_gateway.specs.GoesOn.{LegsAreRead, TracesGoOn};
 ghost use Rattle.fax_gateway.specs.Lacking.{NoneIsLacking};
+ghost use Rattle.fax_gateway.specs.Origins.{JobsAreOfTheirCalls};
 ghost use Rattle.fax_gateway.specs.Reports.{JobsHaveStates};
 ghost use Rattle.fax_gateway.specs.ReportsTold.{ReportsTheJob};
 
@@ -39,6 +40,12 @@ pub fn each_mcf_answers()
 /// no job has another page, and none has pages of two calls. While a call is on, the open job is the rest of it.
 pub fn jobs_are_cut()
     ensures { JobsAreCut }
+{}
+
+/// Each page of a job, open or closed, was confirmed in the call that the job names: a tick gave the frame MCF there for one
+/// whole image that means the page. A job has 1 to 999 pages, all of its format.
+pub fn jobs_are_of_their_calls()
+    ensures { JobsAreOfTheirCalls }
 {}
 
 /// Each job that was closed is in one state, and they are so in their order: those that ended, each with the one report that

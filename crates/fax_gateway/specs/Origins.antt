@@ -1,0 +1,29 @@
+-- Where the pages of jobs come from.
+use Rattle.std.specs.Prelude.{ℕ, List, [], ◌∷◌}
+use Rattle.fax_pagestore.specs.Pages.{PageValue}
+use Rattle.fax_jobs.specs.Jobs.{JobValue, IsJob}
+use Rattle.fax_jobs.specs.Pasts.{as_list, jobs_of}
+use Rattle.fax_call.specs.Writings.{Writing}
+use Rattle.fax_gateway.specs.Events.{Event}
+use Rattle.fax_gateway.specs.Sides.{past_of, book_of, sides}
+use Rattle.fax_gateway.specs.Traces.{IsTrace}
+use Rattle.fax_gateway.specs.Forwards.{WasConfirmedIn}
+
+abbrev pub AreConfirmedIn : List Event → ℕ → List PageValue → Type 0
+AreConfirmedIn trace call [] = Unit {0}
+AreConfirmedIn trace call (page ∷ pages) = WasConfirmedIn trace call page × AreConfirmedIn trace call pages
+
+-- 1 to 999 pages of one format, each confirmed in the call that the job names
+pub record IsOfItsCall (trace : List Event) (job : JobValue) : Type 0 where
+  pub is_job : IsJob job
+  pub confirmed : AreConfirmedIn trace job.call job.pages
+
+abbrev pub AreOfTheirCalls : List Event → List JobValue → Type 0
+AreOfTheirCalls trace [] = Unit {0}
+AreOfTheirCalls trace (job ∷ jobs) = IsOfItsCall trace job × AreOfTheirCalls trace jobs
+
+-- So is each job that was closed, and the open one.
+abbrev pub JobsAreOfTheirCalls : Type 0
+JobsAreOfTheirCalls =
+    (writes : Writing) (trace : List Event) → IsTrace writes trace
+    → AreOfTheirCalls trace (jobs_of (past_of (sides writes trace))) × AreOfTheirCalls trace (as_list (book_of (sides writes trace)).open_job)
