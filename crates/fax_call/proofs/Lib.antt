@@ -6,7 +6,7 @@ mod GivingLemmas
 mod HearingLemmas
 mod KeptLemmas
 pub mod Lacking
-pub mod Numbered
+mod Numbered
 mod PacketsBack
 mod Paddings
 mod Paged

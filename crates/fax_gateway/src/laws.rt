@@ -18,7 +18,8 @@ pub fn forwards_what_it_confirmed()
     ensures { ForwardsWhatItConfirmed }
 {}
 
-/// Every trace goes on with a ring while no call is on, any octets on either leg and a tick, at any moment.
+/// Every trace goes on with a ring while no call is on, any octets on either leg and a tick, at any moment. (Of octets of the
+/// calling leg it has to be known of one image, that which they ask about, what it means or how it fails.)
 pub fn traces_go_on()
     ensures { TracesGoOn }
 {}
@@ -57,7 +58,8 @@ pub fn jobs_have_states()
 
 /// Each report that a tick gives is of the job that was being sent. `delivered` is the number of its pages that went out and
 /// were answered with MCF or RTP until the call was over, one image each, and the outcome is Delivered exactly where they
-/// are all. Behind the end nothing was given.
+/// are all. Behind the end nothing was given. (A tick within 40 ms of the last moment, 2^64 - 1 ms, may find a timer due and
+/// the pace not yet over: an answer that comes in that while may not be counted.)
 pub fn reports_the_job()
     ensures { ReportsTheJob }
 {}

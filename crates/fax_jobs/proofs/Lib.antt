@@ -1,5 +1,5 @@
 pub mod CallCuts
 mod CutLemmas
-pub mod OneCut
+mod OneCut
 pub mod Reporting
 pub mod TakenPages
