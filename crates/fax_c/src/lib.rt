@@ -2,8 +2,8 @@
 //! run lengths.
 //!
 //! Each call takes numbers and slices, stands on a call of `fax_pagestore`, and answers an [`Outcome`].
-//! Texts are those of ITU-T T.4, the most significant bit of an octet first. `fax_c.h`, beside this crate, declares
-//! the calls to C.
+//! Texts are those of ITU-T T.4, the most significant bit of an octet first. `fax_c.h`, in
+//! this folder, declares the calls to C.
 #![tactic(auto)]
 
 ghost use Rattle.std.specs.Prelude.{◌≡◌, ◌≢◌, ◌≤◌, ◌<◌, [], length, drop, Result, Err};
