@@ -7,10 +7,11 @@ mod codes;
 mod signals;
 
 use crate::{
-    Field, Head, Ifp, IfpFault, data_length, put_data, put_frame, put_image, put_indicator,
-    write_data, write_frame, write_image, write_indicator,
+    Field, Head, Ifp, IfpFault, data_length, put_indicator, write_data, write_frame, write_image,
+    write_indicator,
 };
-use fax_bits::NoMemory;
+use fax_bits::{NoMemory, Octets};
+use std::alloc::Global;
 use std::test::Fail;
 
 /// The packet of data of a kind with fields.
@@ -35,6 +36,22 @@ const MOST: [Field<'static>; 127] = [Field {
     what: 3,
     octets: None,
 }; 127];
+
+/// The packet of a page of one white row, which ends its signal.
+const PAGE_PACKET: &[u8] = &[
+    0xc2, 0x01, 0xf0, 0x00, 0x0c, 0x00, 0x14, 0xd9, 0xa8, 0x00, 0x80, 0x08, 0x00, 0x80, 0x08, 0x00,
+    0x80, 0x08,
+];
+
+/// The packet of a part of a training check, and of the last part.
+const CHECK_PACKET: &[u8] = &[
+    0xc2, 0x01, 0xe0, 0x00, 0x0b, 0x00, 0x00, 0x00, 0x00, 0x00, 0x00, 0x00, 0x00, 0x00, 0x00, 0x00,
+    0x00,
+];
+
+const LAST_CHECK_PACKET: &[u8] = &[
+    0xc2, 0x01, 0xf0, 0x00, 0x05, 0x00, 0x00, 0x00, 0x00, 0x00, 0x00,
+];
 
 const WORKED: [Worked; 13] = [
     Worked {
@@ -79,10 +96,7 @@ const WORKED: [Worked; 13] = [
         ],
     },
     Worked {
-        octets: &[
-            0xc2, 0x01, 0xf0, 0x00, 0x0c, 0x00, 0x14, 0xd9, 0xa8, 0x00, 0x80, 0x08, 0x00, 0x80,
-            0x08, 0x00, 0x80, 0x08,
-        ],
+        octets: PAGE_PACKET,
         kind: 1,
         fields: &[Field {
             what: 7,
@@ -92,10 +106,7 @@ const WORKED: [Worked; 13] = [
         }],
     },
     Worked {
-        octets: &[
-            0xc2, 0x01, 0xe0, 0x00, 0x0b, 0x00, 0x00, 0x00, 0x00, 0x00, 0x00, 0x00, 0x00, 0x00,
-            0x00, 0x00, 0x00,
-        ],
+        octets: CHECK_PACKET,
         kind: 1,
         fields: &[Field {
             what: 6,
@@ -105,9 +116,7 @@ const WORKED: [Worked; 13] = [
         }],
     },
     Worked {
-        octets: &[
-            0xc2, 0x01, 0xf0, 0x00, 0x05, 0x00, 0x00, 0x00, 0x00, 0x00, 0x00,
-        ],
+        octets: LAST_CHECK_PACKET,
         kind: 1,
         fields: &[Field {
             what: 7,
@@ -195,6 +204,19 @@ const WORKED: [Worked; 13] = [
     },
 ];
 
+/// The octets of images in data of kind 1, whether they end the signal, and their packets.
+const IMAGES: [(bool, &[u8], &[u8]); 3] = [
+    (
+        true,
+        &[
+            0x00, 0x14, 0xd9, 0xa8, 0x00, 0x80, 0x08, 0x00, 0x80, 0x08, 0x00, 0x80, 0x08,
+        ],
+        PAGE_PACKET,
+    ),
+    (false, &[0; 12], CHECK_PACKET),
+    (true, &[0; 6], LAST_CHECK_PACKET),
+];
+
 /// Octets that are no packet, and why.
 const REFUSED: [(&[u8], IfpFault); 18] = [
     (&[], IfpFault::Short),
@@ -216,6 +238,15 @@ const REFUSED: [(&[u8], IfpFault); 18] = [
     // The ninth field and the eleventh are not there: want of memory comes behind that.
     (&[0xc0, 0x09, 0x33, 0x33, 0x33, 0x33], IfpFault::Short),
     (&[0xc0, 0x0b, 0x33, 0x33, 0x33, 0x33, 0x33], IfpFault::Short),
+];
+
+/// The faults by their numbers.
+const FAULTS: [(IfpFault, u8); 5] = [
+    (IfpFault::Short, 1),
+    (IfpFault::Extension, 2),
+    (IfpFault::BadValue, 3),
+    (IfpFault::BadCount, 4),
+    (IfpFault::NoMemory, 5),
 ];
 
 /// Octets that are read, and never written so, with the packet and how many fields it has.
@@ -299,6 +330,7 @@ fn worked_packets_are_read_and_written(rt: HostRuntime) -> Result<(), Fail> {
         assert_eq!(rt; read.head(), Head::Message { kind: packet.kind });
         assert_eq!(rt; read.fields(), packet.fields);
         assert!(rt; is_writable(packet.kind, packet.fields));
+        assert_eq!(rt; data_length(packet.fields), packet.octets.len());
         let written = write_data(rt.alloc(), packet.kind, packet.fields)?;
         assert_eq!(rt; written.as_slice(), packet.octets);
         for end in 0..packet.octets.len() {
@@ -320,13 +352,12 @@ fn refused_packets_are_told(rt: HostRuntime) -> Result<(), Fail> {
             let _ = Ifp::read(rt.alloc(), &octets[..end]);
         }
     }
-    for (fault, number) in [
-        (IfpFault::Short, 1),
-        (IfpFault::Extension, 2),
-        (IfpFault::BadValue, 3),
-        (IfpFault::BadCount, 4),
-        (IfpFault::NoMemory, 5),
-    ] {
+    Ok(())
+}
+
+#[test]
+fn faults_have_numbers(rt: HostRuntime) -> Result<(), Fail> {
+    for (fault, number) in FAULTS {
         assert_eq!(rt; fault.number(), number);
     }
     assert_eq!(rt; IfpFault::from(NoMemory), IfpFault::NoMemory);
@@ -355,31 +386,20 @@ fn padding_and_what_has_no_meaning_are_passed_over(rt: HostRuntime) -> Result<()
     Ok(())
 }
 
+// Each is put into just enough room: `put_frame`, `put_image` and `put_data` run here too.
 #[test]
 fn frames_and_images_are_written(rt: HostRuntime) -> Result<(), Fail> {
     let frame = write_frame(rt.alloc(), &[0xff, 0xc8, 0x21])?;
     assert_eq!(rt; frame.as_slice(), WORKED[3].octets);
-    let first = write_image(rt.alloc(), 1, false, &[0; 12])?;
-    assert_eq!(rt; first.as_slice(), WORKED[5].octets);
-    let last = write_image(rt.alloc(), 1, true, &[0; 6])?;
-    assert_eq!(rt; last.as_slice(), WORKED[6].octets);
+    for (last, image, packet) in IMAGES {
+        let written = write_image(rt.alloc(), 1, last, image)?;
+        assert_eq!(rt; written.as_slice(), packet);
+    }
     Ok(())
 }
 
 #[test]
-fn packets_are_put_into_just_enough_room(rt: HostRuntime) -> Result<(), Fail> {
-    let mut octets = Vec::with_capacity(rt.alloc(), 9)?;
-    put_frame(&mut octets, &[0xff, 0xc8, 0x21]);
-    assert_eq!(rt; octets.as_slice(), WORKED[3].octets);
-    let mut octets = Vec::with_capacity(rt.alloc(), 18)?;
-    let page = [
-        0x00, 0x14, 0xd9, 0xa8, 0x00, 0x80, 0x08, 0x00, 0x80, 0x08, 0x00, 0x80, 0x08,
-    ];
-    put_image(&mut octets, 1, true, &page);
-    assert_eq!(rt; octets.as_slice(), WORKED[4].octets);
-    let mut octets = Vec::with_capacity(rt.alloc(), 17)?;
-    put_image(&mut octets, 1, false, &[0; 12]);
-    assert_eq!(rt; octets.as_slice(), WORKED[5].octets);
+fn indicators_are_put_into_just_enough_room(rt: HostRuntime) -> Result<(), Fail> {
     let mut octets = Vec::with_capacity(rt.alloc(), 2)?;
     put_indicator(&mut octets, 3);
     put_indicator(&mut octets, 15);
@@ -387,34 +407,34 @@ fn packets_are_put_into_just_enough_room(rt: HostRuntime) -> Result<(), Fail> {
     Ok(())
 }
 
+/// The packet of 65,535 octets of an image.
+fn longest_packet(alloc: Global) -> Result<Octets, NoMemory> {
+    let octets = vec![in alloc; 0x55; 65_535]?;
+    write_image(alloc, 4, false, octets.as_slice())
+}
+
 #[test]
-fn data_are_put_into_just_enough_room(rt: HostRuntime) -> Result<(), Fail> {
-    for packet in &WORKED {
-        assert!(rt; is_writable(packet.kind, packet.fields));
-        let length = data_length(packet.fields);
-        assert_eq!(rt; length, packet.octets.len());
-        let mut octets = Vec::with_capacity(rt.alloc(), length)?;
-        put_data(&mut octets, packet.kind, packet.fields);
-        assert_eq!(rt; octets.as_slice(), packet.octets);
-    }
+fn the_longest_field_is_written(rt: HostRuntime) -> Result<(), Fail> {
+    let packet = longest_packet(rt.alloc())?;
+    assert_eq!(rt; packet.as_slice().len(), 65_540);
+    assert!(rt;
+        packet
+            .as_slice()
+            .starts_with(&[0xc8, 0x01, 0xe0, 0xff, 0xfe])
+    );
     Ok(())
 }
 
 #[test]
-fn the_longest_field_is_read_and_written(rt: HostRuntime) -> Result<(), Fail> {
-    let octets = vec![in rt.alloc(); 0x55; 65_535]?;
-    let written = write_image(rt.alloc(), 4, false, octets.as_slice())?;
-    let packet = written.as_slice();
-    assert_eq!(rt; packet.len(), 65_540);
-    assert!(rt; packet.starts_with(&[0xc8, 0x01, 0xe0, 0xff, 0xfe]));
-    let read = Ifp::read(rt.alloc(), packet)?;
+fn the_longest_field_is_read(rt: HostRuntime) -> Result<(), Fail> {
+    let packet = longest_packet(rt.alloc())?;
+    let read = Ifp::read(rt.alloc(), packet.as_slice())?;
     assert_eq!(rt; read.head(), Head::Message { kind: 4 });
-    let field = Field {
-        what: 6,
-        octets: Some(octets.as_slice()),
-    };
-    assert_eq!(rt; read.fields(), [field].as_slice());
-    let (_, short) = packet.split_last().ok_or("no octets")?;
+    for field in read.fields() {
+        assert_eq!(rt; field.what, 6);
+        assert_eq!(rt; field.octets, packet.as_slice().get(5..));
+    }
+    let (_, short) = packet.as_slice().split_last().ok_or("no octets")?;
     assert_eq!(rt; Ifp::read(rt.alloc(), short).err(), Some(IfpFault::Short));
     Ok(())
 }

@@ -6,7 +6,7 @@ use std::process::Abort;
 use std::test::Fail;
 
 /// A piece as a test names it.
-#[derive(Clone, Copy, Debug)]
+#[derive(Clone, Copy, PartialEq, Debug)]
 enum Told<'a> {
     Frame(&'a [u8]),
     Start(u8),
@@ -14,6 +14,11 @@ enum Told<'a> {
     End(bool),
     Gap,
 }
+
+/// Slots, and the pieces that they give.
+type Case = (&'static [Slot<'static>], &'static [Told<'static>]);
+
+const WORKED_FRAME: Told<'static> = Told::Frame(&[0xff, 0xc8, 0x21]);
 
 /// The training indicators of V.27 ter at 2400 and at 4800, and the V.21 preamble.
 const TRAINING: Slot<'static> = Slot::Packet(&[0x08]);
@@ -52,6 +57,12 @@ const BARE_END: Slot<'static> = Slot::Packet(&[0xc2, 0x01, 0x70]);
 /// An octet of an image in V.27 ter data at 4800.
 const OTHER_PART: Slot<'static> = Slot::Packet(&[0xc4, 0x01, 0xe0, 0x00, 0x00, 0xee]);
 
+/// Nine fields of an octet each, and the end.
+const MANY_FIELDS: Slot<'static> = Slot::Packet(&[
+    0xc2, 0x0a, 0xe0, 0, 0, 1, 0xe0, 0, 0, 2, 0xe0, 0, 0, 3, 0xe0, 0, 0, 4, 0xe0, 0, 0, 5, 0xe0, 0,
+    0, 6, 0xe0, 0, 0, 7, 0xe0, 0, 0, 8, 0xe0, 0, 0, 9, 0x70,
+]);
+
 /// A frame whose check sequence is right, and the same where it is wrong, both with the signal's end.
 const FRAME: Slot<'static> = Slot::Packet(&[0xc0, 0x02, 0x80, 0x00, 0x02, 0xff, 0xc8, 0x21, 0x40]);
 
@@ -71,15 +82,14 @@ const SIGNAL_END: Slot<'static> = Slot::Packet(&[0xc0, 0x01, 0x10]);
 
 const BARE_CHECK: Slot<'static> = Slot::Packet(&[0xc0, 0x01, 0x40]);
 
-/// Whether a piece is the one that is told.
-fn is_told(piece: &Piece<'_>, told: Told<'_>) -> bool {
-    match (piece, told) {
-        (Piece::Frame(frame), Told::Frame(octets)) => frame.as_slice() == octets,
-        (Piece::Start(kind), Told::Start(wanted)) => *kind == wanted,
-        (Piece::Octets(octets), Told::Octets(wanted)) => *octets == wanted,
-        (Piece::End { whole }, Told::End(wanted)) => *whole == wanted,
-        (Piece::Gap, Told::Gap) => true,
-        _ => false,
+/// A piece as a test names it.
+fn told_of<'a>(piece: &'a Piece<'_>) -> Told<'a> {
+    match piece {
+        Piece::Frame(frame) => Told::Frame(frame.as_slice()),
+        Piece::Start(kind) => Told::Start(*kind),
+        Piece::Octets(octets) => Told::Octets(octets),
+        Piece::End { whole } => Told::End(*whole),
+        Piece::Gap => Told::Gap,
     }
 }
 
@@ -87,11 +97,8 @@ fn is_told(piece: &Piece<'_>, told: Told<'_>) -> bool {
 fn expect_pieces(rt: &impl Abort, pieces: &Pieces<'_>, told: &[Told<'_>], from: usize) -> usize {
     let mut place = from;
     for piece in pieces.as_slice() {
-        let wanted = told.get(place);
-        assert!(rt;
-            wanted.is_some_and(|wanted| is_told(piece, *wanted)),
-            "{piece:?} at {place}, not {wanted:?}"
-        );
+        let found = told_of(piece);
+        assert!(rt; told.get(place) == Some(&found), "{found:?} at {place}");
         place = place.saturating_add(1);
     }
     place
@@ -110,114 +117,135 @@ fn expect(
         let pieces = signals.slot(*slot)?;
         place = expect_pieces(rt, &pieces, told, place);
     }
-    assert_eq!(rt; place, told.len(), "at {slots:?}");
+    assert_eq!(rt; place, told.len());
     Ok(())
 }
 
+/// Images, whole.
+const CUT_IMAGES: [Case; 9] = [
+    (
+        &[TRAINING, WHOLE_PAGE],
+        &[Told::Start(1), Told::Octets(PAGE), Told::End(true)],
+    ),
+    // in three packets
+    (
+        &[TRAINING, FIRST_PART, MORE, LAST_PART],
+        &[
+            Told::Start(1),
+            Told::Octets(&[0xaa, 0xbb]),
+            Told::Octets(&[0xcc]),
+            Told::Octets(&[0xdd]),
+            Told::End(true),
+        ],
+    ),
+    // its last field has no octets
+    (
+        &[TRAINING, FIRST_PART, BARE_END],
+        &[Told::Start(1), Told::Octets(&[0xaa, 0xbb]), Told::End(true)],
+    ),
+    // ended by the next indicator
+    (
+        &[TRAINING, FIRST_PART, PREAMBLE],
+        &[Told::Start(1), Told::Octets(&[0xaa, 0xbb]), Told::End(true)],
+    ),
+    (
+        &[TRAINING, FIRST_PART, OTHER_TRAINING, OTHER_PART],
+        &[
+            Told::Start(1),
+            Told::Octets(&[0xaa, 0xbb]),
+            Told::End(true),
+            Told::Start(2),
+            Told::Octets(&[0xee]),
+        ],
+    ),
+    // signals without an octet
+    (
+        &[TRAINING, OTHER_TRAINING, PREAMBLE],
+        &[Told::Start(1), Told::Start(2)],
+    ),
+    (&[TRAINING, BARE_END, PREAMBLE], &[Told::Start(1)]),
+    // octets with no training, and behind the end
+    (
+        &[MORE, TRAINING, LAST_PART, MORE, PREAMBLE],
+        &[Told::Start(1), Told::Octets(&[0xdd]), Told::End(true)],
+    ),
+    // in ten fields
+    (
+        &[TRAINING, MANY_FIELDS],
+        &[
+            Told::Start(1),
+            Told::Octets(&[1]),
+            Told::Octets(&[2]),
+            Told::Octets(&[3]),
+            Told::Octets(&[4]),
+            Told::Octets(&[5]),
+            Told::Octets(&[6]),
+            Told::Octets(&[7]),
+            Told::Octets(&[8]),
+            Told::Octets(&[9]),
+            Told::End(true),
+        ],
+    ),
+];
+
 #[test]
 fn cuts_images(rt: HostRuntime) -> Result<(), Fail> {
-    let cases: [(&[Slot<'_>], &[Told<'_>]); 8] = [
-        (
-            &[TRAINING, WHOLE_PAGE],
-            &[Told::Start(1), Told::Octets(PAGE), Told::End(true)],
-        ),
-        // in three packets
-        (
-            &[TRAINING, FIRST_PART, MORE, LAST_PART],
-            &[
-                Told::Start(1),
-                Told::Octets(&[0xaa, 0xbb]),
-                Told::Octets(&[0xcc]),
-                Told::Octets(&[0xdd]),
-                Told::End(true),
-            ],
-        ),
-        // its last field has no octets
-        (
-            &[TRAINING, FIRST_PART, BARE_END],
-            &[Told::Start(1), Told::Octets(&[0xaa, 0xbb]), Told::End(true)],
-        ),
-        // ended by the next indicator
-        (
-            &[TRAINING, FIRST_PART, PREAMBLE],
-            &[Told::Start(1), Told::Octets(&[0xaa, 0xbb]), Told::End(true)],
-        ),
-        (
-            &[TRAINING, FIRST_PART, OTHER_TRAINING, OTHER_PART],
-            &[
-                Told::Start(1),
-                Told::Octets(&[0xaa, 0xbb]),
-                Told::End(true),
-                Told::Start(2),
-                Told::Octets(&[0xee]),
-            ],
-        ),
-        // signals without an octet
-        (
-            &[TRAINING, OTHER_TRAINING, PREAMBLE],
-            &[Told::Start(1), Told::Start(2)],
-        ),
-        (&[TRAINING, BARE_END, PREAMBLE], &[Told::Start(1)]),
-        // octets with no training, and behind the end
-        (
-            &[MORE, TRAINING, LAST_PART, MORE, PREAMBLE],
-            &[Told::Start(1), Told::Octets(&[0xdd]), Told::End(true)],
-        ),
-    ];
-    for (slots, told) in cases {
+    for (slots, told) in CUT_IMAGES {
         expect(&rt, rt.alloc(), slots, told)?;
     }
     Ok(())
 }
 
+/// Images in which something is missing or has no place.
+const BROKEN_IMAGES: [Case; 5] = [
+    (
+        &[TRAINING, Slot::Lost, WHOLE_PAGE],
+        &[
+            Told::Start(1),
+            Told::Gap,
+            Told::Octets(PAGE),
+            Told::End(false),
+        ],
+    ),
+    // a gap just before the indicator that ends it
+    (
+        &[TRAINING, FIRST_PART, Slot::Lost, PREAMBLE],
+        &[
+            Told::Start(1),
+            Told::Octets(&[0xaa, 0xbb]),
+            Told::Gap,
+            Told::End(false),
+        ],
+    ),
+    // a gap before it begins is not in it
+    (
+        &[Slot::Lost, TRAINING, WHOLE_PAGE],
+        &[
+            Told::Gap,
+            Told::Start(1),
+            Told::Octets(PAGE),
+            Told::End(true),
+        ],
+    ),
+    // fields of other data in it, whose octets are not its own
+    (
+        &[TRAINING, OTHER_PART, LAST_PART],
+        &[Told::Start(1), Told::Octets(&[0xdd]), Told::End(false)],
+    ),
+    (
+        &[TRAINING, FIRST_PART, SIGNAL_END, LAST_PART],
+        &[
+            Told::Start(1),
+            Told::Octets(&[0xaa, 0xbb]),
+            Told::Octets(&[0xdd]),
+            Told::End(false),
+        ],
+    ),
+];
+
 #[test]
 fn tells_images_that_are_not_whole(rt: HostRuntime) -> Result<(), Fail> {
-    let cases: [(&[Slot<'_>], &[Told<'_>]); 5] = [
-        (
-            &[TRAINING, Slot::Lost, WHOLE_PAGE],
-            &[
-                Told::Start(1),
-                Told::Gap,
-                Told::Octets(PAGE),
-                Told::End(false),
-            ],
-        ),
-        // a gap just before the indicator that ends it
-        (
-            &[TRAINING, FIRST_PART, Slot::Lost, PREAMBLE],
-            &[
-                Told::Start(1),
-                Told::Octets(&[0xaa, 0xbb]),
-                Told::Gap,
-                Told::End(false),
-            ],
-        ),
-        // a gap before it begins is not in it
-        (
-            &[Slot::Lost, TRAINING, WHOLE_PAGE],
-            &[
-                Told::Gap,
-                Told::Start(1),
-                Told::Octets(PAGE),
-                Told::End(true),
-            ],
-        ),
-        // fields of other data in it, whose octets are not its own
-        (
-            &[TRAINING, OTHER_PART, LAST_PART],
-            &[Told::Start(1), Told::Octets(&[0xdd]), Told::End(false)],
-        ),
-        (
-            &[TRAINING, FIRST_PART, SIGNAL_END, LAST_PART],
-            &[
-                Told::Start(1),
-                Told::Octets(&[0xaa, 0xbb]),
-                Told::Octets(&[0xdd]),
-                Told::End(false),
-            ],
-        ),
-    ];
-    for (slots, told) in cases {
+    for (slots, told) in BROKEN_IMAGES {
         expect(&rt, rt.alloc(), slots, told)?;
     }
     Ok(())
@@ -258,49 +286,51 @@ fn starts_images_of_each_kind(rt: HostRuntime) -> Result<(), Fail> {
     Ok(())
 }
 
+/// Frames, whole and broken.
+const FRAMES: [Case; 9] = [
+    (&[FRAME], &[WORKED_FRAME]),
+    (&[BAD_FRAME, FRAME], &[WORKED_FRAME]),
+    (&[HEAD, TAIL], &[WORKED_FRAME]),
+    (&[HEAD, BAD_TAIL], &[]),
+    (&[HEAD, TAIL, HEAD, TAIL], &[WORKED_FRAME, WORKED_FRAME]),
+    // boundaries in the middle
+    (&[HEAD, PREAMBLE, FRAME], &[WORKED_FRAME]),
+    (&[HEAD, SIGNAL_END, FRAME], &[WORKED_FRAME]),
+    (&[HEAD, BAD_FRAME, FRAME], &[WORKED_FRAME]),
+    // no octets
+    (&[PREAMBLE, BARE_CHECK], &[]),
+];
+
 #[test]
 fn cuts_frames(rt: HostRuntime) -> Result<(), Fail> {
-    let frame = Told::Frame(&[0xff, 0xc8, 0x21]);
-    let cases: [(&[Slot<'_>], &[Told<'_>]); 9] = [
-        (&[FRAME], &[frame]),
-        (&[BAD_FRAME, FRAME], &[frame]),
-        (&[HEAD, TAIL], &[frame]),
-        (&[HEAD, BAD_TAIL], &[]),
-        (&[HEAD, TAIL, HEAD, TAIL], &[frame, frame]),
-        // boundaries in the middle
-        (&[HEAD, PREAMBLE, FRAME], &[frame]),
-        (&[HEAD, SIGNAL_END, FRAME], &[frame]),
-        (&[HEAD, BAD_FRAME, FRAME], &[frame]),
-        // no octets
-        (&[PREAMBLE, BARE_CHECK], &[]),
-    ];
-    for (slots, told) in cases {
+    for (slots, told) in FRAMES {
         expect(&rt, rt.alloc(), slots, told)?;
     }
     Ok(())
 }
 
+/// Slots that are missing, and extensions.
+const GAPS: [Case; 7] = [
+    (
+        &[Slot::Lost, CUT_OFF, EMPTY],
+        &[Told::Gap, Told::Gap, Told::Gap],
+    ),
+    (&[HEAD, Slot::Lost, TAIL], &[Told::Gap]),
+    // no frame before a boundary
+    (&[Slot::Lost, FRAME, FRAME], &[Told::Gap, WORKED_FRAME]),
+    (&[Slot::Lost, PREAMBLE, FRAME], &[Told::Gap, WORKED_FRAME]),
+    // an extension says nothing
+    (&[EXTENSION], &[]),
+    (&[HEAD, EXTENSION, TAIL], &[WORKED_FRAME]),
+    (
+        &[TRAINING, EXTENSION, LAST_PART],
+        &[Told::Start(1), Told::Octets(&[0xdd]), Told::End(true)],
+    ),
+];
+
 #[test]
 fn tells_gaps(rt: HostRuntime) -> Result<(), Fail> {
-    let frame = Told::Frame(&[0xff, 0xc8, 0x21]);
-    let cases: [(&[Slot<'_>], &[Told<'_>]); 7] = [
-        (
-            &[Slot::Lost, CUT_OFF, EMPTY],
-            &[Told::Gap, Told::Gap, Told::Gap],
-        ),
-        (&[HEAD, Slot::Lost, TAIL], &[Told::Gap]),
-        // no frame before a boundary
-        (&[Slot::Lost, FRAME, FRAME], &[Told::Gap, frame]),
-        (&[Slot::Lost, PREAMBLE, FRAME], &[Told::Gap, frame]),
-        // an extension says nothing
-        (&[EXTENSION], &[]),
-        (&[HEAD, EXTENSION, TAIL], &[frame]),
-        (
-            &[TRAINING, EXTENSION, LAST_PART],
-            &[Told::Start(1), Told::Octets(&[0xdd]), Told::End(true)],
-        ),
-    ];
-    for (slots, told) in cases {
+    for (slots, told) in GAPS {
         expect(&rt, rt.alloc(), slots, told)?;
     }
     Ok(())
@@ -326,7 +356,7 @@ fn expect_next(
 ) -> Result<(), NoMemory> {
     let pieces = signals.slot(slot)?;
     let place = expect_pieces(rt, &pieces, told, 0);
-    assert_eq!(rt; place, told.len(), "at {slot:?}");
+    assert_eq!(rt; place, told.len());
     Ok(())
 }
 
@@ -342,33 +372,6 @@ fn frames_have_at_most_256_octets(rt: HostRuntime) -> Result<(), Fail> {
     expect_next(&rt, &mut signals, good, &[Told::Frame(octets)])?;
     expect_next(&rt, &mut signals, bad, &[])?;
     expect_next(&rt, &mut signals, good, &[Told::Frame(octets)])?;
-    Ok(())
-}
-
-#[test]
-fn takes_packets_of_many_fields(rt: HostRuntime) -> Result<(), Fail> {
-    // nine fields of an octet each, and the end
-    let packet: [u8; 39] = [
-        0xc2, 0x0a, 0xe0, 0, 0, 1, 0xe0, 0, 0, 2, 0xe0, 0, 0, 3, 0xe0, 0, 0, 4, 0xe0, 0, 0, 5,
-        0xe0, 0, 0, 6, 0xe0, 0, 0, 7, 0xe0, 0, 0, 8, 0xe0, 0, 0, 9, 0x70,
-    ];
-    let mut signals = Signals::new(rt.alloc());
-    let start = signals.slot(TRAINING)?;
-    assert_eq!(rt; start.as_slice().len(), 1);
-    let pieces = signals.slot(Slot::Packet(&packet))?;
-    let told: [Told<'_>; 10] = [
-        Told::Octets(&[1]),
-        Told::Octets(&[2]),
-        Told::Octets(&[3]),
-        Told::Octets(&[4]),
-        Told::Octets(&[5]),
-        Told::Octets(&[6]),
-        Told::Octets(&[7]),
-        Told::Octets(&[8]),
-        Told::Octets(&[9]),
-        Told::End(true),
-    ];
-    assert_eq!(rt; expect_pieces(&rt, &pieces, &told, 0), 10);
     Ok(())
 }
 
@@ -404,7 +407,7 @@ fn expect_in_one_list<'a>(
     for (slot, told) in slots.iter().zip(told) {
         signals.slot_into(*slot, &mut pieces)?;
         let place = expect_pieces(rt, &pieces, told, 0);
-        assert_eq!(rt; place, told.len(), "at {slot:?}");
+        assert_eq!(rt; place, told.len());
     }
     Ok(())
 }
