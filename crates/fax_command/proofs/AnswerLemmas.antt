@@ -1,9 +1,9 @@
 -- What answers to an input are alike.
 use Rattle.std.proofs.Common.{◌≡◌, ℕ, Bool, true, false, List, Option, None, Some, IfSome, Err, codes, refl, ◌∙◌, subst}
 use Rattle.std.specs.Io.KnownBytes.{Appends}
-use Rattle.faxgate.specs.declared.input_fault.InputFault.TheVariants.{NoMemory}
-use Rattle.faxgate.specs.declared.answer.PageOptions.{PageOptions}
-use Rattle.faxgate.specs.Answers.{Answers, Allows, AllowsWay}
+use Rattle.fax_command.specs.declared.input_fault.InputFault.TheVariants.{NoMemory}
+use Rattle.fax_command.specs.declared.answer.PageOptions.{PageOptions}
+use Rattle.fax_command.specs.Answers.{Answers, Allows, AllowsWay}
 
 -- memory may be wanting at any input
 allows_memory : (back : Bool) (options : PageOptions) (input : List ℕ) → AllowsWay back options input (Err NoMemory)

@@ -11,7 +11,7 @@ use Rattle.std.specs.Char.{digit_value}
 use Rattle.std.specs.Fmt.{decimal}
 use Rattle.std.specs.List.{All, AllByRecursion, join_with_byte, onto_first, slice_split}
 use Rattle.std.specs.Str.Parse.{AllDigits}
-use Rattle.faxgate.specs.RowLines.{line_of, lines_of}
+use Rattle.fax_command.specs.RowLines.{line_of, lines_of}
 
 -- ---- lines of a text
 

@@ -12,8 +12,8 @@ use Rattle.fax_runcodes.specs.declared.Width.TheVariants.{W1728, W2048, W2432}
 use Rattle.fax_runcodes.specs.Rows.{Elements, AreRunsOfRow, IsWidth, other, stretches}
 use Rattle.fax_runcodes.specs.Widths.{elements_of}
 use Rattle.fax_mhcode.proofs.LineLaws.{IsWidth-elements}
-use Rattle.faxgate.specs.Answers.{ComesBehind}
-use Rattle.faxgate.specs.RowLines.{TellsRow, TellRows, IsRowLine, line_of, text_of_lines, lines_of}
+use Rattle.fax_command.specs.Answers.{ComesBehind}
+use Rattle.fax_command.specs.RowLines.{TellsRow, TellRows, IsRowLine, line_of, text_of_lines, lines_of}
 
 -- ---- one line
 

@@ -1,13 +1,13 @@
 -- What the values of the program tell of an answer.
 use Rattle.std.specs.Prelude.{ℕ, List, codes, Result, Ok, Err, Vec}
 use Rattle.std.specs.declared.alloc.Global.{Global}
-use Rattle.faxgate.specs.declared.answer.Answer.{Answer}
-use Rattle.faxgate.specs.declared.answer.Answer.TheVariants as answer
-use Rattle.faxgate.specs.declared.input_fault.InputFault.{InputFault}
-use Rattle.faxgate.specs.declared.input_fault.InputFault.TheVariants.{Page, NoMemory}
+use Rattle.fax_command.specs.declared.answer.Answer.{Answer}
+use Rattle.fax_command.specs.declared.answer.Answer.TheVariants as answer
+use Rattle.fax_command.specs.declared.input_fault.InputFault.{InputFault}
+use Rattle.fax_command.specs.declared.input_fault.InputFault.TheVariants.{Page, NoMemory}
 use Rattle.fax_pagestore.specs.declared.fault.PageFault.{PageFault}
 use Rattle.fax_pagestore.specs.declared.fault.PageFault.TheVariants as page
-use Rattle.faxgate.specs.Answers.{Outcome}
+use Rattle.fax_command.specs.Answers.{Outcome}
 
 -- the exit status of an answer
 abbrev pub status_of_answer : Answer → ℕ

@@ -9,14 +9,14 @@ use Rattle.hex.specs.Hex.{decode_of, encode_lower}
 use Rattle.hex.specs.declared.error.FromHexError.{FromHexError}
 use Rattle.fax_pagestore.specs.declared.fault.PageFault.{PageFault}
 use Rattle.fax_pagestore.specs.declared.fault.PageFault.TheVariants as page
-use Rattle.faxgate.specs.declared.answer.PageOptions.{PageOptions}
-use Rattle.faxgate.specs.declared.input_fault.InputFault.{InputFault}
-use Rattle.faxgate.specs.declared.input_fault.InputFault.TheVariants.{Hex, Page, Row, NoMemory}
+use Rattle.fax_command.specs.declared.answer.PageOptions.{PageOptions}
+use Rattle.fax_command.specs.declared.input_fault.InputFault.{InputFault}
+use Rattle.fax_command.specs.declared.input_fault.InputFault.TheVariants.{Hex, Page, Row, NoMemory}
 use Rattle.fax_pagestore.specs.PageRows.{AreRows, most_rows}
 use Rattle.fax_pagestore.specs.PageTexts.{MeansRows}
 use Rattle.fax_pagestore.specs.PageFaults.{FailsPage}
 use Rattle.fax_pagestore.specs.WrittenPages.{WritesPage}
-use Rattle.faxgate.specs.RowLines.{TellRows, IsRowLine, text_of_lines, lines_of}
+use Rattle.fax_command.specs.RowLines.{TellRows, IsRowLine, text_of_lines, lines_of}
 
 -- a text, or what is wrong with the input
 abbrev pub Outcome : Type 0

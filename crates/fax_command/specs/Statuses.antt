@@ -1,7 +1,7 @@
 -- The exit statuses (this project's profile).
 use Rattle.std.specs.Prelude.{ℕ}
-use Rattle.faxgate.specs.declared.status.Status.{Status}
-use Rattle.faxgate.specs.declared.status.Status.TheVariants.{Done, Fault, Usage, NoMemory, Stream}
+use Rattle.fax_command.specs.declared.status.Status.{Status}
+use Rattle.fax_command.specs.declared.status.Status.TheVariants.{Done, Fault, Usage, NoMemory, Stream}
 
 abbrev pub status_code : Status → ℕ
 status_code Done = 0

@@ -1,7 +1,7 @@
 -- What a read and a write leave of the streams (this project's profile).
 use Rattle.std.specs.Prelude.{ℕ, ◌+◌, ◌-◌, ◌^◌, min, Bool, true, Result, Ok, Err}
-use Rattle.faxgate.specs.declared.stream.ReadFault.{ReadFault}
-use Rattle.faxgate.specs.declared.stream.ReadFault.TheVariants.{Interrupted, Failed}
+use Rattle.fax_command.specs.declared.stream.ReadFault.{ReadFault}
+use Rattle.fax_command.specs.declared.stream.ReadFault.TheVariants.{Interrupted, Failed}
 
 -- whether a read has failed, once one more gave this
 abbrev pub failed_after_read : Bool → Result ℕ ReadFault → Bool

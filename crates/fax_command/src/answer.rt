@@ -4,10 +4,10 @@ ghost use Rattle.hex.specs.Hex.{encode_lower};
 ghost use Rattle.fax_bits.specs.Laws.{AreOctets};
 ghost use Rattle.fax_pagestore.specs.PageRows.{AreRows};
 ghost use Rattle.fax_runcodes.specs.Widths.{elements_of};
-ghost use Rattle.faxgate.specs.RowLines.{TellRows, text_of_lines, lines_of};
-ghost use Rattle.faxgate.specs.Answers.{IsHexOf, without_white_space, RefusesPage, RefusesLines, HoldPage, AnswersPage, AnswersRows, Allows, Answers};
-ghost use Rattle.faxgate.specs.AnswerValues.{status_of_answer, text_of_answer, outcome_of};
-ghost use Rattle.faxgate.specs.Statuses.{status_code};
+ghost use Rattle.fax_command.specs.RowLines.{TellRows, text_of_lines, lines_of};
+ghost use Rattle.fax_command.specs.Answers.{IsHexOf, without_white_space, RefusesPage, RefusesLines, HoldPage, AnswersPage, AnswersRows, Allows, Answers};
+ghost use Rattle.fax_command.specs.AnswerValues.{status_of_answer, text_of_answer, outcome_of};
+ghost use Rattle.fax_command.specs.Statuses.{status_code};
 
 use crate::input_fault::InputFault;
 use crate::lines::{first_line, push_numbers, row_of_line};

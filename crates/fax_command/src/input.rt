@@ -16,7 +16,7 @@ pub enum InputError {
 
 impl From<AllocError> for InputError {
     ghost use Rattle.std.specs.Prelude.{◌≡◌};
-    ghost use Rattle.faxgate.specs.declared.input.InputError.TheVariants as input_errors;
+    ghost use Rattle.fax_command.specs.declared.input.InputError.TheVariants as input_errors;
 
     ghost from_gives = { λ _ e. e ≡ input_errors.NoMemory };
 

@@ -1,6 +1,6 @@
 //! What is wrong with an input, and the line that tells it.
 ghost use Rattle.std.specs.Prelude.{ℕ, ◌≡◌, ◌++◌, ◌∷◌, [], IfOk, decimal};
-ghost use Rattle.faxgate.specs.Answers.{fault_line, page_fault_line};
+ghost use Rattle.fax_command.specs.Answers.{fault_line, page_fault_line};
 
 use fax_bits::NoMemory;
 use fax_pagestore::PageFault;
@@ -62,7 +62,7 @@ fn numbered(alloc: Global, words: &[u8], number: u32) -> Result<Vec<u8>, NoMemor
 
 impl From<NoMemory> for InputFault {
     ghost use Rattle.std.specs.Prelude.{◌≡◌};
-    ghost use Rattle.faxgate.specs.declared.input_fault.InputFault.TheVariants as input_faults;
+    ghost use Rattle.fax_command.specs.declared.input_fault.InputFault.TheVariants as input_faults;
 
     ghost from_gives = { λ _ e. e ≡ input_faults.NoMemory };
 
@@ -73,7 +73,7 @@ impl From<NoMemory> for InputFault {
 
 impl From<PageFault> for InputFault {
     ghost use Rattle.std.specs.Prelude.{◌≡◌};
-    ghost use Rattle.faxgate.specs.AnswerValues.{input_fault_of};
+    ghost use Rattle.fax_command.specs.AnswerValues.{input_fault_of};
 
     ghost from_gives = { λ fault e. e ≡ input_fault_of fault };
 

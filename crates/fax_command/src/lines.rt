@@ -2,7 +2,7 @@
 ghost use Rattle.std.specs.Prelude.{ℕ, ◌≡◌, ◌≢◌, ◌<◌, ◌^◌, ◌++◌, ◌∷◌, [], List, length, sum, map, decimal, IfOk, IfSome, IfNone, IsNone, IsSomeAnd, OnOk, slice_index};
 ghost use Rattle.fax_runcodes.specs.Rows.{AreRuns};
 ghost use Rattle.fax_runcodes.specs.Widths.{elements_of};
-ghost use Rattle.faxgate.specs.RowLines.{line_of, lines_of, TellsRow, IsRowLine};
+ghost use Rattle.fax_command.specs.RowLines.{line_of, lines_of, TellsRow, IsRowLine};
 
 use fax_bits::NoMemory;
 use fax_runcodes::{Row, RowFault, Width};

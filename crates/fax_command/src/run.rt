@@ -1,8 +1,8 @@
 //! A run of `faxgate page`, over any streams.
 ghost use Rattle.std.specs.Prelude.{ℕ, List, ◌≡◌, ◌≢◌, ◌+◌, ◌<◌, ◌≤◌, ◌⊎◌, true, false, length, IfSome, OnOk};
 ghost use Rattle.std.specs.Io.KnownBytes.{Appends, Keeps};
-ghost use Rattle.faxgate.specs.Answers.{Answers};
-ghost use Rattle.faxgate.specs.Streams.{failed_after_write};
+ghost use Rattle.fax_command.specs.Answers.{Answers};
+ghost use Rattle.fax_command.specs.Streams.{failed_after_write};
 
 use crate::answer::{Answer, PageOptions, answer_to};
 use crate::input::{InputError, read_input};

@@ -16,7 +16,7 @@ pub enum Status {
 }
 
 impl Status {
-    ghost use Rattle.faxgate.specs.Statuses.{status_code};
+    ghost use Rattle.fax_command.specs.Statuses.{status_code};
 
     /// The exit status, from 0 to 4.
     pub fn code(self) -> u8

@@ -2,7 +2,7 @@
 //! failed, and whether what was written was handed on.
 ghost use Rattle.std.specs.Prelude.{ℕ, ◌≡◌, ◌+◌, ◌≤◌, ◌↔◌, Bool, true, false, List, Option, length, min, IfOk, OnOk, IsOk};
 ghost use Rattle.std.specs.Io.KnownBytes.{Appends, Keeps, ReadConsumes};
-ghost use Rattle.faxgate.specs.Streams.{failed_after_read, failed_after_write, given_after_read, greatest_count};
+ghost use Rattle.fax_command.specs.Streams.{failed_after_read, failed_after_write, given_after_read, greatest_count};
 
 use std::io;
 use std::io::{ErrorKind, Read, Write};

@@ -1,11 +1,7 @@
 //! Runs over streams in memory.
 mod samples;
 
-use crate::answer::PageOptions;
-use crate::command_line::page_options;
-use crate::run::run_page;
-use crate::stream::{StdSink, StdSource};
-use clap::error::ErrorKind;
+use crate::{PageOptions, StdSink, StdSource, run_page};
 use fax_bits::BitWriter;
 use fax_mhcode::write_line_1d;
 use fax_pagestore::{Coding, Format};
@@ -277,78 +273,6 @@ fn a_source_is_read_again(rt: HostRuntime) {
         assert_eq!(rt; found, status);
     }
     assert_eq!(rt; text.as_slice(), b"1728\nfault 1 NoEol\n".as_slice());
-}
-
-#[test]
-fn words_are_read(rt: HostRuntime) {
-    for (words, wanted) in [
-        (["faxgate", "page"].as_slice(), READ),
-        (["faxgate", "page", "--back"].as_slice(), BACK),
-        (
-            ["faxgate", "page", "--width", "2048", "--coding", "mr"].as_slice(),
-            options(Width::W2048, Coding::Mr, 0, false),
-        ),
-        (
-            [
-                "faxgate",
-                "page",
-                "--width=2432",
-                "--coding=mh",
-                "--least=65535",
-                "--back",
-            ]
-            .as_slice(),
-            options(Width::W2432, Coding::Mh, 65_535, true),
-        ),
-        (
-            ["faxgate", "page", "--width", "1728", "--least", "0"].as_slice(),
-            READ,
-        ),
-    ] {
-        match page_options(rt.alloc(), words) {
-            Ok(found) => assert_eq!(rt; found, wanted, "at {words:?}"),
-            Err(_) => assert!(rt; false, "at {words:?}"),
-        }
-    }
-    match page_options(rt.alloc(), &["faxgate", "page", "--fine"]) {
-        Ok(found) => assert!(rt; found.format.fine),
-        Err(_) => assert!(rt; false),
-    }
-}
-
-#[test]
-fn wrong_words_are_refused(rt: HostRuntime) {
-    for (words, kind) in [
-        (
-            ["faxgate", "page", "--help"].as_slice(),
-            ErrorKind::DisplayHelp,
-        ),
-        (
-            ["faxgate", "page", "--forth"].as_slice(),
-            ErrorKind::UnknownArgument,
-        ),
-        (
-            ["faxgate", "pages"].as_slice(),
-            ErrorKind::InvalidSubcommand,
-        ),
-        (
-            ["faxgate", "page", "--width", "1729"].as_slice(),
-            ErrorKind::InvalidValue,
-        ),
-        (
-            ["faxgate", "page", "--coding", "mmr"].as_slice(),
-            ErrorKind::InvalidValue,
-        ),
-        (
-            ["faxgate", "page", "--least", "65536"].as_slice(),
-            ErrorKind::ValueValidation,
-        ),
-    ] {
-        match page_options(rt.alloc(), words) {
-            Ok(_) => assert!(rt; false, "at {words:?}"),
-            Err(error) => assert_eq!(rt; error.kind(), kind, "at {words:?}"),
-        }
-    }
 }
 
 #[test]

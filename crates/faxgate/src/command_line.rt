@@ -1,7 +1,7 @@
 //! The command line.
-use crate::answer::PageOptions;
 use clap::builder::ValueParser;
 use clap::{Arg, ArgAction, ArgMatches, Command, Error};
+use fax_command::PageOptions;
 use fax_pagestore::{Coding, Format};
 use fax_runcodes::Width;
 use std::alloc::{AllocError, Global};

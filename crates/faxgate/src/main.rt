@@ -1,25 +1,16 @@
 //! `faxgate page` prints the rows of a page (ITU-T T.4), or the page of rows.
 #![tactic(auto)]
 
-mod answer;
 mod command_line;
-mod input;
-mod input_fault;
-mod lines;
-mod run;
-mod status;
-mod stream;
 #[cfg(test)]
 mod tests;
 
 use clap::error::ErrorKind;
 use command_line::page_options;
-use run::run_page;
-use status::Status;
+use fax_command::{Status, StdSink, StdSource, run_page};
 use std::process::ExitCode;
 use std::rt::Env;
 use std::{env, io};
-use stream::{StdSink, StdSource};
 
 fn main(rt: HostRuntime) -> ExitCode {
     ExitCode::from(run_words(&rt))

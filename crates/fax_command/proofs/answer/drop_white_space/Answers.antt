@@ -1,6 +1,6 @@
 use Rattle.std.proofs.Common.{rules, tests}
 use Rattle.std.proofs.lemmas.Fn.{filter_same}
-use Rattle.faxgate.proofs.answer.drop_white_space.Goals as goal
+use Rattle.fax_command.proofs.answer.drop_white_space.Goals as goal
 
 pub returns : goal.returns
 returns c = filter_same _ _ _ (λ x b q k. search (rules, tests)) _ _ c.retain.ensures.filtered

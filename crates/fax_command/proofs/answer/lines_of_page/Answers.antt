@@ -1,5 +1,5 @@
 use Rattle.std.proofs.lemmas.Result.{err_from_is_err_and}
-use Rattle.faxgate.proofs.answer.lines_of_page.Goals as goal
+use Rattle.fax_command.proofs.answer.lines_of_page.Goals as goal
 
 pub returns-in_err-octets : goal.returns-in_err-octets
 returns-in_err-octets c =

@@ -1,7 +1,7 @@
 use Rattle.std.proofs.Common.{◌∷◌, [], ◌++◌, take, refl, rules}
-use Rattle.faxgate.specs.RowLines.{line_of, TellsRow}
-use Rattle.faxgate.proofs.TellLemmas.{TellRows-push, text_of_lines-more, take_more_at}
-use Rattle.faxgate.proofs.answer.lines_of_rows.Goals as goal
+use Rattle.fax_command.specs.RowLines.{line_of, TellsRow}
+use Rattle.fax_command.proofs.TellLemmas.{TellRows-push, text_of_lines-more, take_more_at}
+use Rattle.fax_command.proofs.answer.lines_of_rows.Goals as goal
 
 pub loop-i-preserved : goal.loop-i-preserved
 loop-i-preserved g c =

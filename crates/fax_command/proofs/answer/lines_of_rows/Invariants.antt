@@ -1,6 +1,6 @@
 use Rattle.std.proofs.Common.{◌≡◌, ℕ, List, take}
-use Rattle.faxgate.specs.RowLines.{TellRows, text_of_lines}
-use Rattle.faxgate.proofs.answer.lines_of_rows.Given as goal
+use Rattle.fax_command.specs.RowLines.{TellRows, text_of_lines}
+use Rattle.fax_command.proofs.answer.lines_of_rows.Given as goal
 
 -- the rows so far are told
 abbrev pub invariant-loop-i : goal.invariant-loop-i

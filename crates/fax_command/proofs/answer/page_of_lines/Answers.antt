@@ -1,7 +1,7 @@
 use Rattle.std.proofs.Common.{subst}
 use Rattle.fax_pagestore.specs.Pages.{PageValue}
 use Rattle.fax_pagestore.specs.WrittenPages.{WritesPage}
-use Rattle.faxgate.proofs.answer.page_of_lines.Goals as goal
+use Rattle.fax_command.proofs.answer.page_of_lines.Goals as goal
 
 pub returns : goal.returns
 returns c =

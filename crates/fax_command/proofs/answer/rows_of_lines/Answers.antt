@@ -1,9 +1,9 @@
 use Rattle.std.proofs.Common.{◌≡◌, [], ◌∷◌, ◌++◌, length, refl, rules, arith, inl, inr, sym, ◌∙◌, ap, append_assoc, append-nil, length-append}
 use Rattle.std.proofs.lemmas.List.Elements.{All-push}
 use Rattle.fax_runcodes.specs.Widths.{elements_of}
-use Rattle.faxgate.specs.RowLines.{lines_of}
-use Rattle.faxgate.proofs.TellLemmas.{TellRows-push, TellRows-empty, ComesBehind-told}
-use Rattle.faxgate.proofs.answer.rows_of_lines.Goals as goal
+use Rattle.fax_command.specs.RowLines.{lines_of}
+use Rattle.fax_command.proofs.TellLemmas.{TellRows-push, TellRows-empty, ComesBehind-told}
+use Rattle.fax_command.proofs.answer.rows_of_lines.Goals as goal
 
 pub returns-then-number-ge-MOST_ROWS-clause-fault : goal.returns-then-number-ge-MOST_ROWS-clause-fault
 returns-then-number-ge-MOST_ROWS-clause-fault g c =

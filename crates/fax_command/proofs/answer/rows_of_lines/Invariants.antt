@@ -1,8 +1,8 @@
 use Rattle.std.proofs.Common.{◌≡◌, ◌≤◌, ℕ, List, ◌++◌, length, All}
 use Rattle.fax_pagestore.specs.PageRows.{most_rows}
 use Rattle.fax_runcodes.specs.Widths.{elements_of}
-use Rattle.faxgate.specs.RowLines.{TellRows, lines_of}
-use Rattle.faxgate.proofs.answer.rows_of_lines.Given as goal
+use Rattle.fax_command.specs.RowLines.{TellRows, lines_of}
+use Rattle.fax_command.proofs.answer.rows_of_lines.Given as goal
 
 -- the rows so far are told by the lines before the rest
 abbrev pub invariant-loop-line : goal.invariant-loop-line

@@ -1,6 +1,6 @@
 use Rattle.std.proofs.Common.{◌≡◌, ◌+◌, ◌≤◌, vec_len}
 use Rattle.std.specs.Io.KnownBytes.{Consumes}
-use Rattle.faxgate.proofs.input.read_input.Given as goal
+use Rattle.fax_command.proofs.input.read_input.Given as goal
 
 -- what was read so far, in as many reads as the loop has made turns
 abbrev pub invariant-loop : goal.invariant-loop

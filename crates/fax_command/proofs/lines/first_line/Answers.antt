@@ -1,8 +1,8 @@
 use Rattle.std.proofs.Common.{◌+◌, ◌∷◌, take, drop, rules, sym, ◌∙◌, ap, add-one}
 use Rattle.std.proofs.lemmas.List.{take_rest}
-use Rattle.faxgate.specs.RowLines.{lines_of}
-use Rattle.faxgate.proofs.RowLineLemmas.{lines_of_at, lines_of_whole}
-use Rattle.faxgate.proofs.lines.first_line.Goals as goal
+use Rattle.fax_command.specs.RowLines.{lines_of}
+use Rattle.fax_command.proofs.RowLineLemmas.{lines_of_at, lines_of_whole}
+use Rattle.fax_command.proofs.lines.first_line.Goals as goal
 
 pub returns-in-Some-clause-lines : goal.returns-in-Some-clause-lines
 returns-in-Some-clause-lines c =

@@ -3,8 +3,8 @@ use Rattle.std.proofs.Math.Dec.{eqb}
 use Rattle.std.proofs.lemmas.Iterator.Consumers.{YieldsList-at, YieldsList-end, YieldsList-turn}
 use Rattle.std.proofs.lemmas.Iterator.Splits.{YieldsList-from_slice_split}
 use Rattle.std.proofs.lemmas.List.Elements.{recursion_from_All}
-use Rattle.faxgate.proofs.RowLineLemmas.{line_of_parts, parts_of_line, same_numbers, short_by_sum, number_at}
-use Rattle.faxgate.proofs.lines.numbers_of.Goals as goal
+use Rattle.fax_command.proofs.RowLineLemmas.{line_of_parts, parts_of_line, same_numbers, short_by_sum, number_at}
+use Rattle.fax_command.proofs.lines.numbers_of.Goals as goal
 
 pub returns-clause-some : goal.returns-clause-some
 returns-clause-some c =

@@ -1,6 +1,6 @@
 use Rattle.std.proofs.Common.{◌≡◌, ◌<◌, ◌^◌, map, All}
 use Rattle.std.specs.Fmt.{decimal}
-use Rattle.faxgate.proofs.lines.numbers_of.Given as goal
+use Rattle.fax_command.proofs.lines.numbers_of.Given as goal
 
 -- the numbers so far are those of the parts so far
 abbrev pub invariant-loop-part : goal.invariant-loop-part

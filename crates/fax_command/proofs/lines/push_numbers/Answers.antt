@@ -1,10 +1,10 @@
 use Rattle.std.proofs.Common.{◌≡◌, ◌+◌, ◌++◌, [], ◌∷◌, take, get_or, arith, append_assoc}
 use Rattle.std.specs.Fmt.{decimal}
 use Rattle.std.proofs.lemmas.Grind.{common_steps}
-use Rattle.faxgate.specs.RowLines.{line_of}
-use Rattle.faxgate.proofs.RowLineLemmas.{line_of-take_more, line_of-take_first}
-use Rattle.faxgate.proofs.lines.push_numbers.Goals as goal
-use Rattle.faxgate.proofs.lines.push_numbers.Goals.{then-index-gt0+in_ok-push, else-index-gt0}
+use Rattle.fax_command.specs.RowLines.{line_of}
+use Rattle.fax_command.proofs.RowLineLemmas.{line_of-take_more, line_of-take_first}
+use Rattle.fax_command.proofs.lines.push_numbers.Goals as goal
+use Rattle.fax_command.proofs.lines.push_numbers.Goals.{then-index-gt0+in_ok-push, else-index-gt0}
 
 pub loop-index-preserved : goal.loop-index-preserved
 loop-index-preserved c =

@@ -1,6 +1,6 @@
 use Rattle.std.proofs.Common.{◌≡◌, ◌++◌, take}
-use Rattle.faxgate.specs.RowLines.{line_of}
-use Rattle.faxgate.proofs.lines.push_numbers.Given as goal
+use Rattle.fax_command.specs.RowLines.{line_of}
+use Rattle.fax_command.proofs.lines.push_numbers.Given as goal
 
 -- the numbers so far are printed
 abbrev pub invariant-loop-index : goal.invariant-loop-index

@@ -2,8 +2,8 @@ use Rattle.std.proofs.Common.{◌≡◌, length, sum, inl, inr, sym, ◌∙◌, 
 use Rattle.fax_runcodes.specs.declared.Colour.TheVariants.{White}
 use Rattle.fax_runcodes.specs.Rows.{AreRunsOfRow}
 use Rattle.fax_runcodes.specs.Widths.{elements_of}
-use Rattle.faxgate.proofs.TellLemmas.{length-stretches, runs_of_line, sum_of_runs}
-use Rattle.faxgate.proofs.lines.row_of_line.Goals as goal
+use Rattle.fax_command.proofs.TellLemmas.{length-stretches, runs_of_line, sum_of_runs}
+use Rattle.fax_command.proofs.lines.row_of_line.Goals as goal
 
 pub returns-in_default-clause-none : goal.returns-in_default-clause-none
 returns-in_default-clause-none c = λ is_line.

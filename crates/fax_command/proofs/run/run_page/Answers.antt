@@ -1,8 +1,8 @@
 use Rattle.std.proofs.Common.{◌≡◌, ◌∙◌, ap}
-use Rattle.faxgate.specs.AnswerValues.{status_of_answer, text_of_answer}
-use Rattle.faxgate.proofs.AnswerLemmas.{Answers-read, Answers-unread}
-use Rattle.faxgate.proofs.run.run_page.Goals as goal
-use Rattle.faxgate.proofs.run.run_page.Goals.{in-Ok, in-Err-NoMemory}
+use Rattle.fax_command.specs.AnswerValues.{status_of_answer, text_of_answer}
+use Rattle.fax_command.proofs.AnswerLemmas.{Answers-read, Answers-unread}
+use Rattle.fax_command.proofs.run.run_page.Goals as goal
+use Rattle.fax_command.proofs.run.run_page.Goals.{in-Ok, in-Err-NoMemory}
 
 pub returns-in-Ok-write_text-clause-answers : goal.returns-in-Ok-write_text-clause-answers
 returns-in-Ok-write_text-clause-answers g c = λ other.

@@ -1,0 +1,19 @@
+//! What the program's commands answer, over any streams of octets.
+#![tactic(auto)]
+
+mod answer;
+mod input;
+mod input_fault;
+mod lines;
+mod run;
+mod status;
+mod stream;
+#[cfg(test)]
+mod tests;
+
+pub use answer::PageOptions;
+pub use run::run_page;
+pub use status::Status;
+pub use stream::{
+    MOST_AT_ONCE, MOST_OCTETS, MOST_READS, ReadFault, Sink, Source, StdSink, StdSource, WriteFault,
+};

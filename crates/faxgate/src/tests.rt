@@ -1,0 +1,103 @@
+//! The words of the command line.
+use crate::command_line::page_options;
+use clap::error::ErrorKind;
+use fax_command::PageOptions;
+use fax_pagestore::{Coding, Format};
+use fax_runcodes::Width;
+
+/// Reads a page, with no option given.
+const READ: PageOptions = PageOptions {
+    format: Format {
+        width: Width::W1728,
+        fine: false,
+    },
+    coding: Coding::Mh,
+    least_bits: 0,
+    back: false,
+};
+
+/// Writes a page, with no other option given.
+const BACK: PageOptions = PageOptions { back: true, ..READ };
+
+/// A page of a width and a coding, in the standard resolution.
+fn options(width: Width, coding: Coding, least_bits: u32, back: bool) -> PageOptions {
+    let format = Format { width, fine: false };
+    PageOptions {
+        format,
+        coding,
+        least_bits,
+        back,
+    }
+}
+
+#[test]
+fn words_are_read(rt: HostRuntime) {
+    for (words, wanted) in [
+        (["faxgate", "page"].as_slice(), READ),
+        (["faxgate", "page", "--back"].as_slice(), BACK),
+        (
+            ["faxgate", "page", "--width", "2048", "--coding", "mr"].as_slice(),
+            options(Width::W2048, Coding::Mr, 0, false),
+        ),
+        (
+            [
+                "faxgate",
+                "page",
+                "--width=2432",
+                "--coding=mh",
+                "--least=65535",
+                "--back",
+            ]
+            .as_slice(),
+            options(Width::W2432, Coding::Mh, 65_535, true),
+        ),
+        (
+            ["faxgate", "page", "--width", "1728", "--least", "0"].as_slice(),
+            READ,
+        ),
+    ] {
+        match page_options(rt.alloc(), words) {
+            Ok(found) => assert_eq!(rt; found, wanted, "at {words:?}"),
+            Err(_) => assert!(rt; false, "at {words:?}"),
+        }
+    }
+    match page_options(rt.alloc(), &["faxgate", "page", "--fine"]) {
+        Ok(found) => assert!(rt; found.format.fine),
+        Err(_) => assert!(rt; false),
+    }
+}
+
+#[test]
+fn wrong_words_are_refused(rt: HostRuntime) {
+    for (words, kind) in [
+        (
+            ["faxgate", "page", "--help"].as_slice(),
+            ErrorKind::DisplayHelp,
+        ),
+        (
+            ["faxgate", "page", "--forth"].as_slice(),
+            ErrorKind::UnknownArgument,
+        ),
+        (
+            ["faxgate", "pages"].as_slice(),
+            ErrorKind::InvalidSubcommand,
+        ),
+        (
+            ["faxgate", "page", "--width", "1729"].as_slice(),
+            ErrorKind::InvalidValue,
+        ),
+        (
+            ["faxgate", "page", "--coding", "mmr"].as_slice(),
+            ErrorKind::InvalidValue,
+        ),
+        (
+            ["faxgate", "page", "--least", "65536"].as_slice(),
+            ErrorKind::ValueValidation,
+        ),
+    ] {
+        match page_options(rt.alloc(), words) {
+            Ok(_) => assert!(rt; false, "at {words:?}"),
+            Err(error) => assert_eq!(rt; error.kind(), kind, "at {words:?}"),
+        }
+    }
+}
