@@ -5,6 +5,7 @@ mod Examples
 mod Fitting
 mod Forwarding
 mod Going
+mod Hearing
 mod Held
 mod IdleLegs
 mod InCalls
@@ -14,5 +15,6 @@ mod Replied
 mod Reporting
 mod ServedAlone
 mod States
+mod Steps
 mod WholeCall
 mod OfTheirCalls

@@ -8,7 +8,9 @@ pub mod Forwards
 pub mod GoesOn
 pub mod Lacking
 pub mod Legs
+pub mod FaultNumbers
 pub mod Origins
+pub mod Reached
 pub mod Reports
 pub mod ReportsTold
 pub mod Sides

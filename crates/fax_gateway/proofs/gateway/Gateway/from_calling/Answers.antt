@@ -1,0 +1,34 @@
+use Rattle.std.proofs.Common.{◌≡◌, ℕ, true, false, Bool, not, ◌&&◌, Option, refl, sym, ◌∙◌, ap, subst}
+use Rattle.fax_call.specs.Writings.{Writing}
+use Rattle.fax_gateway.specs.CallingLegs.{CallingLeg, calling_leg, idle_after}
+use Rattle.fax_gateway.specs.Reached.{GatewayValue, IsCalling, IsReachedBy, HearsCalling}
+use Rattle.fax_gateway.proofs.Steps.{hears_from}
+use Rattle.fax_gateway.proofs.gateway.Gateway.from_calling.Goals as goal
+
+pub returns-then-has_ended-clause-heard : goal.returns-then-has_ended-clause-heard
+returns-then-has_ended-clause-heard g c writes trace r =
+    let inside = c.self.inside in
+    let s = subst (λ (k : GatewayValue). IsReachedBy writes trace k) (sym c.self.view_is) r in
+    let old : GatewayValue = record { clock = inside.clock; rings = inside.rings; calling = inside.calling; called = inside.called; book = inside.jobs } in
+    let new : GatewayValue = record { clock = c.read-now.new.self; rings = inside.rings; calling = c.hear.new.self; called = inside.called; book = c.end_call.new.self } in
+    hears_from writes trace c.args.octets.now c.args.now c.in_ok-decided.decided true old new s c.read-now.ensures.later refl refl
+    (c.in_ok-decided.ensures.decided (calling_leg trace) s.calling)
+    (subst (λ (m : ℕ). HearsCalling (calling_leg trace) m c.args.octets.now c.hear.new.self) c.read-now.ensures.moment (c.in_ok-decided.ensures.heard (calling_leg trace) s.calling))
+    (λ (leg : Option CallingLeg) (h : IsCalling leg c.hear.new.self).
+    sym c.if-has_ended.true ∙ c.has_ended.ensures ∙ ap (λ (b : Bool). not b && c.is_idle.result) (c.is_idle-was_idle.ensures.idle (calling_leg trace) s.calling)
+    ∙ ap (λ (b : Bool). not (idle_after (calling_leg trace)) && b) (c.is_idle.ensures.idle leg h))
+    c.end_call.ensures
+
+pub returns-else-has_ended-clause-heard : goal.returns-else-has_ended-clause-heard
+returns-else-has_ended-clause-heard g c writes trace r =
+    let inside = c.self.inside in
+    let s = subst (λ (k : GatewayValue). IsReachedBy writes trace k) (sym c.self.view_is) r in
+    let old : GatewayValue = record { clock = inside.clock; rings = inside.rings; calling = inside.calling; called = inside.called; book = inside.jobs } in
+    let new : GatewayValue = record { clock = c.read-now.new.self; rings = inside.rings; calling = c.hear.new.self; called = inside.called; book = inside.jobs } in
+    hears_from writes trace c.args.octets.now c.args.now c.in_ok-decided.decided false old new s c.read-now.ensures.later refl refl
+    (c.in_ok-decided.ensures.decided (calling_leg trace) s.calling)
+    (subst (λ (m : ℕ). HearsCalling (calling_leg trace) m c.args.octets.now c.hear.new.self) c.read-now.ensures.moment (c.in_ok-decided.ensures.heard (calling_leg trace) s.calling))
+    (λ (leg : Option CallingLeg) (h : IsCalling leg c.hear.new.self).
+    sym c.if-has_ended.false ∙ c.has_ended.ensures ∙ ap (λ (b : Bool). not b && c.is_idle.result) (c.is_idle-was_idle.ensures.idle (calling_leg trace) s.calling)
+    ∙ ap (λ (b : Bool). not (idle_after (calling_leg trace)) && b) (c.is_idle.ensures.idle leg h))
+    refl

@@ -1,0 +1,103 @@
+-- What a gateway keeps that a trace has led to.
+use Rattle.std.specs.Prelude.{◌≡◌, ℕ, Bool, true, List, [], ◌∷◌, Option, Some, None}
+use Rattle.fax_udptl.specs.Datagrams.{DatagramValue}
+use Rattle.fax_udptl.specs.Sending.{HasSent}
+use Rattle.fax_udptl.specs.Slots.{newest_slots}
+use Rattle.fax_udptl.specs.Taking.{IsAfter}
+use Rattle.fax_jobs.specs.Jobs.{JobValue}
+use Rattle.fax_jobs.specs.Books.{Book}
+use Rattle.fax_answer.specs.Table.{Reading}
+use Rattle.fax_answer.specs.Calls.{Answering, new_answering}
+use Rattle.fax_answer.specs.Confirmation.{IsRead}
+use Rattle.fax_answer.specs.Reached as answer
+use Rattle.fax_call.specs.Writings.{Writing}
+use Rattle.fax_call.specs.Calls.{new_calling}
+use Rattle.fax_call.specs.Reached as call
+use Rattle.fax_gateway.specs.declared.leg.Leg.{Leg}
+use Rattle.fax_gateway.specs.declared.called.CalledSide.{CalledSide}
+use Rattle.fax_gateway.specs.Events.{Event, FromCalling, clock, rings}
+use Rattle.fax_gateway.specs.CallingLegs as calling_legs
+use Rattle.fax_gateway.specs.CallingLegs.{CallingLeg, calling_leg, calling_after, decided_calling, question}
+use Rattle.fax_gateway.specs.CalledLegs as called_legs
+use Rattle.fax_gateway.specs.CalledLegs.{CalledLeg}
+use Rattle.fax_gateway.specs.Sides.{book_of, sides}
+use Rattle.fax_gateway.specs.Traces.{IsTrace}
+
+-- A LEG in a call: these datagrams came, and these packets were given, the newest first
+pub record IsLeg (arrived : List DatagramValue) (given : List (List ℕ)) (leg : Leg) : Type 0 where
+  pub receiver : IsAfter arrived leg.receiver
+  pub sender : HasSent given leg.sender
+
+-- THE CALLING SIDE: the number of the last call, what is kept of it, and its leg
+pub record CallingValue : Type 0 where
+  pub number : ℕ
+  pub kept : answer.Kept
+  pub leg : Leg
+
+-- the core, the datagrams and the packets of the last call; before the first they are new
+abbrev pub answering_of : Option CallingLeg → Answering
+answering_of None = new_answering
+answering_of (Some l) = calling_legs.core_of l
+
+abbrev pub arrived_on : Option CallingLeg → List DatagramValue
+arrived_on None = []
+arrived_on (Some l) = l.arrived
+
+abbrev pub given_on : Option CallingLeg → List (List ℕ)
+given_on None = []
+given_on (Some l) = l.given
+
+abbrev pub HasNumber : Option CallingLeg → ℕ → Type 0
+HasNumber None number = Unit {0}
+HasNumber (Some l) number = l.number ≡ number
+
+-- the last call led to it
+pub record IsCalling (leg : Option CallingLeg) (side : CallingValue) : Type 0 where
+  pub number : HasNumber leg side.number
+  pub core : answer.IsReached (newest_slots (arrived_on leg)) (answering_of leg) side.kept
+  pub on_leg : IsLeg (arrived_on leg) (given_on leg) side.leg
+
+-- a datagram came, by one reading that is right
+abbrev pub heard_on : Option CallingLeg → ℕ → List ℕ → Reading → Option CallingLeg
+heard_on leg now octets read = calling_after leg now (FromCalling octets now true read)
+
+pub record HearsCalling (leg : Option CallingLeg) (now : ℕ) (octets : List ℕ) (side : CallingValue) : Type 0 where
+  pub read : Reading
+  pub right : IsRead (question leg now octets) read
+  pub calling : IsCalling (heard_on leg now octets read) side
+
+-- THE CALLED SIDE, in the call of a job; before the first one no call was on
+abbrev pub IsCaller : Writing → Option CalledLeg → call.Kept → Type 0
+IsCaller writes None kept = (job : JobValue) → call.IsReached writes job [] (new_calling kept.procedure.format) kept
+IsCaller writes (Some l) kept = call.IsReached writes l.job (newest_slots l.arrived) (called_legs.core_of writes l) kept
+
+abbrev pub IsCalledLeg : Option CalledLeg → Leg → Type 0
+IsCalledLeg None leg = Unit {0}
+IsCalledLeg (Some l) leg = IsLeg l.arrived l.given leg
+
+-- the call of the last job led to it
+pub record IsCalled (writes : Writing) (leg : Option CalledLeg) (side : CalledSide) : Type 0 where
+  pub core : IsCaller writes leg side.caller
+  pub on_leg : IsCalledLeg leg side.leg
+
+-- THE GATEWAY
+pub record GatewayValue : Type 0 where
+  pub clock : ℕ
+  pub rings : ℕ
+  pub calling : CallingValue
+  pub called : CalledSide
+  pub book : Book
+
+-- the trace led to it, where this function gives the texts of pages
+pub record IsReachedBy (writes : Writing) (trace : List Event) (gateway : GatewayValue) : Type 0 where
+  pub is_trace : IsTrace writes trace
+  pub at : gateway.clock ≡ clock trace
+  pub rung : gateway.rings ≡ rings trace
+  pub calling : IsCalling (calling_leg trace) gateway.calling
+  pub called : IsCalled writes (sides writes trace).leg gateway.called
+  pub book : gateway.book ≡ book_of (sides writes trace)
+
+-- one more datagram of the calling leg led to it, by one reading that is right
+pub record HearsFrom (writes : Writing) (trace : List Event) (octets : List ℕ) (now : ℕ) (decided : Bool) (gateway : GatewayValue) : Type 0 where
+  pub read : Reading
+  pub reached : IsReachedBy writes (FromCalling octets now decided read ∷ trace) gateway

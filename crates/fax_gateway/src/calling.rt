@@ -1,0 +1,84 @@
+//! The calling leg: who calls is answered there.
+ghost use Rattle.std.specs.Prelude.{◌≡◌, ◌↔◌, ℕ, true, IsTrue, Option, Some, None, IfOk, OnOk, OnErr};
+ghost use Rattle.fax_gateway.specs.CallingLegs.{CallingLeg, decided_calling, idle_after, rung_leg};
+ghost use Rattle.fax_gateway.specs.Reached.{IsCalling, HearsCalling, answering_of};
+
+use crate::leg::Leg;
+use fax_answer::{Answerer, State};
+use fax_bits::NoMemory;
+use fax_pagestore::RowStore;
+use std::alloc::Global;
+use std::marker::Model;
+
+/// The answering side of the calling leg, with the number of its last call.
+#[derive(Drop)]
+pub(crate) struct CallingSide<S: RowStore> {
+    alloc: Global,
+    number: u32,
+    answerer: Answerer<S>,
+    leg: Leg,
+}
+
+impl<S: RowStore> Model for CallingSide<S> {
+    ghost use Rattle.fax_gateway.specs.Reached.{CallingValue};
+
+    ghost Value = { CallingValue };
+
+    ghost view = { λ s. record { number = s.number; kept = s.answerer; leg = s.leg } };
+}
+
+impl<S: RowStore> CallingSide<S> {
+    /// A side on whose leg no call was. It takes memory for the leg.
+    pub fn new(alloc: Global) -> Result<Self, NoMemory>
+        ensures { IfOk result (λ side. IsCalling None side) }
+    {
+        let leg = Leg::new(alloc)?;
+        Ok(CallingSide {
+            alloc,
+            number: 0,
+            answerer: Answerer::new(alloc),
+            leg,
+        })
+    }
+
+    /// Whether no call is on.
+    pub fn is_idle(&self) -> bool
+        ensures idle { (leg : Option CallingLeg) → IsCalling leg self.now → result ≡ idle_after leg }
+        ensures state { IsTrue result ↔ (self.now.kept.procedure.state ≡ State.Idle) }
+    {
+        self.answerer.state() == State::Idle
+    }
+
+    /// A ring, where no call is on: the call of this number begins. It takes memory for its leg. An `Err` changes nothing.
+    pub fn ring(&mut self, number: u32, now: u64) -> Result<(), NoMemory>
+        requires { self.old.kept.procedure.state ≡ State.Idle }
+        ensures rung { OnOk result ((leg : Option CallingLeg) → IsCalling leg self.old
+            → IsCalling (Some (rung_leg (answering_of leg) now number)) self.new) }
+        ensures err { OnErr result (self.new ≡ self.old) }
+    {
+        self.leg = Leg::new(self.alloc)?;
+        self.number = number;
+        self.answerer.ring(now);
+        Ok(())
+    }
+
+    /// A datagram came: the octets of it. It answers whether it decided a slot, and it takes memory only where it did. An
+    /// `Err` changes nothing.
+    pub fn hear(&mut self, octets: &[u8], now: u64) -> Result<bool, NoMemory>
+        ensures heard { OnOk result ((leg : Option CallingLeg) → IsCalling leg self.old → HearsCalling leg now octets.now self.new) }
+        ensures decided { IfOk result (λ decided. (leg : Option CallingLeg) → IsCalling leg self.old → decided ≡ decided_calling leg octets.now) }
+        ensures memory { OnErr result ((leg : Option CallingLeg) → IsCalling leg self.old → decided_calling leg octets.now ≡ true) }
+        ensures err { OnErr result (self.new ≡ self.old) }
+    {
+        if self.is_idle() {
+            return Ok(false);
+        }
+        let mut receiver = self.leg.receiver.copy();
+        let Ok(decided) = receiver.take(octets) else {
+            return Ok(false);
+        };
+        self.answerer.slots(&decided, now)?;
+        self.leg.receiver = receiver;
+        Ok(!decided.is_empty())
+    }
+}

@@ -1,0 +1,44 @@
+//! Why a ring is refused.
+ghost use Rattle.std.specs.Prelude.{◌≡◌};
+
+use fax_bits::NoMemory;
+use thiserror::Error;
+
+/// Why a ring is refused (this project's profile). Where several causes hold, the first of these is told.
+#[derive(Clone, Copy, PartialEq, Eq, Debug, Error)]
+pub enum RingFault {
+    /// A call is on.
+    #[error("a call is on")]
+    Busy,
+    /// The number 4,294,967,295 was given, behind which there is none.
+    #[error("no number is left")]
+    NoNumber,
+    #[error("out of memory")]
+    NoMemory,
+}
+
+impl RingFault {
+    ghost use Rattle.fax_gateway.specs.FaultNumbers.{ring_fault_number};
+
+    /// The fault's number, from 1 to 3.
+    pub fn number(self) -> u8
+        ensures { result ≡ ring_fault_number self }
+    {
+        match self {
+            RingFault::Busy => 1,
+            RingFault::NoNumber => 2,
+            RingFault::NoMemory => 3,
+        }
+    }
+}
+
+impl From<NoMemory> for RingFault {
+    ghost use Rattle.std.specs.Prelude.{◌≡◌};
+    ghost use Rattle.fax_gateway.specs.declared.fault.RingFault.TheVariants as ring_faults;
+
+    ghost from_gives = { λ _ e. e ≡ ring_faults.NoMemory };
+
+    fn from(_: NoMemory) -> Self {
+        RingFault::NoMemory
+    }
+}
