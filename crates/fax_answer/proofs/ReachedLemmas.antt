@@ -26,9 +26,9 @@ holds_same h k i e s = subst (λ (x : List Entry). Holds x i) (sym e) s
 -- A TICK that gives nothing
 pub reached_rests : (heard : List Slot) (core : Answering) (now : ℕ) (old : Kept) (procedure : Procedure) → IsReached heard core old → Follows (timed core now) old.confirmed procedure
     → gives_now (timed core now) now ≡ false
-    → IsReached heard (ticked core now).core (record { tracked = old.tracked; procedure = procedure; image = old.image; confirmed = old.confirmed })
+    → IsReached heard (ticked core now).core (record { tracked = old.tracked; procedure = procedure; image = old.image; confirmed = old.confirmed; spare = old.spare })
 reached_rests heard core now old procedure r f none =
-    let new : Kept = record { tracked = old.tracked; procedure = procedure; image = old.image; confirmed = old.confirmed } in
+    let new : Kept = record { tracked = old.tracked; procedure = procedure; image = old.image; confirmed = old.confirmed; spare = old.spare } in
     let there : IsReached heard (timed core now) new = record {
       tracked = r.tracked;
       stands = record { follows = f; holds = holds_same core.history (timed core now).history old.image (timed_history core now) r.stands.holds };
@@ -41,12 +41,12 @@ step_rests {S = S} core now none =
     subst (λ (t : Ticked). IsStep {S = S} t s) (sym (ticked_rests core now none)) (record { packet = refl; confirmed = refl; ends = refl })
 
 -- and one that gives a packet
-pub reached_gives : (heard : List Slot) (core : Answering) (now : ℕ) (old : Kept) (acted procedure : Procedure) (ended : Bool) → IsReached heard core old
+pub reached_gives : (heard : List Slot) (core : Answering) (now : ℕ) (old : Kept) (acted procedure : Procedure) (ended : Bool) (spare : ℕ) → IsReached heard core old
     → GivesNext (timed core now) old.confirmed now acted procedure ended → gives_now (timed core now) now ≡ true
-    → IsReached heard (ticked core now).core (record { tracked = old.tracked; procedure = procedure; image = old.image; confirmed = confirmed_left procedure.pending old.confirmed })
-reached_gives heard core now old acted procedure ended r n gives =
+    → IsReached heard (ticked core now).core (record { tracked = old.tracked; procedure = procedure; image = old.image; confirmed = confirmed_left procedure.pending old.confirmed; spare = spare })
+reached_gives heard core now old acted procedure ended spare r n gives =
     let a : Answering = timed core now in
-    let new : Kept = record { tracked = old.tracked; procedure = procedure; image = old.image; confirmed = confirmed_left procedure.pending old.confirmed } in
+    let new : Kept = record { tracked = old.tracked; procedure = procedure; image = old.image; confirmed = confirmed_left procedure.pending old.confirmed; spare = spare } in
     let same = given_history a now a.waiting ∙ timed_history core now in
     let there : IsReached heard (given_first a now a.waiting).core new = record {
       tracked = r.tracked;

@@ -20,13 +20,14 @@ use Rattle.fax_answer.specs.Kept.{verdict_of}
 use Rattle.fax_answer.specs.Images.{ImageValue, open_octets, ended_octets, run_behind, longest_behind}
 use Rattle.fax_answer.specs.Following.{Follows, confirmed_behind}
 
--- what is left of the slots for frames and images to come, the procedure, the octets of images, and the page that the
--- MCF that waits confirms
+-- what is left of the slots for frames and images to come, the procedure, the octets of images, the page that the MCF
+-- that waits confirms, and for how many packets memory is reserved
 pub record Kept : Type 0 where
   pub tracked : Tracked
   pub procedure : Procedure
   pub image : ImageValue
   pub confirmed : Option ConfirmedPage
+  pub spare : ℕ
 
 -- the octets of images that a history leaves: those of the open image, and those of the last that ended where it may
 -- still be asked what it means

@@ -1,5 +1,5 @@
 //! The answering side of a call.
-ghost use Rattle.std.specs.Prelude.{◌≡◌, List, [], None, IsSome, IfOk, OnErr, if◌then◌else◌};
+ghost use Rattle.std.specs.Prelude.{◌≡◌, ◌≤◌, List, [], None, IsSome, IfOk, OnOk, OnErr, if◌then◌else◌};
 ghost use Rattle.fax_ifp.specs.Elements.{Slot as SlotShown};
 ghost use Rattle.fax_answer.specs.Calls.{Answering, new_answering, rung, ticked};
 ghost use Rattle.fax_answer.specs.Reached.{IsReached};
@@ -8,6 +8,7 @@ ghost use Rattle.fax_answer.specs.Shown.{IsStep};
 use crate::State;
 use crate::image::Image;
 use crate::procedure::Procedure;
+use crate::room::Room;
 use crate::step::{Confirmed, Step};
 use fax_bits::NoMemory;
 use fax_ifp::Signals;
@@ -25,6 +26,8 @@ pub struct Answerer<S: RowStore> {
     pub(crate) image: Image,
     /// The page that the MCF confirms that waits.
     pub(crate) confirmed: Option<Confirmed<S>>,
+    /// The room for the packet of the next tick.
+    pub(crate) room: Room,
 }
 
 impl<S: RowStore> Model for Answerer<S> {
@@ -35,7 +38,7 @@ impl<S: RowStore> Model for Answerer<S> {
 
     ghost Value = { Kept };
 
-    ghost view = { λ a. record { tracked = a.signals; procedure = a.procedure; image = a.image; confirmed = confirmed_shown a.confirmed } };
+    ghost view = { λ a. record { tracked = a.signals; procedure = a.procedure; image = a.image; confirmed = confirmed_shown a.confirmed; spare = a.room } };
 
     ghost invariant = { λ a. a.procedure.pending ≡ Nothing → a.confirmed ≡ None };
 }
@@ -51,14 +54,16 @@ impl<S: RowStore> Answerer<S> {
             procedure: Procedure::new(),
             image: Image::new(alloc),
             confirmed: None,
+            room: Room::none(),
         }
     }
 
     /// A ring, where no call is on: CED and our DIS wait, and T1 is set. It takes no memory.
     pub fn ring(&mut self, now: u64)
         requires { self.old.procedure.state ≡ State.Idle }
-        ensures { (heard : List SlotShown) (core : Answering) → IsReached heard core self.old
+        ensures rung { (heard : List SlotShown) (core : Answering) → IsReached heard core self.old
             → IsReached [] (rung core now) self.new }
+        ensures spare { self.new.spare ≡ self.old.spare }
     {
         self.signals = Signals::new(self.alloc);
         self.procedure.ring(now);
@@ -73,15 +78,27 @@ impl<S: RowStore> Answerer<S> {
         self.procedure.state
     }
 
+    /// Reserves memory, where none is reserved: after an `Ok` the next tick takes none. An `Err` changes nothing.
+    pub fn reserve(&mut self) -> Result<(), NoMemory>
+        ensures room { OnOk result (1 ≤ self.new.spare) }
+        ensures reached { (heard : List SlotShown) (core : Answering) → IsReached heard core self.old
+            → IsReached heard core self.new }
+        ensures same { self.new ≡ record self.old { spare = self.new.spare } }
+        ensures err { OnErr result (self.new ≡ self.old) }
+    {
+        self.room.reserve(self.alloc)
+    }
+
     /// Time goes on: where no packet waits a timer that is due acts, and then at most one packet is given, where one waits
-    /// and the pace allows. The MCF that confirms a page is given with the page. It takes memory for the packet, and none
-    /// where none is given. An `Err` changes nothing.
+    /// and the pace allows. The MCF that confirms a page is given with the page. It takes memory for the packet where none
+    /// is reserved, and none where no packet is given. An `Err` changes nothing.
     pub fn tick(&mut self, now: u64) -> Result<Step<S>, NoMemory>
         ensures ticked { IfOk result (λ step. (heard : List SlotShown) (core : Answering) → IsReached heard core self.old
             → IsReached heard (ticked core now).core self.new × IsStep (ticked core now) step) }
         ensures err { OnErr result (self.new ≡ self.old) }
         ensures memory { OnErr result ((heard : List SlotShown) (core : Answering) → IsReached heard core self.old
             → IsSome (ticked core now).given) }
+        ensures spared { OnErr result (self.old.spare ≡ 0) }
     {
         let mut procedure = self.procedure;
         procedure.act(now);
@@ -93,7 +110,8 @@ impl<S: RowStore> Answerer<S> {
                 ended: false,
             });
         }
-        let packet = procedure.pending.packet(self.alloc)?;
+        let room = self.room.take(self.alloc)?;
+        let packet = procedure.pending.packet(room);
         let ended = procedure.give(now);
         let confirmed = take_if(&mut self.confirmed, !procedure.is_waiting());
         self.procedure = procedure;

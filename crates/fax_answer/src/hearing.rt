@@ -35,6 +35,7 @@ impl<S: RowStore> Answerer<S> {
         ensures ended { IfOk result (λ ended. IsTrue ended ↔ (self.new.procedure.state ≡ State.Idle)) }
         ensures err { OnErr result (self.new ≡ self.old) }
         ensures no_packet { decided.now.packets ≡ [] → IsOk result }
+        ensures spare { self.new.spare ≡ self.old.spare }
     {
         let signals = self.signals.copy();
         let procedure = self.procedure;
@@ -59,6 +60,7 @@ impl<S: RowStore> Answerer<S> {
         ensures front { take (length self.old.image.octets) self.new.image.octets ≡ self.old.image.octets }
         ensures waits { self.old.procedure.pending ≢ Pending.Nothing → self.new.confirmed ≡ self.old.confirmed }
         ensures no_packet { decided.now.packets ≡ [] → IsOk result }
+        ensures spare { self.new.spare ≡ self.old.spare }
     {
         self.lose(decided.lost(), now);
         let mut pieces = Pieces::new(self.alloc);
@@ -76,6 +78,7 @@ impl<S: RowStore> Answerer<S> {
         ensures image { self.new.image ≡ self.old.image }
         ensures pending { self.new.procedure.pending ≡ self.old.procedure.pending }
         ensures confirmed { self.new.confirmed ≡ self.old.confirmed }
+        ensures spare { self.new.spare ≡ self.old.spare }
     {
         self.signals.lose(count);
         if count > 0 {
@@ -88,6 +91,7 @@ impl<S: RowStore> Answerer<S> {
         ensures heard { OnOk result ((core : Answering) → Stands core self.old
             → TakesAll (pieces_shown pieces.now) now core self.new) }
         ensures tracked { self.new.tracked ≡ self.old.tracked }
+        ensures spare { self.new.spare ≡ self.old.spare }
         ensures front { take (length self.old.image.octets) self.new.image.octets ≡ self.old.image.octets }
         ensures waits { self.old.procedure.pending ≢ Pending.Nothing
             → (self.new.procedure.pending ≡ self.old.procedure.pending) × (self.new.confirmed ≡ self.old.confirmed) }
@@ -103,6 +107,7 @@ impl<S: RowStore> Answerer<S> {
         ensures heard { OnOk result ((core : Answering) → Stands core self.old
             → Takes (piece_of piece.now) now core self.new) }
         ensures tracked { self.new.tracked ≡ self.old.tracked }
+        ensures spare { self.new.spare ≡ self.old.spare }
         ensures front { take (length self.old.image.octets) self.new.image.octets ≡ self.old.image.octets }
         ensures waits { self.old.procedure.pending ≢ Pending.Nothing
             → (self.new.procedure.pending ≡ self.old.procedure.pending) × (self.new.confirmed ≡ self.old.confirmed) }
@@ -133,6 +138,7 @@ impl<S: RowStore> Answerer<S> {
         ensures heard { OnOk result ((core : Answering) → Stands core self.old
             → Takes (FrameShown octets.now) now core self.new) }
         ensures tracked { self.new.tracked ≡ self.old.tracked }
+        ensures spare { self.new.spare ≡ self.old.spare }
         ensures image { self.new.image ≡ self.old.image }
         ensures waits { self.old.procedure.pending ≢ Pending.Nothing
             → (self.new.procedure.pending ≡ self.old.procedure.pending) × (self.new.confirmed ≡ self.old.confirmed) }

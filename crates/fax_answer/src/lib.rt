@@ -15,6 +15,7 @@ mod image;
 pub mod laws;
 mod pending;
 mod procedure;
+mod room;
 mod state;
 mod step;
 #[cfg(test)]

@@ -1,12 +1,13 @@
 //! The packets that wait.
-ghost use Rattle.std.specs.Prelude.{◌≡◌, ◌≢◌, ◌≤◌, length, IfOk};
-ghost use Rattle.fax_ifp.specs.WrittenPackets.{written_indicator};
+ghost use Rattle.std.specs.Prelude.{◌≡◌, ◌≢◌, ◌≤◌, [], length, vec_capacity};
 ghost use Rattle.fax_answer.specs.Pending.{frame_text, packet_text};
 
-use fax_bits::{NoMemory, Octets};
+use fax_bits::Octets;
 use fax_frames::{FrameBytes, OUR_DIS, Plain, write_dis, write_plain};
-use fax_ifp::{Indicator, write_frame, write_indicator};
-use std::alloc::Global;
+use fax_ifp::{Indicator, put_frame, put_indicator};
+
+/// How many octets the longest packet of this side has: that of our DIS.
+pub(crate) const LONGEST: usize = 12;
 
 /// A frame that the answering side gives.
 #[derive(Clone, Copy, PartialEq, Eq)]
@@ -22,7 +23,7 @@ impl Reply {
     fn frame(self) -> FrameBytes
         ensures text { result.items ≡ frame_text self }
         ensures some { 1 ≤ length result.items }
-        ensures few { length result.items ≤ 256 }
+        ensures few { length result.items ≤ 6 }
     {
         match self {
             Reply::Dis => write_dis(&OUR_DIS),
@@ -42,24 +43,19 @@ pub(crate) enum Pending {
 }
 
 impl Pending {
-    /// The packet that is given next.
-    pub fn packet(self, alloc: Global) -> Result<Octets, NoMemory>
-        requires { self ≢ Pending.Nothing }
-        ensures { IfOk result (λ octets. octets ≡ packet_text self) }
+    /// The packet that is given next, put into a list with room for any. It takes no memory.
+    pub fn packet(self, mut octets: Vec<u8>) -> Octets
+        requires some { self ≢ Pending.Nothing }
+        requires empty { octets.items ≡ [] }
+        requires enough { LONGEST ≤ vec_capacity octets }
+        ensures { result ≡ packet_text self }
     {
         match self {
             Pending::Nothing => unreachable!(),
-            Pending::Tone => indicator(alloc, Indicator::Ced.code()),
-            Pending::Preamble(_) => indicator(alloc, Indicator::V21Preamble.code()),
-            Pending::Frame(reply) => write_frame(alloc, reply.frame().as_slice()),
+            Pending::Tone => put_indicator(&mut octets, Indicator::Ced.code()),
+            Pending::Preamble(_) => put_indicator(&mut octets, Indicator::V21Preamble.code()),
+            Pending::Frame(reply) => put_frame(&mut octets, reply.frame().as_slice()),
         }
+        Octets::from_vec(octets)
     }
-}
-
-/// The packet of an indicator.
-fn indicator(alloc: Global, code: u8) -> Result<Octets, NoMemory>
-    requires { code ≤ 15 }
-    ensures { IfOk result (λ octets. octets ≡ written_indicator code) }
-{
-    Ok(Octets::from_vec(Vec::from_slice(alloc, &write_indicator(code))?))
 }

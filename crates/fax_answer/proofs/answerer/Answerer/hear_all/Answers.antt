@@ -19,4 +19,5 @@ loop-piece-preserved g c =
           let m = before.waits n in
           let k = c.hear.ensures.waits (λ e. n (sym m.0 ∙ e)) in
           (k.0 ∙ m.0, k.1 ∙ m.1);
+      spare = c.hear.ensures.spare ∙ before.spare;
     }

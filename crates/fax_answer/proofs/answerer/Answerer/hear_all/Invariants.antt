@@ -12,4 +12,5 @@ invariant-loop-piece g l = record {
   tracked : l.self.tracked ≡ l.fn.self.tracked;
   front : take (length l.fn.self.image.octets) l.self.image.octets ≡ l.fn.self.image.octets;
   waits : l.fn.self.procedure.pending ≢ Nothing → (l.self.procedure.pending ≡ l.fn.self.procedure.pending) × (l.self.confirmed ≡ l.fn.self.confirmed);
+  spare : l.self.spare ≡ l.fn.self.spare;
 }

@@ -35,4 +35,5 @@ loop-packet-preserved g c =
           let same : (c.hear_all.new.self.procedure.pending ≡ mid.procedure.pending) × (c.hear_all.new.self.confirmed ≡ mid.confirmed) =
           subst (λ (k : Kept). (k.procedure.pending ≡ Nothing → ⊥) → (c.hear_all.new.self.procedure.pending ≡ k.procedure.pending) × (c.hear_all.new.self.confirmed ≡ k.confirmed)) c.self-in-loop-packet.view_is c.hear_all.ensures.waits (λ e. n (sym m.0 ∙ e)) in
           (same.0 ∙ m.0, same.1 ∙ m.1);
+      spare = c.hear_all.ensures.spare ∙ ap (λ (k : Kept). k.spare) c.self-in-loop-packet.view_is ∙ before.spare;
     }

@@ -13,4 +13,5 @@ invariant-loop-packet g l = record {
   heard : (heard : List Slot) (core : Answering) → IsReached heard core l.fn.self → HearsSo (lost_slots l.decided.lost ++ map Some (texts l.yielded)) l.now heard core l.self;
   front : take (length l.fn.self.image.octets) l.self.image.octets ≡ l.fn.self.image.octets;
   waits : l.fn.self.procedure.pending ≢ Nothing → (l.self.procedure.pending ≡ l.fn.self.procedure.pending) × (l.self.confirmed ≡ l.fn.self.confirmed);
+  spare : l.self.spare ≡ l.fn.self.spare;
 }

@@ -5,8 +5,8 @@ use Rattle.fax_answer.specs.Reached.{Kept, Holds}
 use Rattle.fax_answer.proofs.ReachedLemmas.{holds_new}
 use Rattle.fax_answer.proofs.answerer.Answerer.ring.Goals as goal
 
-pub returns : goal.returns
-returns g c heard core r =
+pub returns-clause-rung : goal.returns-clause-rung
+returns-clause-rung g c heard core r =
     let f : Follows core _ c.self.inside.procedure = subst (λ (k : Kept). Follows core k.confirmed k.procedure) (sym c.self.view_is) r.stands.follows in
     record {
       tracked = c.new-self-inside.ensures;

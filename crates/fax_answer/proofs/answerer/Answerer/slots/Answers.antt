@@ -10,8 +10,8 @@ returns-clause-heard g c heard core r =
     let off : c.is_err.result ≡ false = search rules in
     let all = if_right c.hear_slots.result _ (sym c.is_err.ensures.value ∙ off) c.hear_slots.ensures.heard in
     let confirmed = confirmed_shown {S = g.row.S.Denot} c.self-2.inside.confirmed in
-    let mid : Kept = record { tracked = c.self-2.inside.signals; procedure = c.self-2.inside.procedure; image = c.self-2.inside.image; confirmed = confirmed } in
-    let new : Kept = record { tracked = c.self-2.inside.signals; procedure = c.self-2.inside.procedure; image = c.settle.new.self; confirmed = confirmed } in
+    let mid : Kept = record { tracked = c.self-2.inside.signals; procedure = c.self-2.inside.procedure; image = c.self-2.inside.image; confirmed = confirmed; spare = c.self-2.inside.room } in
+    let new : Kept = record { tracked = c.self-2.inside.signals; procedure = c.self-2.inside.procedure; image = c.settle.new.self; confirmed = confirmed; spare = c.self-2.inside.room } in
     let s = c.settle.ensures in
     let h : HearsSo (slots_in c.args.decided.now) c.args.now heard core mid = subst (λ (k : Kept). HearsSo (slots_in c.args.decided.now) c.args.now heard core k) (sym c.self-2.view_is) (all heard core r) in
     hears_joined (slots_in c.args.decided.now) c.args.now heard core mid new h refl refl refl

@@ -39,18 +39,18 @@ returns-clause-ticked g c heard core r =
     let more : not c.is_waiting.result ≡ false → c.give-ended.new.self.pending ≡ Nothing → ⊥ = λ h. c.is_waiting.ensures.waits.0 (not_false c.is_waiting.result h) in
     let left = left_if c.give-ended.new.self.pending (not c.is_waiting.result) c.self.inside.confirmed c.take_if-confirmed.new.confirmed (confirmed_shown {S = g.row.S.Denot}) refl last more c.take_if-confirmed.ensures.left in
     let taken = taken_if c.give-ended.new.self.pending (not c.is_waiting.result) c.self.inside.confirmed c.take_if-confirmed.result (confirmed_shown {S = g.row.S.Denot}) refl last more c.take_if-confirmed.ensures.taken in (
-      subst (λ (confirmed : Option ConfirmedPage). IsReached heard (ticked core now).core (record { tracked = c.self.inside.signals; procedure = c.give-ended.new.self; image = c.self.inside.image; confirmed = confirmed })) (sym left)
-          (reached_gives heard core now _ c.act.new.self c.give-ended.new.self c.give-ended.result s next gives),
+      subst (λ (confirmed : Option ConfirmedPage). IsReached heard (ticked core now).core (record { tracked = c.self.inside.signals; procedure = c.give-ended.new.self; image = c.self.inside.image; confirmed = confirmed; spare = c.take.new.self })) (sym left)
+          (reached_gives heard core now _ c.act.new.self c.give-ended.new.self c.give-ended.result c.take.new.self s next gives),
       step_gives {S = g.row.S.Denot} core now (confirmed_shown {S = g.row.S.Denot} c.self.inside.confirmed) c.act.new.self c.give-ended.new.self
-          (record { packet = Some c.in_ok-packet.packet; confirmed = c.take_if-confirmed.result; ended = c.give-ended.result }) next gives (ap (λ (octets : List ℕ). Some octets) c.in_ok-packet.ensures) taken,
+          (record { packet = Some c.packet-packet.result; confirmed = c.take_if-confirmed.result; ended = c.give-ended.result }) next gives (ap (λ (octets : List ℕ). Some octets) c.packet-packet.ensures) taken,
     )
 
 on_err : {T E : Type 0} {P : Type 0} (r : Result T E) → P → OnErr r P
 on_err (Ok x) p = tt
 on_err (Err e) p = p
 
-pub returns-in_err-packet-clause-memory : goal.returns-in_err-packet-clause-memory
-returns-in_err-packet-clause-memory g c =
+pub returns-in_err-room-clause-memory : goal.returns-in_err-room-clause-memory
+returns-in_err-room-clause-memory g c =
     let now : ℕ = c.args.now in
     let on : c.gives.result ≡ true = search rules in
     on_err c.from_residual.result (λ (heard : List Slot) (core : Answering) (r : IsReached heard core c.args.self.now).
