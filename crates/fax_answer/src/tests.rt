@@ -113,6 +113,8 @@ struct Leg {
     alloc: Global,
     receiver: Receiver,
     answerer: Answerer<PlainRows>,
+    /// Whether memory is reserved before each tick.
+    reserves: bool,
     /// The moment of the last ring.
     rung: u64,
     /// The latest moment.
@@ -132,6 +134,7 @@ impl Leg {
             alloc,
             receiver: Receiver::new(),
             answerer: Answerer::new(alloc),
+            reserves: false,
             rung: 0,
             now: 0,
             pages: 0,
@@ -223,6 +226,9 @@ impl Leg {
     /// A moment comes.
     fn tick(&mut self, now: u64) -> Result<Step<PlainRows>, NoMemory> {
         self.now = now;
+        if self.reserves {
+            self.answerer.reserve()?;
+        }
         match self.answerer.tick(now) {
             Ok(step) => Ok(step),
             Err(NoMemory) => {

@@ -28,6 +28,15 @@ fn a_call_with_one_page(rt: HostRuntime) -> Result<(), Fail> {
 }
 
 #[test]
+fn a_call_whose_ticks_have_their_memory_before(rt: HostRuntime) -> Result<(), Fail> {
+    let mut leg = Leg::new(rt.alloc());
+    leg.reserves = true;
+    leg.play(&rt, ONE_PAGE)?;
+    assert_eq!(rt; leg.pages, 1);
+    Ok(())
+}
+
+#[test]
 fn a_call_goes_from_state_to_state(rt: HostRuntime) -> Result<(), Fail> {
     let mut leg = Leg::new(rt.alloc());
     assert_eq!(rt; leg.answerer.state(), State::Idle);
