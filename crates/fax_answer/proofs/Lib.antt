@@ -7,6 +7,7 @@ mod HearingLemmas
 mod ImageLemmas
 mod Judging
 mod Neat
+mod PacketLemmas
 mod ReachedLemmas
 pub mod Readings
 pub mod Rests

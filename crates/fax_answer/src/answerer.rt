@@ -1,5 +1,5 @@
 //! The answering side of a call.
-ghost use Rattle.std.specs.Prelude.{◌≡◌, ◌≤◌, List, [], None, IsSome, IfOk, OnOk, OnErr, if◌then◌else◌};
+ghost use Rattle.std.specs.Prelude.{◌≡◌, ◌≤◌, List, [], None, IsSome, IfSome, IfOk, OnOk, OnErr, length, if◌then◌else◌};
 ghost use Rattle.fax_ifp.specs.Elements.{Slot as SlotShown};
 ghost use Rattle.fax_answer.specs.Calls.{Answering, new_answering, rung, ticked};
 ghost use Rattle.fax_answer.specs.Reached.{IsReached};
@@ -91,7 +91,7 @@ impl<S: RowStore> Answerer<S> {
 
     /// Time goes on: where no packet waits a timer that is due acts, and then at most one packet is given, where one waits
     /// and the pace allows. The MCF that confirms a page is given with the page. It takes memory for the packet where none
-    /// is reserved, and none where no packet is given. An `Err` changes nothing.
+    /// is reserved, and none where no packet is given. A packet has at most 12 octets. An `Err` changes nothing.
     pub fn tick(&mut self, now: u64) -> Result<Step<S>, NoMemory>
         ensures ticked { IfOk result (λ step. (heard : List SlotShown) (core : Answering) → IsReached heard core self.old
             → IsReached heard (ticked core now).core self.new × IsStep (ticked core now) step) }
@@ -99,6 +99,7 @@ impl<S: RowStore> Answerer<S> {
         ensures memory { OnErr result ((heard : List SlotShown) (core : Answering) → IsReached heard core self.old
             → IsSome (ticked core now).given) }
         ensures spared { OnErr result (self.old.spare ≡ 0) }
+        ensures short { IfOk result (λ step. IfSome step.packet (λ packet. length packet ≤ 12)) }
     {
         let mut procedure = self.procedure;
         procedure.act(now);

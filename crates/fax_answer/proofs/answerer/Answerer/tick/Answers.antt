@@ -7,6 +7,7 @@ use Rattle.fax_answer.specs.Calls.{Answering, ticked, timed}
 use Rattle.fax_answer.specs.Following.{gives_now}
 use Rattle.fax_answer.specs.Reached.{Kept, IsReached}
 use Rattle.fax_answer.specs.Shown.{confirmed_shown}
+use Rattle.fax_answer.proofs.PacketLemmas.{short_as}
 use Rattle.fax_answer.proofs.ReachedLemmas.{reached_rests, step_rests, reached_gives, step_gives, given_gives, left_if, taken_if}
 use Rattle.fax_answer.proofs.answerer.Answerer.tick.Goals as goal
 
@@ -44,6 +45,9 @@ returns-clause-ticked g c heard core r =
       step_gives {S = g.row.S.Denot} core now (confirmed_shown {S = g.row.S.Denot} c.self.inside.confirmed) c.act.new.self c.give-ended.new.self
           (record { packet = Some c.packet-packet.result; confirmed = c.take_if-confirmed.result; ended = c.give-ended.result }) next gives (ap (λ (octets : List ℕ). Some octets) c.packet-packet.ensures) taken,
     )
+
+pub returns-clause-short : goal.returns-clause-short
+returns-clause-short g c = short_as _ c.packet-packet.result c.packet-packet.ensures
 
 on_err : {T E : Type 0} {P : Type 0} (r : Result T E) → P → OnErr r P
 on_err (Ok x) p = tt
