@@ -7,6 +7,7 @@ mod HearingLemmas
 mod KeptLemmas
 pub mod Lacking
 mod Numbered
+mod PacketLemmas
 mod PacketsBack
 mod Paddings
 mod Paged

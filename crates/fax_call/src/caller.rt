@@ -1,5 +1,5 @@
 //! The calling side of a call.
-ghost use Rattle.std.specs.Prelude.{◌≡◌, ◌≢◌, ◌<◌, ◌≤◌, List, [], Ok, Some, None, IsSome, IfOk, OnOk, OnErr, length, drop};
+ghost use Rattle.std.specs.Prelude.{◌≡◌, ◌≢◌, ◌<◌, ◌≤◌, List, [], Ok, Some, None, IsSome, IfSome, IfOk, OnOk, OnErr, length, drop};
 ghost use Rattle.fax_bits.specs.Laws.{AreOctets};
 ghost use Rattle.fax_ifp.specs.Elements.{Slot as SlotShown};
 ghost use Rattle.fax_jobs.specs.Jobs.{JobValue};
@@ -98,7 +98,7 @@ impl Caller {
     /// Time goes on: where no packet waits a timer that is due acts, and then at most one packet is given, where one waits
     /// and the pace allows. The job is the one of the call, the same at each tick. It takes memory for the packet, and for
     /// the text of a page where its short training indicator is given; where no call is on it takes none and gives nothing.
-    /// An `Err` changes nothing.
+    /// A packet has at most 100 octets. An `Err` changes nothing.
     pub fn tick<S: RowStore>(&mut self, job: &Job<S>, now: u64) -> Result<Option<Octets>, NoMemory>
         requires { IsJobOfCall self.old.procedure job.now }
         ensures ticked { IfOk result (λ given. (writes : Writing) (heard : List SlotShown) (core : Calling) → IsWriting writes
@@ -109,6 +109,7 @@ impl Caller {
         ensures err { OnErr result (self.new ≡ self.old) }
         ensures memory { OnErr result ((writes : Writing) (heard : List SlotShown) (core : Calling) → IsReached writes job.now heard core self.old
             → IsSome (ticked writes job.now core now).given) }
+        ensures short { IfOk result (λ given. IfSome given (λ packet. length packet ≤ 100)) }
     {
         let mut procedure = self.procedure;
         procedure.act(now);

@@ -1,4 +1,5 @@
-use Rattle.std.proofs.Common.{◌≡◌, ℕ, true, false, List, length, sym, ◌∙◌, ap, subst, rules}
+use Rattle.std.proofs.Common.{◌≡◌, ℕ, true, false, List, [], length, sym, ◌∙◌, ap, subst, rules}
+use Rattle.std.proofs.lemmas.Result.{IfOk-weaker}
 use Rattle.fax_frames.specs.declared.dcs.Dcs.{Dcs}
 use Rattle.fax_frames.specs.declared.writing.Plain.{Plain}
 use Rattle.fax_ifp.specs.Tracked.{Tracked, IsTracked}
@@ -12,6 +13,7 @@ use Rattle.fax_call.specs.Kept.{pending_behind}
 use Rattle.fax_call.specs.Following.{Follows, gives_now, IsJobOfCall}
 use Rattle.fax_call.specs.Reached.{Kept, IsReached}
 use Rattle.fax_call.proofs.GivingLemmas.{given_gives, on_err, reached_rests, reached_gives, image_next, packet_next, if_given, on_given, job_kept}
+use Rattle.fax_call.proofs.PacketLemmas.{short_as}
 use Rattle.fax_call.proofs.caller.Caller.tick.Goals as goal
 
 pub returns-then-not-gives-clause-ticked : goal.returns-then-not-gives-clause-ticked
@@ -76,7 +78,11 @@ returns-in_default g c =
           let s = subst (λ (k : Kept). IsReached writes job heard core k) (sym c.self.view_is) r in
           let acted = c.act.ensures.acted writes job core _ s.follows in
           given_gives writes job core now (sym (c.gives.ensures.gives writes job (timed core now) _ acted) ∙ c.if-not-gives.false));
+      short = IfOk-weaker c.give_packet.result _ _ (λ given is. short_as p.pending text given is) c.give_packet.ensures.packet;
     }
+
+pub returns-in-Image-clause-short : goal.returns-in-Image-clause-short
+returns-in-Image-clause-short g c = IfOk-weaker c.begin_text.result _ _ (λ given is. short_as c.act.new.self.pending [] given is) c.begin_text.ensures.packet
 
 pub returns-in-Image-clause-memory : goal.returns-in-Image-clause-memory
 returns-in-Image-clause-memory g c =
