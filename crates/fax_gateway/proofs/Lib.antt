@@ -16,5 +16,6 @@ mod Reporting
 mod ServedAlone
 mod States
 mod Steps
+mod Ticking
 mod WholeCall
 mod OfTheirCalls

@@ -1,32 +1,56 @@
 -- What a gateway keeps that a trace has led to.
-use Rattle.std.specs.Prelude.{◌≡◌, ℕ, Bool, true, List, [], ◌∷◌, Option, Some, None}
+use Rattle.std.specs.Prelude.{◌≡◌, ℕ, Bool, true, false, List, [], ◌∷◌, Option, Some, None, if◌then◌else◌}
 use Rattle.fax_udptl.specs.Datagrams.{DatagramValue}
 use Rattle.fax_udptl.specs.Sending.{HasSent}
 use Rattle.fax_udptl.specs.Slots.{newest_slots}
 use Rattle.fax_udptl.specs.Taking.{IsAfter}
+use Rattle.fax_jobs.specs.declared.outcome.Outcome.{Outcome}
+use Rattle.fax_jobs.specs.declared.report.Report.{Report}
 use Rattle.fax_jobs.specs.Jobs.{JobValue}
-use Rattle.fax_jobs.specs.Books.{Book}
+use Rattle.fax_jobs.specs.Books.{Book, confirmed, closed, ended, report_of}
+use Rattle.fax_answer.specs.declared.step.Step.{Step}
 use Rattle.fax_answer.specs.Table.{Reading}
+use Rattle.fax_answer.specs.Replies.{ConfirmedPage}
 use Rattle.fax_answer.specs.Calls.{Answering, new_answering}
 use Rattle.fax_answer.specs.Confirmation.{IsRead}
 use Rattle.fax_answer.specs.Reached as answer
+use Rattle.fax_answer.specs.Shown.{confirmed_shown}
+use Rattle.fax_call.specs.declared.procedure.Procedure.{Procedure}
+use Rattle.fax_call.specs.declared.state.State.TheVariants.{Idle}
 use Rattle.fax_call.specs.Writings.{Writing}
 use Rattle.fax_call.specs.Calls.{new_calling}
+use Rattle.fax_call.specs.Delivery.{is_over}
+use Rattle.fax_call.specs.Following.{IsJobOfCall}
 use Rattle.fax_call.specs.Reached as call
 use Rattle.fax_gateway.specs.declared.leg.Leg.{Leg}
 use Rattle.fax_gateway.specs.declared.called.CalledSide.{CalledSide}
-use Rattle.fax_gateway.specs.Events.{Event, FromCalling, clock, rings}
+use Rattle.fax_gateway.specs.declared.given.Given as shown
+use Rattle.fax_gateway.specs.Events.{Event, FromCalling, Given, clock, rings}
+use Rattle.fax_gateway.specs.Legs.{sent}
 use Rattle.fax_gateway.specs.CallingLegs as calling_legs
-use Rattle.fax_gateway.specs.CallingLegs.{CallingLeg, calling_leg, calling_after, decided_calling, question}
+use Rattle.fax_gateway.specs.CallingLegs.{CallingLeg, calling_leg, calling_after, question, told_calling}
 use Rattle.fax_gateway.specs.CalledLegs as called_legs
 use Rattle.fax_gateway.specs.CalledLegs.{CalledLeg}
-use Rattle.fax_gateway.specs.Sides.{book_of, sides}
+use Rattle.fax_gateway.specs.Sides.{book_of, closes, sides}
 use Rattle.fax_gateway.specs.Traces.{IsTrace}
+
+-- what a tick gives
+abbrev pub given_shown : shown.Given → Given
+given_shown given = record { on_calling = given.calling; on_called = given.called; report = given.report }
 
 -- A LEG in a call: these datagrams came, and these packets were given, the newest first
 pub record IsLeg (arrived : List DatagramValue) (given : List (List ℕ)) (leg : Leg) : Type 0 where
   pub receiver : IsAfter arrived leg.receiver
   pub sender : HasSent given leg.sender
+
+-- a packet, where there is one, as the datagram behind those given, and the packets given behind it
+abbrev pub sent_if : List (List ℕ) → Option (List ℕ) → Option (List ℕ)
+sent_if given None = None
+sent_if given (Some packet) = Some (sent given packet)
+
+abbrev pub given_with : Option (List ℕ) → List (List ℕ) → List (List ℕ)
+given_with None given = given
+given_with (Some packet) given = packet ∷ given
 
 -- THE CALLING SIDE: the number of the last call, what is kept of it, and its leg
 pub record CallingValue : Type 0 where
@@ -66,6 +90,25 @@ pub record HearsCalling (leg : Option CallingLeg) (now : ℕ) (octets : List ℕ
   pub right : IsRead (question leg now octets) read
   pub calling : IsCalling (heard_on leg now octets read) side
 
+-- a tick on the leg: the page that it confirms, and whether the call ends
+abbrev pub confirmed_on : Option CallingLeg → ℕ → Option ConfirmedPage
+confirmed_on None now = None
+confirmed_on (Some l) now = calling_legs.confirmed_by (calling_legs.answers l now).given
+
+abbrev pub ended_on : Option CallingLeg → ℕ → Bool
+ended_on None now = false
+ended_on (Some l) now = (calling_legs.answers l now).ended
+
+abbrev pub ticked_on : Option CallingLeg → ℕ → Option CallingLeg
+ticked_on None now = None
+ticked_on (Some l) now = Some (calling_legs.leg_ticked l now)
+
+-- what is told of it
+pub record TellsTick {S : Type 0} (leg : Option CallingLeg) (now : ℕ) (step : Step S) : Type 0 where
+  pub packet : step.packet ≡ told_calling leg now
+  pub confirmed : confirmed_shown step.confirmed ≡ confirmed_on leg now
+  pub ends : step.ended ≡ ended_on leg now
+
 -- THE CALLED SIDE, in the call of a job; before the first one no call was on
 abbrev pub IsCaller : Writing → Option CalledLeg → call.Kept → Type 0
 IsCaller writes None kept = (job : JobValue) → call.IsReached writes job [] (new_calling kept.procedure.format) kept
@@ -79,6 +122,37 @@ IsCalledLeg (Some l) leg = IsLeg l.arrived l.given leg
 pub record IsCalled (writes : Writing) (leg : Option CalledLeg) (side : CalledSide) : Type 0 where
   pub core : IsCaller writes leg side.caller
   pub on_leg : IsCalledLeg leg side.leg
+
+-- the job that is being sent is the one of the call, and where none is no call is on
+abbrev pub IsServed : Option JobValue → Procedure → Type 0
+IsServed None procedure = procedure.state ≡ Idle
+IsServed (Some job) procedure = IsJobOfCall procedure job
+
+-- the outcome of a call that is over, and the report of its job
+abbrev pub outcome_kept : Procedure → Option Outcome
+outcome_kept procedure = if is_over procedure.state then procedure.outcome else None
+
+abbrev pub report_if : Option JobValue → Option Outcome → ℕ → Option Report
+report_if None outcome delivered = None
+report_if (Some job) None delivered = None
+report_if (Some job) (Some outcome) delivered = Some (report_of job outcome delivered)
+
+abbrev pub ended_with : Option Outcome → ℕ → Book → Book
+ended_with None delivered book = book
+ended_with (Some outcome) delivered book = ended book outcome delivered
+
+abbrev pub ended_if : Option JobValue → Option Outcome → ℕ → Book → Book
+ended_if None outcome delivered book = book
+ended_if (Some job) outcome delivered book = ended_with outcome delivered book
+
+-- THE BOOK in a tick, as it hears of the calling leg
+abbrev pub confirmed_if : ℕ → Option ConfirmedPage → Book → Book
+confirmed_if number None book = book
+confirmed_if number (Some c) book = confirmed book number c.page (closes c.command)
+
+abbrev pub closed_if : Bool → Book → Book
+closed_if true book = closed book
+closed_if false book = book
 
 -- THE GATEWAY
 pub record GatewayValue : Type 0 where

@@ -31,11 +31,13 @@ pub struct Gateway<S: RowStore> {
 }
 
 impl<S: RowStore> Model for Gateway<S> {
-    ghost use Rattle.fax_gateway.specs.Reached.{GatewayValue};
+    ghost use Rattle.fax_gateway.specs.Reached.{GatewayValue, IsServed};
 
     ghost Value = { GatewayValue };
 
     ghost view = { λ g. record { clock = g.clock; rings = g.rings; calling = g.calling; called = g.called; book = g.jobs } };
+
+    ghost invariant = { λ g. IsServed g.jobs.sending g.called.caller.procedure };
 }
 
 impl<S: RowStore> Gateway<S> {

@@ -9,8 +9,10 @@ mod called;
 mod calling;
 mod fault;
 mod gateway;
+mod given;
 pub mod laws;
 mod leg;
 
 pub use fault::RingFault;
 pub use gateway::Gateway;
+pub use given::Given;
