@@ -119,10 +119,10 @@ datagram_parts d none number primary choice count all octets none_yet octets_are
     all_is ∙ ap (λ (os : List ℕ). os ++ flat_map written_packet d.secondaries) counted
 
 -- How many octets are written.
-length_of_short : (n : ℕ) → n < 128 → length (written_length n) ≡ 1
+pub length_of_short : (n : ℕ) → n < 128 → length (written_length n) ≡ 1
 length_of_short n h = sym (ap length (one_octet n h))
 
-length_of_long : (n : ℕ) → 128 ≤ n → length (written_length n) ≡ 2
+pub length_of_long : (n : ℕ) → 128 ≤ n → length (written_length n) ≡ 2
 length_of_long n h = sym (ap length (two_octets n h))
 
 pub short_packet_size : (p : List ℕ) → length p < 128 → length p + 1 ≡ length (written_packet p)
@@ -133,25 +133,35 @@ pub long_packet_size : (p : List ℕ) → 128 ≤ length p → length p + 2 ≡ 
 unfolding written_packet
 long_packet_size p h = let two : length (written_length (length p)) ≡ 2 = length_of_long (length p) h in omega (arith, length-append (written_length (length p)) p)
 
+pub packet_size_is : (p : List ℕ) → length (written_packet p) ≡ length (written_length (length p)) + length p
+unfolding written_packet
+packet_size_is p = length-append (written_length (length p)) p
+
 -- the octets of packets, one behind the other
-pub packets_size : List (List ℕ) → ℕ
+abbrev pub packets_size : List (List ℕ) → ℕ
 packets_size ps = length (flat_map written_packet ps)
 
 pub packets_size_more : (ps rest : List (List ℕ)) (p : List ℕ) → ps ≡ p ∷ rest → packets_size ps ≡ length (written_packet p) + packets_size rest
-unfolding packets_size
 packets_size_more ps rest p e = ap (λ (qs : List (List ℕ)). length (flat_map written_packet qs)) e ∙ length-append (written_packet p) (flat_map written_packet rest)
 
 pub datagram_size_is : (number : ℕ) (primary : List ℕ) (ps : List (List ℕ)) → length ps < 128
     → 4 + length (written_packet primary) + packets_size ps ≡ length (written_datagram (record { number = number; primary = primary; secondaries = ps }))
-unfolding written_datagram packets_size
+unfolding written_datagram
 datagram_size_is number primary ps h =
     let one : length (written_length (length ps)) ≡ 1 = length_of_short (length ps) h in
     let front : List ℕ = (number / 256) ∷ number % 256 ∷ written_packet primary in
     omega (arith, length-append (front ++ 0 ∷ written_length (length ps)) (flat_map written_packet ps), length-append front (0 ∷ written_length (length ps)))
 
+pub datagram_room : (number : ℕ) (primary : List ℕ) (ps : List (List ℕ)) (room : ℕ) → length ps < 128
+    → length (written_datagram (record { number = number; primary = primary; secondaries = ps })) ≤ room → 4 + length (written_packet primary) + packets_size ps ≤ room
+datagram_room number primary ps room few fits = omega (arith, datagram_size_is number primary ps few)
+
+pub no_octets : (octets : List ℕ) → length octets ≡ 0 → octets ≡ []
+no_octets [] h = refl
+no_octets (o ∷ octets) h = cc
+
 pub short_behind : (ps rest : List (List ℕ)) (p : List ℕ) → ps ≡ p ∷ rest → AllByRecursion (λ q. length q ≤ 16383) ps → AllByRecursion (λ q. length q ≤ 16383) rest
 short_behind ps rest p e short = let P : List (List ℕ) → Type 0 = AllByRecursion (λ q. length q ≤ 16383) in let all : P (p ∷ rest) = subst P e short in all.1
 
 pub no_packets_size : (ps : List (List ℕ)) → ps ≡ [] → packets_size ps ≡ 0
-unfolding packets_size
 no_packets_size ps e = ap (λ (qs : List (List ℕ)). length (flat_map written_packet qs)) e

@@ -1,5 +1,5 @@
 //! A sender of datagrams, each with the packets just before its own.
-ghost use Rattle.std.specs.Prelude.{ℕ, List, [], ◌∷◌, ◌++◌, ◌≡◌, ◌≤◌, length, flat_map, IfOk, OnOk, OnErr};
+ghost use Rattle.std.specs.Prelude.{ℕ, List, [], ◌∷◌, ◌++◌, ◌+◌, ◌*◌, ◌≡◌, ◌<◌, ◌≤◌, length, flat_map, vec_len, vec_capacity, IfOk, OnOk, OnErr};
 ghost use Rattle.fax_udptl.specs.Datagrams.{written_datagram, written_length, written_packet};
 ghost use Rattle.fax_udptl.specs.Sending.{AreShort, HasSent, datagram_for};
 
@@ -7,29 +7,42 @@ use circular_buffer::HeapCircularBuffer;
 use fax_bits::{NoMemory, Octets};
 use std::alloc::Global;
 use std::marker::Model;
+use std::mem;
 
 /// How many of the packets before its own a datagram has.
 const DEPTH: usize = 3;
 
+/// How many octets a datagram has beside its packets: two for its number, one for the choice of secondaries
+/// and one for their count, which is below 128.
+const FRAME_SIZE: usize = 4;
+
 /// Numbers the packets of a call from 0 and sends each with the three before it. Seen as how many there
-/// were, modulo 65,536, and the last three.
+/// were, modulo 65,536, the last three, and `spare`: a packet of fewer octets is sent without asking for
+/// memory.
 #[derive(Drop)]
 pub struct Sender {
     alloc: Global,
     count: u16,
     /// The newest first.
     last: HeapCircularBuffer<Octets>,
+    /// Empty: room for the next datagram.
+    datagram: Vec<u8>,
+    /// Empty: room for a copy of its packet.
+    copy: Vec<u8>,
+    /// One more than the octets of the longest packet for which both surely have room, or 0.
+    spare: usize,
 }
 
 impl Model for Sender {
-    ghost use Rattle.std.specs.Prelude.{◌≡◌, ◌≤◌, length};
-    ghost use Rattle.fax_udptl.specs.Sending.{SenderValue, AreShort};
+    ghost use Rattle.std.specs.Prelude.{◌≡◌, vec_len, vec_capacity};
+    ghost use Rattle.fax_udptl.specs.Sending.{SenderValue, AreShort, HasRoom};
 
     ghost Value = { SenderValue };
 
-    ghost view = { λ s. record { count = s.count; last = s.last.items } };
+    ghost view = { λ s. record { count = s.count; last = s.last.items; spare = s.spare } };
 
-    ghost invariant = { λ s. (s.last.capacity ≡ 3) × AreShort s.last.items };
+    ghost invariant = { λ s. (s.last.capacity ≡ 3) × AreShort s.last.items × (vec_len s.datagram ≡ 0) × (vec_len s.copy ≡ 0)
+        × HasRoom s.spare s.last.items (vec_capacity s.datagram) (vec_capacity s.copy) };
 }
 
 impl Sender {
@@ -42,69 +55,82 @@ impl Sender {
             alloc,
             count: 0,
             last,
+            datagram: Vec::new(alloc),
+            copy: Vec::new(alloc),
+            spare: 0,
         })
+    }
+
+    /// Makes room for the next packet: one of at most so many octets is sent then without asking for memory.
+    pub fn reserve(&mut self, octets: usize) -> Result<(), NoMemory>
+        requires { octets ≤ 16383 }
+        ensures room { OnOk result (octets < self.new.spare) }
+        // Nothing else changes.
+        ensures same { self.new ≡ record self.old { spare = self.new.spare } }
+        ensures sent { (given : List (List ℕ)) → HasSent given self.old → HasSent given self.new }
+        ensures err { OnErr result (self.new ≡ self.old) }
+    {
+        // a length has two octets at most
+        let size = FRAME_SIZE + 2 + octets + packets_size(&self.last);
+        self.datagram.reserve_exact(size)?;
+        self.copy.reserve_exact(octets)?;
+        self.spare = self.spare.max(octets + 1);
+        Ok(())
     }
 
     /// The octets of the datagram of the next packet, which has at most 16,383 octets: its number is how many
     /// were given before, modulo 65,536, and its secondaries are the last three of these. It takes memory for
-    /// the datagram and for a copy of the packet, once each. An `Err` changes nothing.
+    /// the datagram and for a copy of the packet, once each, where there is no room for them. An `Err` changes
+    /// nothing.
     pub fn send(&mut self, packet: &[u8]) -> Result<Octets, NoMemory>
         requires { length packet.now ≤ 16383 }
         // Whatever was given before, the newest first.
         ensures sent { IfOk result (λ octets. (given : List (List ℕ)) → HasSent given self.old
             → (octets ≡ written_datagram (datagram_for given packet.now)) × HasSent (packet.now ∷ given) self.new) }
         ensures err { OnErr result (self.new ≡ self.old) }
+        ensures memory { OnErr result (self.old.spare ≤ length packet.now) }
     {
-        let datagram = write_datagram(self.alloc, self.count, packet, &self.last)?;
-        let kept = Octets::from_vec(Vec::from_slice(self.alloc, packet)?);
-        self.last.push_front(kept);
+        self.datagram
+            .reserve_exact(datagram_size(packet, &self.last))?;
+        self.copy.reserve_exact(packet.len())?;
+        let mut datagram = mem::replace(&mut self.datagram, Vec::new(self.alloc));
+        put_datagram(&mut datagram, self.count, packet, &self.last);
+        let mut copy = mem::replace(&mut self.copy, Vec::new(self.alloc));
+        put(&mut copy, packet);
+        self.spare = 0;
+        self.last.push_front(Octets::from_vec(copy));
         self.count = self.count.wrapping_add(1);
-        Ok(datagram)
+        Ok(Octets::from_vec(datagram))
     }
 }
 
-/// A datagram of that number, with the packet as primary and the last ones as secondaries.
-fn write_datagram(
-    alloc: Global,
-    number: u16,
-    packet: &[u8],
-    last: &HeapCircularBuffer<Octets>,
-) -> Result<Octets, NoMemory>
-    requires primary { length packet.now ≤ 16383 }
-    requires secondaries { AreShort last.now.items }
-    requires few { last.now.capacity ≤ 127 }
-    ensures { IfOk result (λ octets. octets ≡ written_datagram (record {
-      number = number;
-      primary = packet.now;
-      secondaries = last.now.items;
-    })) }
-{
-    let mut octets = Vec::with_capacity(alloc, datagram_size(packet, last))?;
-    octets.extend_from_slice(&number.to_be_bytes())?;
-    push_packet(&mut octets, packet)?;
-    // no error correction
-    octets.push(0)?;
-    push_length(&mut octets, last.len())?;
-    push_packets(&mut octets, last)?;
-    Ok(Octets::from_vec(octets))
-}
-
-/// How many octets that datagram has: two for the number, one for the choice of secondaries and one for
-/// their count.
+/// How many octets the datagram of a packet has.
 fn datagram_size(packet: &[u8], last: &HeapCircularBuffer<Octets>) -> usize
     requires primary { length packet.now ≤ 16383 }
     requires secondaries { AreShort last.now.items }
     requires few { last.now.capacity ≤ 127 }
-    ensures { (number : ℕ) → result ≡ length (written_datagram (record {
+    ensures size { (number : ℕ) → result ≡ length (written_datagram (record {
       number = number;
       primary = packet.now;
       secondaries = last.now.items;
     })) }
+    ensures bound { result ≤ 6 + length packet.now + length (flat_map written_packet last.now.items) }
 {
-    let _few = last.len();
-    let mut size = 4 + packet_size(packet);
-    for secondary in last {
-        size += packet_size(secondary.as_slice());
+    FRAME_SIZE + packet_size(packet) + packets_size(last)
+}
+
+/// How many octets packets have, each with its length before it.
+fn packets_size(packets: &HeapCircularBuffer<Octets>) -> usize
+    requires short { AreShort packets.now.items }
+    requires few { packets.now.capacity ≤ 127 }
+    ensures size { result ≡ length (flat_map written_packet packets.now.items) }
+    ensures few { length packets.now.items ≤ 127 }
+    ensures bound { result ≤ 16385 * 127 }
+{
+    let _few = packets.len();
+    let mut size = 0;
+    for packet in packets {
+        size += packet_size(packet.as_slice());
     }
     size
 }
@@ -113,41 +139,86 @@ fn datagram_size(packet: &[u8], last: &HeapCircularBuffer<Octets>) -> usize
 fn packet_size(packet: &[u8]) -> usize
     requires { length packet.now ≤ 16383 }
     ensures size { result ≡ length (written_packet packet.now) }
-    ensures few { result ≤ 16385 }
+    ensures few { result ≤ length packet.now + 2 }
+    ensures bound { result ≤ 16385 }
 {
     packet.len() + if packet.len() < 128 { 1 } else { 2 }
 }
 
-/// Adds packets, each behind its length.
-fn push_packets(octets: &mut Vec<u8>, packets: &HeapCircularBuffer<Octets>) -> Result<(), NoMemory>
-    requires { AreShort packets.now.items }
-    ensures { OnOk result (octets.new.items ≡ octets.old.items ++ flat_map written_packet packets.now.items) }
+/// Writes a datagram of that number, with the packet as primary and the last ones as secondaries, where
+/// there is room for it.
+fn put_datagram(octets: &mut Vec<u8>, number: u16, packet: &[u8], last: &HeapCircularBuffer<Octets>)
+    requires primary { length packet.now ≤ 16383 }
+    requires secondaries { AreShort last.now.items }
+    requires few { last.now.capacity ≤ 127 }
+    requires empty { vec_len octets.old ≡ 0 }
+    requires room { length (written_datagram (record {
+      number = number;
+      primary = packet.now;
+      secondaries = last.now.items;
+    })) ≤ vec_capacity octets.old }
+    ensures { octets.new.items ≡ written_datagram (record {
+      number = number;
+      primary = packet.now;
+      secondaries = last.now.items;
+    }) }
+{
+    let count = last.len();
+    put(octets, &number.to_be_bytes());
+    put_packet(octets, packet);
+    // no error correction
+    put(octets, &[0]);
+    put_length(octets, count);
+    put_packets(octets, last);
+}
+
+/// Adds packets, each behind its length, for which there is room.
+fn put_packets(octets: &mut Vec<u8>, packets: &HeapCircularBuffer<Octets>)
+    requires short { AreShort packets.now.items }
+    requires room { vec_len octets.old + length (flat_map written_packet packets.now.items) ≤ vec_capacity octets.old }
+    ensures { octets.new.items ≡ octets.old.items ++ flat_map written_packet packets.now.items }
 {
     for packet in packets {
-        push_packet(octets, packet.as_slice())?;
+        put_packet(octets, packet.as_slice());
     }
-    Ok(())
 }
 
-/// Adds a packet behind its length.
-fn push_packet(octets: &mut Vec<u8>, packet: &[u8]) -> Result<(), NoMemory>
-    requires { length packet.now ≤ 16383 }
-    ensures { OnOk result (octets.new.items ≡ octets.old.items ++ written_packet packet.now) }
+/// Adds a packet behind its length, for which there is room.
+fn put_packet(octets: &mut Vec<u8>, packet: &[u8])
+    requires short { length packet.now ≤ 16383 }
+    requires room { vec_len octets.old + length (written_packet packet.now) ≤ vec_capacity octets.old }
+    ensures items { octets.new.items ≡ octets.old.items ++ written_packet packet.now }
+    ensures len { vec_len octets.new ≡ vec_len octets.old + length (written_packet packet.now) }
+    ensures capacity { vec_capacity octets.old ≤ vec_capacity octets.new }
 {
-    push_length(octets, packet.len())?;
-    octets.extend_from_slice(packet)?;
-    Ok(())
+    put_length(octets, packet.len());
+    put(octets, packet);
 }
 
-/// Adds a length or a count: below 128 one octet, else two that begin with the bits 10.
-fn push_length(octets: &mut Vec<u8>, length: usize) -> Result<(), NoMemory>
-    requires { length ≤ 16383 }
-    ensures { OnOk result (octets.new.items ≡ octets.old.items ++ written_length length) }
+/// Adds a length or a count, for which there is room: below 128 one octet, else two that begin with the
+/// bits 10.
+fn put_length(octets: &mut Vec<u8>, count: usize)
+    requires short { count ≤ 16383 }
+    requires room { vec_len octets.old + length (written_length count) ≤ vec_capacity octets.old }
+    ensures items { octets.new.items ≡ octets.old.items ++ written_length count }
+    ensures len { vec_len octets.new ≡ vec_len octets.old + length (written_length count) }
+    ensures capacity { vec_capacity octets.old ≤ vec_capacity octets.new }
 {
-    if length < 128 {
-        octets.push(length as u8)?;
+    if count < 128 {
+        put(octets, &[count as u8]);
     } else {
-        octets.extend_from_slice(&(0x8000 + length as u16).to_be_bytes())?;
+        put(octets, &(0x8000 + count as u16).to_be_bytes());
     }
-    Ok(())
+}
+
+/// Adds octets, for which there is room.
+fn put(octets: &mut Vec<u8>, more: &[u8])
+    requires room { vec_len octets.old + length more.now ≤ vec_capacity octets.old }
+    ensures items { octets.new.items ≡ octets.old.items ++ more.now }
+    ensures len { vec_len octets.new ≡ vec_len octets.old + length more.now }
+    ensures capacity { vec_capacity octets.old ≤ vec_capacity octets.new }
+{
+    if octets.extend_from_slice(more).is_err() {
+        unreachable!();
+    }
 }

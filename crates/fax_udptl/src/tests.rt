@@ -446,6 +446,28 @@ fn writes_lengths_of_one_and_two_octets(rt: HostRuntime) -> Result<(), Fail> {
 }
 
 #[test]
+fn sends_into_room_that_is_there(rt: HostRuntime) -> Result<(), Fail> {
+    let mut sender = Sender::new(rt.alloc())?;
+    let sent = sender.send(b"\x06")?;
+    assert_eq!(rt; sent.as_slice(), b"\x00\x00\x01\x06\x00\x00".as_slice());
+    // room for more than is sent, and then for less
+    sender.reserve(200)?;
+    sender.reserve(1)?;
+    let sent = sender.send(b"\x08\x09")?;
+    assert_eq!(rt;
+        sent.as_slice(),
+        b"\x00\x01\x02\x08\x09\x00\x01\x01\x06".as_slice()
+    );
+    sender.reserve(0)?;
+    let sent = sender.send(b"\x04")?;
+    assert_eq!(rt;
+        sent.as_slice(),
+        b"\x00\x02\x01\x04\x00\x02\x02\x08\x09\x01\x06".as_slice()
+    );
+    Ok(())
+}
+
+#[test]
 fn numbers_wrap(rt: HostRuntime) -> Result<(), Fail> {
     let mut sender = Sender::new(rt.alloc())?;
     for _ in 0..65_535u16 {
