@@ -10,11 +10,13 @@ use Rattle.fax_call.specs.Replies.{written}
 use Rattle.fax_call.specs.Calls.{Calling, came_all, Ticked}
 use Rattle.fax_call.specs.Following.{Follows}
 
--- what is left of the slots for frames to come, the procedure, and what is left of the text of a page that is given
+-- what is left of the slots for frames to come, the procedure, what is left of the text of a page that is given, and for
+-- how many octets of a packet there is room
 pub record Kept : Type 0 where
   pub tracked : Tracked
   pub procedure : Procedure
   pub text : List ℕ
+  pub spare : ℕ
 
 -- these slots of the call, the newest first, and this core led to it
 pub record IsReached (writes : Writing) (job : JobValue) (heard : List Slot) (core : Calling) (kept : Kept) : Type 0 where

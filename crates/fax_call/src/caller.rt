@@ -13,8 +13,9 @@ ghost use Rattle.fax_frames.specs.declared.writing.Plain.{Plain};
 ghost use Rattle.fax_call.specs.Reached.{IsReached, IsGiven};
 
 use crate::State;
-use crate::pending::Pending;
+use crate::pending::{INDICATOR_OCTETS, Pending};
 use crate::procedure::Procedure;
+use crate::room::Room;
 use crate::text::TextLeft;
 use fax_bits::{NoMemory, Octets};
 use fax_frames::Dcs;
@@ -33,6 +34,8 @@ pub struct Caller {
     pub(crate) procedure: Procedure,
     /// What is left of the text of the page that is given.
     pub(crate) text: TextLeft,
+    /// Room for an indicator, where it was reserved.
+    room: Room,
 }
 
 impl Model for Caller {
@@ -41,7 +44,7 @@ impl Model for Caller {
 
     ghost Value = { Kept };
 
-    ghost view = { λ c. record { tracked = c.signals; procedure = c.procedure; text = c.text } };
+    ghost view = { λ c. record { tracked = c.signals; procedure = c.procedure; text = c.text; spare = c.room } };
 
     ghost invariant = { λ c. IsFit c.procedure × HasText c.procedure.pending c.text };
 }
@@ -58,7 +61,20 @@ impl Caller {
             signals: Signals::new(alloc),
             procedure: Procedure::new(),
             text: TextLeft::none(alloc),
+            room: Room::none(alloc),
         }
+    }
+
+    /// Takes the memory of the first packet of a call, where none is spare: behind it the first tick after a `start` takes
+    /// none. An `Err` changes nothing.
+    pub fn reserve(&mut self) -> Result<(), NoMemory>
+        ensures room { OnOk result (1 ≤ self.new.spare) }
+        ensures reached { (writes : Writing) (job : JobValue) (heard : List SlotShown) (core : Calling) → IsReached writes job heard core self.old
+            → IsReached writes job heard core self.new }
+        ensures same { self.new ≡ record self.old { spare = self.new.spare } }
+        ensures err { OnErr result (self.new ≡ self.old) }
+    {
+        self.room.reserve(self.alloc, INDICATOR_OCTETS)
     }
 
     /// The call of a job begins, of at least one page, where no call is on: CNG waits, and T1 is set. It takes no memory.
@@ -68,6 +84,8 @@ impl Caller {
         ensures started { (writes others : Writing) (job other : JobValue) (heard : List SlotShown) (core : Calling) → IsReached others other heard core self.old
             → IsReached writes job [] (started core format pages now) self.new }
         ensures job { (job : JobValue) → job.format ≡ format → length job.pages ≡ pages → IsJobOfCall self.new.procedure job }
+        ensures tone { self.new.procedure.pending ≡ Pending.Tone }
+        ensures spare { self.new.spare ≡ self.old.spare }
     {
         self.signals = Signals::new(self.alloc);
         self.text = TextLeft::none(self.alloc);
@@ -97,8 +115,8 @@ impl Caller {
 
     /// Time goes on: where no packet waits a timer that is due acts, and then at most one packet is given, where one waits
     /// and the pace allows. The job is the one of the call, the same at each tick. It takes memory for the packet, and for
-    /// the text of a page where its short training indicator is given; where no call is on it takes none and gives nothing.
-    /// A packet has at most 100 octets. An `Err` changes nothing.
+    /// the text of a page where its short training indicator is given; none for CNG where it was reserved; where no call is
+    /// on it takes none and gives nothing. A packet has at most 100 octets. An `Err` changes nothing.
     pub fn tick<S: RowStore>(&mut self, job: &Job<S>, now: u64) -> Result<Option<Octets>, NoMemory>
         requires { IsJobOfCall self.old.procedure job.now }
         ensures ticked { IfOk result (λ given. (writes : Writing) (heard : List SlotShown) (core : Calling) → IsWriting writes
@@ -109,6 +127,7 @@ impl Caller {
         ensures err { OnErr result (self.new ≡ self.old) }
         ensures memory { OnErr result ((writes : Writing) (heard : List SlotShown) (core : Calling) → IsReached writes job.now heard core self.old
             → IsSome (ticked writes job.now core now).given) }
+        ensures spared { self.old.procedure.pending ≡ Pending.Tone → OnErr result (self.old.spare ≡ 0) }
         ensures short { IfOk result (λ given. IfSome given (λ packet. length packet ≤ 100)) }
     {
         let mut procedure = self.procedure;
@@ -139,12 +158,13 @@ impl Caller {
           tracked = self.old.tracked;
           procedure = given_by procedure 0 now;
           text = text_at writes job.now procedure.counts.page dcs;
+          spare = self.new.spare;
         }) }
         ensures same { OnOk result (self.new.procedure ≡ given_by procedure 0 now) }
         ensures err { OnErr result (self.new ≡ self.old) }
     {
         let octets = write_text(self.alloc, job, procedure.counts.page, dcs)?;
-        let packet = procedure.pending.packet(self.alloc, &[])?;
+        let packet = procedure.pending.packet(self.alloc, &mut self.room, &[])?;
         procedure.give(0, now);
         self.procedure = procedure;
         self.text = TextLeft::all(octets);
@@ -166,11 +186,13 @@ impl Caller {
           tracked = self.old.tracked;
           procedure = given_by procedure (length self.old.text) now;
           text = drop (text_octets procedure.pending) self.old.text;
+          spare = self.new.spare;
         }) }
+        ensures spared { procedure.pending ≡ Pending.Tone → OnErr result (self.old.spare ≡ 0) }
         ensures err { OnErr result (self.new ≡ self.old) }
     {
         let pending = procedure.pending;
-        let packet = pending.packet(self.alloc, self.text.as_slice())?;
+        let packet = pending.packet(self.alloc, &mut self.room, self.text.as_slice())?;
         procedure.give(self.text.as_slice().len(), now);
         self.procedure = procedure;
         self.text.pass(self.alloc, pending.text_octets());

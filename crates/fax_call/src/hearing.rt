@@ -35,12 +35,13 @@ impl Caller {
         Ok(())
     }
 
-    /// Hears the slots. An `Err` leaves what is left of the text.
+    /// Hears the slots. An `Err` leaves what is left of the text, and the room.
     fn hear_slots(&mut self, decided: &Decided<'_>) -> Result<(), NoMemory>
         ensures heard { OnOk result ((writes : Writing) (job : JobValue) (heard : List SlotShown) (core : Calling)
             → IsReached writes job heard core self.old → Hears writes job (slots_in decided.now) heard core self.new) }
         ensures job { (job : JobValue) → IsJobOfCall self.old.procedure job → IsJobOfCall self.new.procedure job }
         ensures text { self.new.text ≡ self.old.text }
+        ensures spare { self.new.spare ≡ self.old.spare }
         ensures no_packet { decided.now.packets ≡ [] → IsOk result }
     {
         self.lose(decided.lost());
@@ -58,6 +59,7 @@ impl Caller {
             → Follows writes job (came_all core (pieces_shown pieces.now)) self.new.text self.new.procedure }
         ensures tracked { self.new.tracked ≡ self.old.tracked }
         ensures text { self.new.text ≡ self.old.text }
+        ensures spare { self.new.spare ≡ self.old.spare }
         ensures job { (job : JobValue) → IsJobOfCall self.old.procedure job → IsJobOfCall self.new.procedure job }
     {
         self.procedure.hear_all(pieces);
@@ -69,6 +71,7 @@ impl Caller {
             → IsReached writes job heard core self.old → Hears writes job (lost_slots count) heard core self.new }
         ensures procedure { self.new.procedure ≡ self.old.procedure }
         ensures text { self.new.text ≡ self.old.text }
+        ensures spare { self.new.spare ≡ self.old.spare }
     {
         self.signals.lose(count);
     }

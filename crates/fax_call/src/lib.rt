@@ -11,6 +11,7 @@ mod hearing;
 pub mod laws;
 mod pending;
 mod procedure;
+mod room;
 mod state;
 mod table;
 #[cfg(test)]

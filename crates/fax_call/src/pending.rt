@@ -1,14 +1,15 @@
 //! What waits.
-ghost use Rattle.std.specs.Prelude.{◌≡◌, ◌≢◌, ◌≤◌, ◌<◌, ◌*◌, ◌/◌, length, take, replicate, IfOk};
+ghost use Rattle.std.specs.Prelude.{◌≡◌, ◌≢◌, ◌≤◌, ◌<◌, ◌*◌, ◌/◌, length, take, replicate, IfOk, OnErr};
 ghost use Rattle.fax_ifp.specs.WrittenPackets.{written_indicator, written_message, image_fields};
 ghost use Rattle.fax_call.specs.Replies.{written, part_length, check_length, Part};
 ghost use Rattle.fax_call.specs.Kept.{frame_text, frame_behind, packet_of, pending_behind, check_part, text_part, FitsMessage, FitsPending};
 ghost use Rattle.fax_call.specs.Following.{HasText, text_octets};
 ghost use Rattle.fax_frames.specs.Rates.{kind_of};
 
+use crate::room::Room;
 use fax_bits::{NoMemory, Octets};
 use fax_frames::{Dcs, FrameBytes, Plain, write_dcs, write_plain};
-use fax_ifp::{Indicator, write_frame, write_image, write_indicator};
+use fax_ifp::{Indicator, put_indicator, write_frame, write_image};
 use std::alloc::Global;
 
 /// A frame that the calling side gives.
@@ -65,21 +66,24 @@ pub(crate) enum Pending {
 }
 
 impl Pending {
-    /// The next packet, where this is left of the text.
-    pub fn packet(self, alloc: Global, text: &[u8]) -> Result<Octets, NoMemory>
+    /// The next packet, where this is left of the text. An indicator takes no memory where there is room for it. An
+    /// `Err` leaves the room as it was.
+    pub fn packet(self, alloc: Global, room: &mut Room, text: &[u8]) -> Result<Octets, NoMemory>
         requires some { self ≢ Pending.Nothing }
         requires fits { FitsPending self }
         requires text { HasText self text.now }
-        ensures { IfOk result (λ octets. octets ≡ written (packet_of self text.now)) }
+        ensures packet { IfOk result (λ octets. octets ≡ written (packet_of self text.now)) }
+        ensures spared { self ≡ Pending.Tone → OnErr result (room.old ≡ 0) }
+        ensures err { OnErr result (room.new ≡ room.old) }
     {
         match self {
             Pending::Nothing => unreachable!(),
-            Pending::Tone => indicator(alloc, Indicator::Cng.code()),
-            Pending::Preamble(_) => indicator(alloc, Indicator::V21Preamble.code()),
+            Pending::Tone => indicator(alloc, room, Indicator::Cng.code()),
+            Pending::Preamble(_) => indicator(alloc, room, Indicator::V21Preamble.code()),
             Pending::Frame(message) => write_frame(alloc, message.frame().as_slice()),
-            Pending::Training(dcs) => indicator(alloc, dcs.rate.training(true)),
+            Pending::Training(dcs) => indicator(alloc, room, dcs.rate.training(true)),
             Pending::Check(dcs, given) => check_packet(alloc, dcs, given),
-            Pending::Image(dcs, _) => indicator(alloc, dcs.rate.training(false)),
+            Pending::Image(dcs, _) => indicator(alloc, room, dcs.rate.training(false)),
             Pending::Text(dcs, _) => text_packet(alloc, dcs, text),
         }
     }
@@ -157,6 +161,9 @@ fn check_packet(alloc: Global, dcs: Dcs, given: u16) -> Result<Octets, NoMemory>
     }
 }
 
+/// How many octets the packet of an indicator has.
+pub(crate) const INDICATOR_OCTETS: usize = 1;
+
 /// As many zero octets as a packet has at most.
 const ZEROS: [u8; 72] = [0; 72];
 
@@ -181,10 +188,15 @@ fn text_packet(alloc: Global, dcs: Dcs, text: &[u8]) -> Result<Octets, NoMemory>
     }
 }
 
-/// The packet of an indicator.
-fn indicator(alloc: Global, code: u8) -> Result<Octets, NoMemory>
+/// The packet of an indicator: one octet, which takes no memory where there is room for it. An `Err` leaves the room as it
+/// was.
+fn indicator(alloc: Global, room: &mut Room, code: u8) -> Result<Octets, NoMemory>
     requires { code ≤ 15 }
-    ensures { IfOk result (λ octets. octets ≡ written_indicator code) }
+    ensures packet { IfOk result (λ octets. octets ≡ written_indicator code) }
+    ensures spared { OnErr result (room.old ≡ 0) }
+    ensures err { OnErr result (room.new ≡ room.old) }
 {
-    Ok(Octets::from_vec(Vec::from_slice(alloc, &write_indicator(code))?))
+    let mut octets = room.take(alloc, INDICATOR_OCTETS)?;
+    put_indicator(&mut octets, code);
+    Ok(Octets::from_vec(octets))
 }

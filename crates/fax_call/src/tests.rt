@@ -2,6 +2,7 @@
 mod calls;
 mod hostile;
 mod memory;
+mod reserve;
 mod timing;
 
 use crate::{Caller, Outcome, State};

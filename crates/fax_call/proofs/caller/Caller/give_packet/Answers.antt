@@ -6,8 +6,8 @@ use Rattle.fax_call.specs.Following.{HasText, text_octets}
 use Rattle.fax_call.proofs.GivingLemmas.{given_pending, has_behind}
 use Rattle.fax_call.proofs.caller.Caller.give_packet.Goals as goal
 
-pub invariant_of-self : goal.invariant_of-self
-invariant_of-self c =
+pub invariant_of-self-2 : goal.invariant_of-self-2
+invariant_of-self-2 c =
     let left : List ℕ = c.as_slice-2.result.now in
     let text : List ℕ = c.self.inside.text in
     let q : Pending = c.args.procedure.pending in

@@ -29,4 +29,5 @@ loop-packet-preserved c =
           (c.hear_all.ensures.heard writes job a (subst (λ (k : Kept). Follows writes job a k.text k.procedure) (sym c.self-in-loop-packet.view_is) f))));
       job = λ job h. c.hear_all.ensures.job job (subst (λ (k : Kept). IsJobOfCall k.procedure job) (sym c.self-in-loop-packet.view_is) (before.job job h));
       text = c.hear_all.ensures.text ∙ ap (λ (k : Kept). k.text) c.self-in-loop-packet.view_is ∙ before.text;
+      spare = c.hear_all.ensures.spare ∙ ap (λ (k : Kept). k.spare) c.self-in-loop-packet.view_is ∙ before.spare;
     }

@@ -3,7 +3,7 @@ use Rattle.std.proofs.lemmas.Result.{IfOk-weaker}
 use Rattle.fax_frames.specs.declared.dcs.Dcs.{Dcs}
 use Rattle.fax_frames.specs.declared.writing.Plain.{Plain}
 use Rattle.fax_ifp.specs.Tracked.{Tracked, IsTracked}
-use Rattle.fax_call.specs.declared.pending.Pending.TheVariants.{Nothing, Image}
+use Rattle.fax_call.specs.declared.pending.Pending.TheVariants.{Nothing, Tone, Image}
 use Rattle.fax_call.specs.declared.procedure.Procedure.{Procedure}
 use Rattle.fax_call.specs.declared.state.State.TheVariants.{Idle}
 use Rattle.fax_ifp.specs.Elements.{Slot}
@@ -23,7 +23,7 @@ returns-then-not-gives-clause-ticked g c writes heard core writing r =
     let s = subst (λ (k : Kept). IsReached writes job heard core k) (sym c.self.view_is) r in
     let acted = c.act.ensures.acted writes job core _ s.follows in
     let none : gives_now (timed core now) now ≡ false = sym (c.gives.ensures.gives writes job (timed core now) _ acted) ∙ c.if-not-gives.true in
-    reached_rests writes job heard core now (record { tracked = c.self.inside.signals; procedure = c.act.new.self; text = c.self.inside.text }) s.tracked none acted
+    reached_rests writes job heard core now (record { tracked = c.self.inside.signals; procedure = c.act.new.self; text = c.self.inside.text; spare = c.self.inside.room }) s.tracked none acted
 
 pub returns-in-Image-clause-ticked : goal.returns-in-Image-clause-ticked
 returns-in-Image-clause-ticked g c =
@@ -78,6 +78,11 @@ returns-in_default g c =
           let s = subst (λ (k : Kept). IsReached writes job heard core k) (sym c.self.view_is) r in
           let acted = c.act.ensures.acted writes job core _ s.follows in
           given_gives writes job core now (sym (c.gives.ensures.gives writes job (timed core now) _ acted) ∙ c.if-not-gives.false));
+      spared =
+          λ (e : c.args.self.now.procedure.pending ≡ Tone).
+          let waits : c.self.inside.procedure.pending ≡ Tone = ap (λ (k : Kept). k.procedure.pending) c.self.view_is ∙ e in
+          let same : p ≡ c.self.inside.procedure = c.act.ensures.waiting (λ n. cc) in
+          c.give_packet.ensures.spared (ap (λ (x : Procedure). x.pending) same ∙ waits);
       short = IfOk-weaker c.give_packet.result _ _ (λ given is. short_as p.pending text given is) c.give_packet.ensures.packet;
     }
 
