@@ -1,5 +1,5 @@
 -- The book of jobs: what it has, and what each of its steps makes of it. (This project's profile.)
-use Rattle.std.specs.Prelude.{◌≡◌, ℕ, ◌<◌, ◌-◌, Bool, true, false, not, ◌&&◌, nat_lt, nat_eq, List, [], ◌∷◌, ◌++◌, length, drop, Option, Some, None, if◌then◌else◌}
+use Rattle.std.specs.Prelude.{◌≡◌, ℕ, ◌<◌, ◌+◌, ◌-◌, Bool, true, false, not, ◌&&◌, nat_lt, nat_eq, List, [], ◌∷◌, ◌++◌, length, drop, Option, Some, None, if◌then◌else◌}
 use Rattle.fax_runcodes.specs.declared.format.Format.{Format}
 use Rattle.fax_runcodes.specs.declared.Width.{Width}
 use Rattle.fax_runcodes.specs.declared.Width.TheVariants.{W1728, W2048, W2432}
@@ -15,6 +15,11 @@ pub record Book : Type 0 where
   pub waiting : List JobValue
   pub sending : Option JobValue
   pub reports : List Report
+
+-- a book, and how many pages can surely come without memory being asked for
+pub record JobsValue : Type 0 where
+  pub book : Book
+  pub spare : ℕ
 
 abbrev pub new_book : Book
 new_book = record { open_job = None; waiting = []; sending = None; reports = [] }
@@ -105,3 +110,18 @@ with_page book call page = if joins book.open_job call page then added book page
 
 abbrev pub confirmed : Book → ℕ → PageValue → (closes : Bool) → Book
 confirmed book call page closes = if closes then closed (with_page book call page) else with_page book call page
+
+-- ROOM for a page, whichever job it comes into: a list for the first page of a new job, a list that takes the pages of the
+-- open job and one more, and a place among those that wait for each of these jobs.
+abbrev pub page_count : Option JobValue → ℕ
+page_count None = 0
+page_count (Some job) = length job.pages
+
+abbrev pub open_count : Option JobValue → ℕ
+open_count None = 0
+open_count (Some job) = 1
+
+pub record HasRoom (open_job : Option JobValue) (waiting places first_room larger_room : ℕ) : Type 0 where
+  pub first : 0 < first_room
+  pub larger : page_count open_job < larger_room
+  pub places_left : waiting + open_count open_job < places

@@ -1,5 +1,5 @@
 //! A job: pages that go out in one call.
-ghost use Rattle.std.specs.Prelude.{◌≡◌, ◌<◌, length, OnOk, OnErr, IfOk, IfErr};
+ghost use Rattle.std.specs.Prelude.{◌≡◌, ◌<◌, length, vec_len, vec_capacity, OnOk, OnErr, IfOk, IfErr};
 ghost use Rattle.fax_jobs.specs.Jobs.{IsJob, most_pages};
 ghost use Rattle.fax_jobs.specs.Books.{job_of, longer};
 
@@ -33,15 +33,25 @@ impl<S: RowStore> Job<S> {
         ensures made { IfOk result (λ job. job ≡ job_of call page) }
         ensures back { IfErr result (λ back. back ≡ page) }
     {
+        Job::in_list(Vec::new(alloc), call, page)
+    }
+
+    /// The same with its list in this one, which is empty. It takes memory only where that has no room.
+    pub(crate) fn in_list(list: Vec<Page<S>>, call: u32, page: Page<S>) -> Result<Self, Page<S>>
+        requires { vec_len list ≡ 0 }
+        ensures made { IfOk result (λ job. job ≡ job_of call page) }
+        ensures back { IfErr result (λ back. back ≡ page) }
+        ensures memory { OnErr result (vec_capacity list ≡ 0) }
+    {
         let format = page.format();
         // what it ensures of the page's rows makes this a job
         let _ = page.rows();
-        let mut pages = Pages::from_vec(Vec::new(alloc));
-        pages.push(page)?;
+        let mut list = list;
+        list.push(page).map_err(|refused| refused.value)?;
         Ok(Job {
             call,
             format,
-            pages,
+            pages: Pages::from_vec(list),
         })
     }
 
@@ -56,6 +66,20 @@ impl<S: RowStore> Job<S> {
         // what it ensures of the page's rows keeps this a job
         let _ = page.rows();
         self.pages.push(page)
+    }
+
+    /// Adds a page behind the others, which move into a larger list where theirs is full: it takes no memory.
+    pub(crate) fn add_within(&mut self, larger: &mut Vec<Page<S>>, page: Page<S>)
+        requires one_format { page.format ≡ self.old.format }
+        requires few { length self.old.pages < most_pages }
+        requires empty { vec_len larger.old ≡ 0 }
+        requires room { length self.old.pages < vec_capacity larger.old }
+        ensures added { self.new ≡ longer self.old page }
+        ensures empty { vec_len larger.new ≡ 0 }
+    {
+        // what it ensures of the page's rows keeps this a job
+        let _ = page.rows();
+        self.pages.push_within(larger, page);
     }
 
     /// The number of the call that its pages came in.

@@ -1,5 +1,5 @@
 //! The book of jobs.
-ghost use Rattle.std.specs.Prelude.{◌≡◌, None, length, slice_get, option_copied, IfOk, IfErr, OnOk, OnErr, IsSome};
+ghost use Rattle.std.specs.Prelude.{◌≡◌, ◌≤◌, None, length, slice_get, option_copied, IfOk, IfErr, OnOk, OnErr, IsSome};
 ghost use Rattle.fax_jobs.specs.Books.{new_book, opened, added, closed, taken, ended, confirmed, joins, TakesPage};
 
 use crate::{Job, Outcome, Report};
@@ -9,6 +9,7 @@ use fax_pagestore::{Page, RowStore};
 use std::alloc::Global;
 use std::collections::VecDeque;
 use std::marker::Model;
+use std::mem;
 
 /// How many reports are kept.
 const KEPT_REPORTS: usize = 64;
@@ -17,8 +18,8 @@ const KEPT_REPORTS: usize = 64;
 const MOST_PAGES: u32 = 999;
 
 /// The jobs of a gateway: the one that pages still join, those that wait, the one that is being sent, and the reports of
-/// the last 64 that ended. Memory is asked for where a book is made and where a page comes; closing a job, sending it
-/// and ending it take none and cannot fail.
+/// the last 64 that ended. Memory is asked for where a book is made and where a page comes, or before that by `reserve`;
+/// closing a job, sending it and ending it take none and cannot fail.
 #[derive(Drop)]
 pub struct Jobs<S: RowStore> {
     alloc: Global,
@@ -28,24 +29,35 @@ pub struct Jobs<S: RowStore> {
     sending: Option<Job<S>>,
     /// The oldest in front.
     reports: HeapCircularBuffer<Report>,
+    /// Empty: room for the first page of the next job.
+    first: Vec<Page<S>>,
+    /// Empty: room for the pages of the open job and one more.
+    larger: Vec<Page<S>>,
+    /// For how many pages there surely is room, 1 or 0.
+    spare: usize,
 }
 
 impl<S: RowStore> Model for Jobs<S> {
-    ghost use Rattle.std.specs.Prelude.{◌≡◌, ◌<◌, IsSome};
+    ghost use Rattle.std.specs.Prelude.{◌≡◌, ◌<◌, IsSome, vec_len, vec_capacity};
     ghost use Rattle.std.specs.VecDeque.{deque_len, deque_capacity};
-    ghost use Rattle.fax_jobs.specs.Books.{Book, kept_reports};
+    ghost use Rattle.fax_jobs.specs.Books.{JobsValue, HasRoom, kept_reports};
 
-    ghost Value = { Book };
+    ghost Value = { JobsValue };
 
-    ghost view = { λ jobs. record { open_job = jobs.open_job; waiting = jobs.waiting.items; sending = jobs.sending; reports = jobs.reports.items } };
+    ghost view = { λ jobs. record {
+      book = record { open_job = jobs.open_job; waiting = jobs.waiting.items; sending = jobs.sending; reports = jobs.reports.items };
+      spare = jobs.spare;
+    } };
 
-    ghost invariant = { λ jobs. (jobs.reports.capacity ≡ kept_reports) × (IsSome jobs.open_job → deque_len jobs.waiting < deque_capacity jobs.waiting) };
+    ghost invariant = { λ jobs. (jobs.reports.capacity ≡ kept_reports) × (IsSome jobs.open_job → deque_len jobs.waiting < deque_capacity jobs.waiting)
+        × (vec_len jobs.first ≡ 0) × (vec_len jobs.larger ≡ 0)
+        × (0 < jobs.spare → HasRoom jobs.open_job (deque_len jobs.waiting) (deque_capacity jobs.waiting) (vec_capacity jobs.first) (vec_capacity jobs.larger)) };
 }
 
 impl<S: RowStore> Jobs<S> {
     /// A book with no jobs and no reports. It takes memory for 64 reports.
     pub fn new(alloc: Global) -> Result<Self, NoMemory>
-        ensures { IfOk result (λ jobs. jobs ≡ new_book) }
+        ensures { IfOk result (λ jobs. jobs.book ≡ new_book) }
     {
         let reports = HeapCircularBuffer::with_capacity(alloc, KEPT_REPORTS)?;
         Ok(Jobs {
@@ -54,16 +66,38 @@ impl<S: RowStore> Jobs<S> {
             waiting: VecDeque::new(alloc),
             sending: None,
             reports,
+            first: Vec::new(alloc),
+            larger: Vec::new(alloc),
+            spare: 0,
         })
+    }
+
+    /// Makes room for one page: the next `open`, `add_page` or `confirm` takes no memory.
+    pub fn reserve(&mut self) -> Result<(), NoMemory>
+        ensures room { OnOk result (1 ≤ self.new.spare) }
+        ensures same { self.new.book ≡ self.old.book }
+        ensures err { OnErr result (self.new ≡ self.old) }
+    {
+        let pages = match &self.open_job {
+            None => 0,
+            Some(job) => job.page_count() as usize,
+        };
+        self.first.reserve_exact(1)?;
+        self.larger.reserve(pages + 1)?;
+        // a job that is closed for the page waits, and the page's own has its place
+        self.waiting.reserve(2)?;
+        self.spare = 1;
+        Ok(())
     }
 
     /// Opens a job with its first page, which came in the call of this number. For want of memory nothing changes, and
     /// the page is handed back.
     pub fn open(&mut self, call: u32, page: Page<S>) -> Result<(), Page<S>>
-        requires { self.old.open_job ≡ None }
-        ensures opened { OnOk result (self.new ≡ opened self.old call page) }
+        requires { self.old.book.open_job ≡ None }
+        ensures opened { OnOk result (self.new.book ≡ opened self.old.book call page) }
         ensures back { IfErr result (λ back. back ≡ page) }
         ensures err { OnErr result (self.new ≡ self.old) }
+        ensures memory { OnErr result (self.old.spare ≡ 0) }
     {
         self.open_next(call, page)
     }
@@ -71,14 +105,22 @@ impl<S: RowStore> Jobs<S> {
     /// Adds a page to the open job, which is of its format and has fewer than 999 pages. For want of memory nothing
     /// changes, and the page is handed back.
     pub fn add_page(&mut self, page: Page<S>) -> Result<(), Page<S>>
-        requires { TakesPage self.old.open_job page }
-        ensures added { OnOk result (self.new ≡ added self.old page) }
+        requires { TakesPage self.old.book.open_job page }
+        ensures added { OnOk result (self.new.book ≡ added self.old.book page) }
         ensures back { IfErr result (λ back. back ≡ page) }
         ensures err { OnErr result (self.new ≡ self.old) }
+        ensures memory { OnErr result (self.old.spare ≡ 0) }
     {
         match &mut self.open_job {
             None => unreachable!(),
-            Some(job) => job.add_page(page),
+            Some(job) => {
+                if self.spare == 0 {
+                    return job.add_page(page);
+                }
+                self.spare = 0;
+                job.add_within(&mut self.larger, page);
+                Ok(())
+            }
         }
     }
 
@@ -86,9 +128,10 @@ impl<S: RowStore> Jobs<S> {
     /// with it. Where it `closes`, as behind EOP, the job is closed. For want of memory nothing changes, and the page is
     /// handed back.
     pub fn confirm(&mut self, call: u32, page: Page<S>, closes: bool) -> Result<(), Page<S>>
-        ensures confirmed { OnOk result (self.new ≡ confirmed self.old call page closes) }
+        ensures confirmed { OnOk result (self.new.book ≡ confirmed self.old.book call page closes) }
         ensures back { IfErr result (λ back. back ≡ page) }
         ensures err { OnErr result (self.new ≡ self.old) }
+        ensures memory { OnErr result (self.old.spare ≡ 0) }
     {
         if self.joins(call, &page) {
             self.add_page(page)?;
@@ -103,7 +146,8 @@ impl<S: RowStore> Jobs<S> {
 
     /// A call has ended: its open job, where there is one, is closed. It takes no memory.
     pub fn end_call(&mut self)
-        ensures { self.new ≡ closed self.old }
+        ensures closed { self.new.book ≡ closed self.old.book }
+        ensures spare { self.new.spare ≡ self.old.spare }
     {
         if self.open_job.is_some() {
             self.close();
@@ -112,8 +156,9 @@ impl<S: RowStore> Jobs<S> {
 
     /// Closes the open job, which waits behind the others then. It takes no memory.
     pub fn close(&mut self)
-        requires { IsSome self.old.open_job }
-        ensures { self.new ≡ closed self.old }
+        requires { IsSome self.old.book.open_job }
+        ensures closed { self.new.book ≡ closed self.old.book }
+        ensures spare { self.new.spare ≡ self.old.spare }
     {
         if let Some(job) = self.open_job.take() {
             self.waiting.push_back_reserved(job);
@@ -123,8 +168,9 @@ impl<S: RowStore> Jobs<S> {
     /// Takes the job that was closed first as the one that is being sent, or none where none waits. It takes no memory,
     /// and as long however many wait.
     pub fn next(&mut self)
-        requires { self.old.sending ≡ None }
-        ensures { self.new ≡ taken self.old }
+        requires { self.old.book.sending ≡ None }
+        ensures taken { self.new.book ≡ taken self.old.book }
+        ensures spare { self.new.spare ≡ self.old.spare }
     {
         self.sending = self.waiting.pop_front();
     }
@@ -132,8 +178,9 @@ impl<S: RowStore> Jobs<S> {
     /// The job that is being sent has ended so, with so many pages delivered: it is reported, and its pages go. It takes
     /// no memory.
     pub fn end(&mut self, outcome: Outcome, delivered: u32)
-        requires { IsSome self.old.sending }
-        ensures { self.new ≡ ended self.old outcome delivered }
+        requires { IsSome self.old.book.sending }
+        ensures ended { self.new.book ≡ ended self.old.book outcome delivered }
+        ensures spare { self.new.spare ≡ self.old.spare }
     {
         match self.sending.take() {
             None => unreachable!(),
@@ -152,35 +199,35 @@ impl<S: RowStore> Jobs<S> {
 
     /// The job that pages still join.
     pub fn open_job(&self) -> Option<&Job<S>>
-        ensures { option_copied result ≡ self.now.open_job }
+        ensures { option_copied result ≡ self.now.book.open_job }
     {
         self.open_job.as_ref()
     }
 
     /// The job that is being sent.
     pub fn sending(&self) -> Option<&Job<S>>
-        ensures { option_copied result ≡ self.now.sending }
+        ensures { option_copied result ≡ self.now.book.sending }
     {
         self.sending.as_ref()
     }
 
     /// How many jobs wait.
     pub fn waiting(&self) -> usize
-        ensures { result ≡ length self.now.waiting }
+        ensures { result ≡ length self.now.book.waiting }
     {
         self.waiting.len()
     }
 
     /// Report i of those that are kept, counted from 0, the oldest.
     pub fn report(&self, i: usize) -> Option<Report>
-        ensures { result ≡ slice_get self.now.reports i }
+        ensures { result ≡ slice_get self.now.book.reports i }
     {
         self.reports.get(i).copied()
     }
 
     /// Whether a page of the call of this number joins the open job.
     fn joins(&self, call: u32, page: &Page<S>) -> bool
-        ensures { result ≡ joins self.now.open_job call page.now }
+        ensures { result ≡ joins self.now.book.open_job call page.now }
     {
         match &self.open_job {
             None => false,
@@ -192,15 +239,19 @@ impl<S: RowStore> Jobs<S> {
 
     /// Closes the open job, where there is one, and opens another with this page.
     fn open_next(&mut self, call: u32, page: Page<S>) -> Result<(), Page<S>>
-        ensures opened { OnOk result (self.new ≡ opened (closed self.old) call page) }
+        ensures opened { OnOk result (self.new.book ≡ opened (closed self.old.book) call page) }
         ensures back { IfErr result (λ back. back ≡ page) }
         ensures err { OnErr result (self.new ≡ self.old) }
+        ensures memory { OnErr result (self.old.spare ≡ 0) }
     {
         // room for the one that is closed now and for the one that is opened
-        if self.waiting.reserve(2).is_err() {
+        let places = 1 + usize::from(self.open_job.is_some());
+        if self.waiting.reserve(places).is_err() {
             return Err(page);
         }
-        let job = Job::of_page(self.alloc, call, page)?;
+        let list = mem::replace(&mut self.first, Vec::new(self.alloc));
+        let job = Job::in_list(list, call, page)?;
+        self.spare = 0;
         if let Some(last) = self.open_job.replace(job) {
             self.waiting.push_back_reserved(last);
         }

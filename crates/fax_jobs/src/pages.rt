@@ -1,8 +1,9 @@
 //! A list of pages.
-ghost use Rattle.std.specs.Prelude.{◌≡◌, ◌∷◌, ◌++◌, [], OnOk, OnErr, IfErr};
+ghost use Rattle.std.specs.Prelude.{◌≡◌, ◌<◌, ◌∷◌, ◌++◌, [], length, vec_len, vec_capacity, OnOk, OnErr, IfErr};
 
 use fax_pagestore::{Page, RowStore};
 use std::marker::Model;
+use std::mem;
 
 /// Pages in a vector, which contracts see as their list.
 #[derive(Drop)]
@@ -49,5 +50,21 @@ impl<S: RowStore> Pages<S> {
         ensures err { OnErr result (self.new ≡ self.old) }
     {
         self.pages.push(page).map_err(|refused| refused.value)
+    }
+
+    /// Adds a page behind the others, which move into a larger list where theirs is full: it takes no memory.
+    pub(crate) fn push_within(&mut self, larger: &mut Vec<Page<S>>, page: Page<S>)
+        requires empty { vec_len larger.old ≡ 0 }
+        requires room { length self.old < vec_capacity larger.old }
+        ensures pushed { self.new ≡ self.old ++ page ∷ [] }
+        ensures empty { vec_len larger.new ≡ 0 }
+    {
+        if self.pages.len() == self.pages.capacity() {
+            if larger.append(&mut self.pages).is_err() {
+                unreachable!();
+            }
+            mem::swap(&mut self.pages, larger);
+        }
+        self.pages.push_reserved(page);
     }
 }
