@@ -6,6 +6,7 @@ mod timing;
 
 use crate::{Answerer, State, Step};
 use fax_bits::{NoMemory, Octets};
+use fax_frames::{Dcs, Length, Rate};
 use fax_pagestore::{Format, Page, PlainRows, RowStore};
 use fax_runcodes::Width;
 use fax_udptl::Receiver;
@@ -29,8 +30,18 @@ const RTN: &str = "c002800002ffc83240";
 
 const DCN: &str = "c002800002ffc85f40";
 
+/// What the DCS of these calls tells.
+const DCS: Dcs = Dcs {
+    rate: Rate::V27At2400,
+    fine: false,
+    two_d: false,
+    width: Width::W1728,
+    length: Length::A4,
+    scan_ms: 20,
+};
+
 /// What happens in a call, and what is to come of it. Moments are milliseconds behind the ring.
-#[derive(Clone, Copy, Debug)]
+#[derive(Clone, Copy)]
 enum Event<'a> {
     /// It rings at this moment, counted from no other.
     Ring(u64),
@@ -38,6 +49,8 @@ enum Event<'a> {
     Comes(&'a str),
     /// So does one of so many zero octets between two hex texts.
     ZerosCome(&'a str, u16, &'a str),
+    /// Parts of an image come, from this number on so many, each of 16,378 octets, all of which are this one.
+    PartsCome(u16, u16, u8),
     /// A datagram of this hex text comes, with which the call has ended.
     Ended(&'a str),
     /// A tick gives nothing.
@@ -50,10 +63,23 @@ enum Event<'a> {
     Confirms(u64, &'a str, bool),
     /// A tick gives this packet, and the call has ended.
     Ends(u64, &'a str),
+    /// The call stands here.
+    Stands(State),
+    /// So many pages were confirmed on the leg.
+    Pages(u32),
+    /// From here on memory is reserved before each tick.
+    Reserves,
+}
+
+/// A call that is played on a leg of its own, or some, one after another.
+#[derive(Clone, Copy)]
+struct Call {
+    name: &'static str,
+    scripts: &'static [&'static [Event<'static>]],
 }
 
 /// What a tick is to answer.
-#[derive(Clone, Copy, Debug)]
+#[derive(Clone, Copy)]
 struct Told<'a> {
     packet: Option<&'a str>,
     closes: Option<bool>,
@@ -113,6 +139,8 @@ struct Leg {
     alloc: Global,
     receiver: Receiver,
     answerer: Answerer<PlainRows>,
+    /// What is played.
+    name: &'static str,
     /// Whether memory is reserved before each tick.
     reserves: bool,
     /// The moment of the last ring.
@@ -134,6 +162,7 @@ impl Leg {
             alloc,
             receiver: Receiver::new(),
             answerer: Answerer::new(alloc),
+            name: "a call",
             reserves: false,
             rung: 0,
             now: 0,
@@ -164,10 +193,9 @@ impl Leg {
             Event::Ended(text) => self.expect_call(rt, text, true),
             Event::ZerosCome(head, zeros, tail) => {
                 let datagram = self.text(head, zeros, tail)?;
-                let ended = self.take(datagram.as_slice())?;
-                assert_eq!(rt; ended, Some(false), "at {head}");
-                Ok(())
+                self.expect_taken(rt, datagram.as_slice())
             }
+            Event::PartsCome(first, count, octet) => self.expect_parts(rt, first, count, octet),
             Event::Quiet(moment) => self.expect_tick(rt, moment, NOTHING),
             Event::AllQuiet(from, to) => self.expect_quiet(rt, from, to),
             Event::Gives(moment, packet) => {
@@ -193,19 +221,32 @@ impl Leg {
                 };
                 self.expect_tick(rt, moment, told)
             }
+            Event::Stands(state) => {
+                self.expect_state(rt, state);
+                Ok(())
+            }
+            Event::Pages(pages) => {
+                self.expect_pages(rt, pages);
+                Ok(())
+            }
+            Event::Reserves => {
+                self.reserves = true;
+                Ok(())
+            }
         }
     }
 
     /// It rings, with a receiver to which nothing came.
     fn ring(&mut self, rt: &impl Abort, now: u64) {
+        let name = self.name;
         assert!(rt;
             self.answerer.state() == State::Idle,
-            "a call is on at {now}"
+            "{name}: a call is on at {now}"
         );
+        self.answerer.ring(now);
         self.receiver = Receiver::new();
         self.rung = now;
         self.now = now;
-        self.answerer.ring(now);
     }
 
     /// A datagram comes: whether the call has ended, or `None` where the octets are no datagram.
@@ -229,13 +270,12 @@ impl Leg {
         if self.reserves {
             self.answerer.reserve()?;
         }
-        match self.answerer.tick(now) {
-            Ok(step) => Ok(step),
-            Err(NoMemory) => {
-                self.refused_calls = self.refused_calls.saturating_add(1);
-                self.answerer.tick(now)
-            }
+        let step = self.answerer.tick(now);
+        if step.is_ok() {
+            return step;
         }
+        self.refused_calls = self.refused_calls.saturating_add(1);
+        self.answerer.tick(now)
     }
 
     /// So many zero octets between those of two hex texts. Where memory is refused it is asked for again once.
@@ -253,9 +293,52 @@ impl Leg {
     fn expect_call(&mut self, rt: &impl Abort, text: &str, is_ended: bool) -> Result<(), NoMemory> {
         let datagram = self.text(text, 0, "")?;
         let ended = self.take(datagram.as_slice())?;
-        assert_eq!(rt; ended, Some(is_ended), "at {text}");
-        assert_eq!(rt; self.answerer.state() == State::Idle, is_ended, "at {text}");
+        let name = self.name;
+        assert_eq!(rt; ended, Some(is_ended), "{name} at {text}");
+        assert_eq!(rt;
+            self.answerer.state() == State::Idle,
+            is_ended,
+            "{name} at {text}"
+        );
         Ok(())
+    }
+
+    /// Fails unless octets are a datagram, behind which the call goes on.
+    fn expect_taken(&mut self, rt: &impl Abort, octets: &[u8]) -> Result<(), NoMemory> {
+        let ended = self.take(octets)?;
+        let name = self.name;
+        assert_eq!(rt; ended, Some(false), "{name}");
+        Ok(())
+    }
+
+    /// Fails unless the call goes on behind each of so many parts of an image.
+    fn expect_parts(
+        &mut self,
+        rt: &impl Abort,
+        first: u16,
+        count: u16,
+        octet: u8,
+    ) -> Result<(), NoMemory> {
+        let part = octets_between(self.alloc, "c201e03ff9", 16_378, octet, "")?;
+        let mut number = first;
+        for _ in 0..count {
+            let datagram = datagram_of(self.alloc, number, part.as_slice())?;
+            self.expect_taken(rt, datagram.as_slice())?;
+            number = number.wrapping_add(1);
+        }
+        Ok(())
+    }
+
+    /// Fails unless the call stands here.
+    fn expect_state(&self, rt: &impl Abort, wanted: State) {
+        let name = self.name;
+        assert_eq!(rt; self.answerer.state(), wanted, "{name}");
+    }
+
+    /// Fails unless so many pages were confirmed.
+    fn expect_pages(&self, rt: &impl Abort, wanted: u32) {
+        let name = self.name;
+        assert_eq!(rt; self.pages, wanted, "{name}");
     }
 
     /// Fails unless a tick answers what is told.
@@ -266,23 +349,24 @@ impl Leg {
         told: Told<'_>,
     ) -> Result<(), NoMemory> {
         let step = self.tick(self.rung.saturating_add(moment))?;
+        let name = self.name;
         match told.packet {
             Some(text) => {
                 let wanted = self.text(text, 0, "")?;
                 let given = step.packet.as_ref().map(Octets::as_slice);
-                assert_eq!(rt; given, Some(wanted.as_slice()), "at {moment}");
+                assert_eq!(rt; given, Some(wanted.as_slice()), "{name} at {moment}");
             }
-            None => assert!(rt; step.packet.is_none(), "{:?} at {moment}", step.packet),
+            None => assert!(rt; step.packet.is_none(), "{name} at {moment}"),
         }
         let closes = step.confirmed.as_ref().map(|confirmed| confirmed.closes);
-        assert_eq!(rt; closes, told.closes, "at {moment}");
+        assert_eq!(rt; closes, told.closes, "{name} at {moment}");
         if let Some(confirmed) = &step.confirmed {
             expect_white_row(rt, &confirmed.page);
             self.pages = self.pages.saturating_add(1);
         }
-        assert_eq!(rt; step.ended, told.ended, "at {moment}");
+        assert_eq!(rt; step.ended, told.ended, "{name} at {moment}");
         if step.ended {
-            assert_eq!(rt; self.answerer.state(), State::Idle);
+            self.expect_state(rt, State::Idle);
         }
         Ok(())
     }
@@ -305,6 +389,16 @@ fn play(rt: &impl Abort, alloc: Global, scripts: &[&[Event<'_>]]) -> Result<Leg,
     Ok(leg)
 }
 
+/// Plays each call of a table on a new leg.
+fn play_each(rt: &impl Abort, alloc: Global, calls: &[Call]) -> Result<(), NoMemory> {
+    for call in calls {
+        let mut leg = Leg::new(alloc);
+        leg.name = call.name;
+        leg.play(rt, call.scripts)?;
+    }
+    Ok(())
+}
+
 /// Fails unless a page is one white row of 1728 elements in the standard resolution.
 fn expect_white_row(rt: &impl Abort, page: &Page<PlainRows>) {
     let format = Format {
@@ -317,17 +411,23 @@ fn expect_white_row(rt: &impl Abort, page: &Page<PlainRows>) {
     assert!(rt; rows.lend(0).changes().is_empty());
 }
 
-/// The octets that a hex text shows.
-fn octets_of(alloc: Global, text: &str) -> Result<Vec<u8>, AllocError> {
-    zeros_between(alloc, text, 0, "")
-}
-
 /// So many zero octets between those of two hex texts.
 fn zeros_between(alloc: Global, head: &str, zeros: u16, tail: &str) -> Result<Vec<u8>, AllocError> {
+    octets_between(alloc, head, zeros, 0, tail)
+}
+
+/// So many times an octet between those of two hex texts.
+fn octets_between(
+    alloc: Global,
+    head: &str,
+    count: u16,
+    octet: u8,
+    tail: &str,
+) -> Result<Vec<u8>, AllocError> {
     let mut octets = Vec::new(alloc);
     put_hex(&mut octets, head)?;
-    for _ in 0..zeros {
-        octets.push(0)?;
+    for _ in 0..count {
+        octets.push(octet)?;
     }
     put_hex(&mut octets, tail)?;
     Ok(octets)
@@ -335,20 +435,34 @@ fn zeros_between(alloc: Global, head: &str, zeros: u16, tail: &str) -> Result<Ve
 
 /// Puts the octets that a hex text shows behind others.
 fn put_hex(octets: &mut Vec<u8>, text: &str) -> Result<(), AllocError> {
-    let mut high: Option<u8> = None;
+    let mut octet = 0u8;
+    let mut is_low = false;
     for digit in text.bytes() {
-        let value = match digit {
-            b'0'..=b'9' => digit - b'0',
-            b'a'..=b'f' => digit - b'a' + 10,
-            _ => 0,
-        };
-        high = match high {
-            None => Some(value),
-            Some(first) => {
-                octets.push((first << 4) | value)?;
-                None
-            }
-        };
+        octet = (octet << 4) | value_of(digit);
+        if is_low {
+            octets.push(octet)?;
+        }
+        is_low = !is_low;
     }
     Ok(())
+}
+
+/// The value of a hex digit, a small letter where it is one.
+fn value_of(digit: u8) -> u8 {
+    if digit < b'a' {
+        digit & 15
+    } else {
+        (digit & 15).wrapping_add(9)
+    }
+}
+
+/// The datagram of a number and a packet of fewer than 16,384 octets, whose length stands in two octets.
+fn datagram_of(alloc: Global, number: u16, packet: &[u8]) -> Result<Vec<u8>, AllocError> {
+    let length = 0x8000 | (packet.len() % 0x4000) as u16;
+    let mut datagram = Vec::new(alloc);
+    datagram.extend_from_slice(&number.to_be_bytes())?;
+    datagram.extend_from_slice(&length.to_be_bytes())?;
+    datagram.extend_from_slice(packet)?;
+    datagram.extend_from_slice(&[0, 0])?;
+    Ok(datagram)
 }

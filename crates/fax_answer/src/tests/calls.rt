@@ -1,10 +1,9 @@
 //! Calls in which pages come.
 use super::{
-    ANSWERED, CED, CONFIRMED, DIS, EOP, Event, FTT, Leg, MCF, ONE_PAGE, PAGE, PREAMBLE, REFUSED,
-    RTN, TRAINED, play,
+    ANSWERED, CED, CONFIRMED, Call, DCS, DIS, EOP, Event, FTT, MCF, PAGE, PREAMBLE, REFUSED, RTN,
+    TRAINED, play_each,
 };
 use crate::State;
-use std::process::Abort;
 use std::test::Fail;
 
 /// EOP again behind a call with one page, with the number behind its own.
@@ -19,186 +18,207 @@ const MPS: &[Event<'static>] = &[
     Event::Comes("000609c002800002ffc8f2400000"),
 ];
 
-#[test]
-fn a_call_with_one_page(rt: HostRuntime) -> Result<(), Fail> {
-    let mut leg = play(&rt, rt.alloc(), ONE_PAGE)?;
-    assert_eq!(rt; leg.pages, 1);
-    leg.play(&rt, &[&[Event::AllQuiet(280, 6200)]])?;
-    Ok(())
-}
-
-#[test]
-fn a_call_whose_ticks_have_their_memory_before(rt: HostRuntime) -> Result<(), Fail> {
-    let mut leg = Leg::new(rt.alloc());
-    leg.reserves = true;
-    leg.play(&rt, ONE_PAGE)?;
-    assert_eq!(rt; leg.pages, 1);
-    Ok(())
-}
-
-#[test]
-fn a_call_goes_from_state_to_state(rt: HostRuntime) -> Result<(), Fail> {
-    let mut leg = Leg::new(rt.alloc());
-    assert_eq!(rt; leg.answerer.state(), State::Idle);
-    leg.play(&rt, &[ANSWERED])?;
-    assert_eq!(rt; leg.answerer.state(), State::Identify);
-    leg.play(
-        &rt,
-        &[&[Event::Comes("00000cc002800005ffc8c1004000400000")]],
-    )?;
-    let State::Train(trained) = leg.answerer.state() else {
-        rt.abort()
-    };
-    let check = Event::ZerosCome("00028131c201f0012b", 300, "0000");
-    leg.play(&rt, &[&[Event::Comes("000101080000"), check]])?;
-    assert_eq!(rt; leg.answerer.state(), State::Page(trained));
-    Ok(())
-}
-
-#[test]
-fn a_training_check_that_is_too_short(rt: HostRuntime) -> Result<(), Fail> {
+const CALLS: &[Call] = &[
+    Call {
+        name: "a call with one page",
+        scripts: &[
+            ANSWERED,
+            TRAINED,
+            PAGE,
+            EOP,
+            CONFIRMED,
+            &[Event::Pages(1), Event::AllQuiet(280, 6200)],
+        ],
+    },
+    Call {
+        name: "a call whose ticks have their memory before",
+        scripts: &[
+            &[Event::Reserves],
+            ANSWERED,
+            TRAINED,
+            PAGE,
+            EOP,
+            CONFIRMED,
+            &[Event::Pages(1)],
+        ],
+    },
+    Call {
+        name: "a call goes from state to state",
+        scripts: &[
+            &[Event::Stands(State::Idle)],
+            ANSWERED,
+            &[
+                Event::Stands(State::Identify),
+                Event::Comes("00000cc002800005ffc8c1004000400000"),
+                Event::Stands(State::Train(DCS)),
+                Event::Comes("000101080000"),
+                Event::ZerosCome("00028131c201f0012b", 300, "0000"),
+                Event::Stands(State::Page(DCS)),
+            ],
+        ],
+    },
     // 299 zero octets, where one second and a half of 2400 bit/s has 300 at least
-    let check = [
-        Event::Comes("00000cc002800005ffc8c1004000400000"),
-        Event::Comes("000101080000"),
-        Event::ZerosCome("00028130c201f0012a", 299, "0000"),
-        Event::Gives(120, PREAMBLE),
-        Event::Gives(160, FTT),
-    ];
-    let leg = play(&rt, rt.alloc(), &[ANSWERED, &check])?;
-    assert_eq!(rt; leg.answerer.state(), State::Listen);
-    Ok(())
-}
-
-#[test]
-fn a_missing_slot_in_an_image(rt: HostRuntime) -> Result<(), Fail> {
-    let start = [Event::Comes("000301080000")];
-    let after = [Event::AllQuiet(280, 6200)];
-    let leg = play(
-        &rt,
-        rt.alloc(),
-        &[ANSWERED, TRAINED, &start, EOP, REFUSED, &after],
-    )?;
-    assert_eq!(rt; leg.pages, 0);
-    Ok(())
-}
-
-#[test]
-fn a_repeated_command(rt: HostRuntime) -> Result<(), Fail> {
-    let again = [
-        EOP_AGAIN,
-        Event::Gives(280, PREAMBLE),
-        Event::Gives(320, MCF),
-        Event::AllQuiet(360, 6280),
-    ];
-    let mut leg = play(&rt, rt.alloc(), ONE_PAGE)?;
-    leg.play(&rt, &[&again])?;
-    assert_eq!(rt; leg.pages, 1);
-    Ok(())
-}
-
-#[test]
-fn a_command_again_behind_a_missing_slot(rt: HostRuntime) -> Result<(), Fail> {
+    Call {
+        name: "a training check that is too short",
+        scripts: &[
+            ANSWERED,
+            &[
+                Event::Comes("00000cc002800005ffc8c1004000400000"),
+                Event::Comes("000101080000"),
+                Event::ZerosCome("00028130c201f0012a", 299, "0000"),
+                Event::Gives(120, PREAMBLE),
+                Event::Gives(160, FTT),
+                Event::Stands(State::Listen),
+            ],
+        ],
+    },
+    Call {
+        name: "a missing slot in an image",
+        scripts: &[
+            ANSWERED,
+            TRAINED,
+            &[Event::Comes("000301080000")],
+            EOP,
+            REFUSED,
+            &[Event::AllQuiet(280, 6200), Event::Pages(0)],
+        ],
+    },
+    Call {
+        name: "a repeated command",
+        scripts: &[
+            ANSWERED,
+            TRAINED,
+            PAGE,
+            EOP,
+            CONFIRMED,
+            &[
+                EOP_AGAIN,
+                Event::Gives(280, PREAMBLE),
+                Event::Gives(320, MCF),
+                Event::AllQuiet(360, 6280),
+                Event::Pages(1),
+            ],
+        ],
+    },
     // number 7 is missing
-    let again = [
-        Event::Comes("000801060000"),
-        Event::Comes("000909c002800002ffc8f4400000"),
-        Event::Gives(280, PREAMBLE),
-        Event::Gives(320, RTN),
-        Event::AllQuiet(360, 6280),
-    ];
-    let mut leg = play(&rt, rt.alloc(), ONE_PAGE)?;
-    leg.play(&rt, &[&again])?;
-    assert_eq!(rt; leg.pages, 1);
-    Ok(())
-}
-
-#[test]
-fn a_command_again_behind_a_new_signal(rt: HostRuntime) -> Result<(), Fail> {
-    let again = [
-        Event::Comes("000701080000"),
-        Event::Comes("000809c002800002ffc8f4400000"),
-        Event::Gives(280, PREAMBLE),
-        Event::Gives(320, RTN),
-        Event::AllQuiet(360, 6280),
-    ];
-    let mut leg = play(&rt, rt.alloc(), ONE_PAGE)?;
-    leg.play(&rt, &[&again])?;
-    assert_eq!(rt; leg.pages, 1);
-    Ok(())
-}
-
-#[test]
-fn a_page_that_is_cut_inside_a_line(rt: HostRuntime) -> Result<(), Fail> {
-    let image = [
-        Event::Comes("000301080000"),
-        Event::Comes("000408c201f0000200143f0000"),
-    ];
-    let leg = play(&rt, rt.alloc(), &[ANSWERED, TRAINED, &image, EOP, REFUSED])?;
-    assert_eq!(rt; leg.pages, 0);
-    Ok(())
-}
-
-#[test]
-fn a_call_with_two_pages(rt: HostRuntime) -> Result<(), Fail> {
-    let first = [
-        Event::Gives(200, PREAMBLE),
-        Event::Confirms(240, MCF, false),
-    ];
-    let second = [
-        Event::Comes("000701080000"),
-        Event::Comes("000812c201f0000c0014d9a80080080080080080080000"),
-        Event::Comes("000901060000"),
-        Event::Comes("000a09c002800002ffc8f4400000"),
-        Event::Gives(280, PREAMBLE),
-        Event::Confirms(320, MCF, true),
-        Event::AllQuiet(360, 6280),
-    ];
-    let leg = play(
-        &rt,
-        rt.alloc(),
-        &[ANSWERED, TRAINED, PAGE, MPS, &first, &second],
-    )?;
-    assert_eq!(rt; leg.pages, 2);
-    Ok(())
-}
-
-#[test]
-fn a_disconnect_and_another_call(rt: HostRuntime) -> Result<(), Fail> {
-    let mut leg = play(&rt, rt.alloc(), ONE_PAGE)?;
+    Call {
+        name: "a command again behind a missing slot",
+        scripts: &[
+            ANSWERED,
+            TRAINED,
+            PAGE,
+            EOP,
+            CONFIRMED,
+            &[
+                Event::Comes("000801060000"),
+                Event::Comes("000909c002800002ffc8f4400000"),
+                Event::Gives(280, PREAMBLE),
+                Event::Gives(320, RTN),
+                Event::AllQuiet(360, 6280),
+                Event::Pages(1),
+            ],
+        ],
+    },
+    Call {
+        name: "a command again behind a new signal",
+        scripts: &[
+            ANSWERED,
+            TRAINED,
+            PAGE,
+            EOP,
+            CONFIRMED,
+            &[
+                Event::Comes("000701080000"),
+                Event::Comes("000809c002800002ffc8f4400000"),
+                Event::Gives(280, PREAMBLE),
+                Event::Gives(320, RTN),
+                Event::AllQuiet(360, 6280),
+                Event::Pages(1),
+            ],
+        ],
+    },
+    Call {
+        name: "a page that is cut inside a line",
+        scripts: &[
+            ANSWERED,
+            TRAINED,
+            &[
+                Event::Comes("000301080000"),
+                Event::Comes("000408c201f0000200143f0000"),
+            ],
+            EOP,
+            REFUSED,
+            &[Event::Pages(0)],
+        ],
+    },
+    Call {
+        name: "a call with two pages",
+        scripts: &[
+            ANSWERED,
+            TRAINED,
+            PAGE,
+            MPS,
+            &[
+                Event::Gives(200, PREAMBLE),
+                Event::Confirms(240, MCF, false),
+                Event::Comes("000701080000"),
+                Event::Comes("000812c201f0000c0014d9a80080080080080080080000"),
+                Event::Comes("000901060000"),
+                Event::Comes("000a09c002800002ffc8f4400000"),
+                Event::Gives(280, PREAMBLE),
+                Event::Confirms(320, MCF, true),
+                Event::AllQuiet(360, 6280),
+                Event::Pages(2),
+            ],
+        ],
+    },
     // behind the end nothing is given, and what comes is passed over
-    let ended = [
-        Event::Ended(DCN_CAME),
-        Event::AllQuiet(280, 7000),
-        Event::Ended("000801060000"),
-        Event::Ended("000909c002800002ffc8f4400000"),
-        Event::AllQuiet(7040, 40_000),
-    ];
-    leg.play(&rt, &[&ended])?;
-    let answered = [
-        Event::Ring(40_040),
-        Event::Gives(0, CED),
-        Event::Gives(40, PREAMBLE),
-        Event::Gives(80, DIS),
-    ];
-    leg.play(&rt, &[&answered, TRAINED, PAGE, EOP, CONFIRMED])?;
-    assert_eq!(rt; leg.pages, 2);
-    Ok(())
-}
+    Call {
+        name: "a disconnect and another call",
+        scripts: &[
+            ANSWERED,
+            TRAINED,
+            PAGE,
+            EOP,
+            CONFIRMED,
+            &[
+                Event::Ended(DCN_CAME),
+                Event::AllQuiet(280, 7000),
+                Event::Ended("000801060000"),
+                Event::Ended("000909c002800002ffc8f4400000"),
+                Event::AllQuiet(7040, 40_000),
+                Event::Ring(40_040),
+                Event::Gives(0, CED),
+                Event::Gives(40, PREAMBLE),
+                Event::Gives(80, DIS),
+            ],
+            TRAINED,
+            PAGE,
+            EOP,
+            CONFIRMED,
+            &[Event::Pages(2)],
+        ],
+    },
+    Call {
+        name: "a disconnect while packets wait",
+        scripts: &[
+            ANSWERED,
+            TRAINED,
+            PAGE,
+            EOP,
+            &[
+                Event::Gives(200, PREAMBLE),
+                Event::Comes(DCN_CAME),
+                Event::Confirms(240, MCF, true),
+                Event::AllQuiet(280, 6200),
+                Event::Stands(State::Page(DCS)),
+            ],
+        ],
+    },
+];
 
 #[test]
-fn a_disconnect_while_packets_wait(rt: HostRuntime) -> Result<(), Fail> {
-    let passed_over = [
-        Event::Gives(200, PREAMBLE),
-        Event::Comes(DCN_CAME),
-        Event::Confirms(240, MCF, true),
-        Event::AllQuiet(280, 6200),
-    ];
-    let leg = play(
-        &rt,
-        rt.alloc(),
-        &[ANSWERED, TRAINED, PAGE, EOP, &passed_over],
-    )?;
-    assert!(rt; matches!(leg.answerer.state(), State::Page(_)));
+fn calls(rt: HostRuntime) -> Result<(), Fail> {
+    play_each(&rt, rt.alloc(), CALLS)?;
     Ok(())
 }
