@@ -58,17 +58,17 @@ const BLACK: &str = "0013503286e0020020020020020020";
 
 /// A training: its DCS, its indicator, and the 37 parts of its training check and the last one, half as long.
 #[derive(Clone, Copy, Debug)]
-struct Training<'a> {
-    dcs: &'a str,
-    indicator: &'a str,
+struct Training {
+    dcs: &'static str,
+    indicator: &'static str,
     /// What stands before the zero octets of a part, and how many there are.
-    part: &'a str,
+    part: &'static str,
     zeros: u16,
-    last: &'a str,
+    last: &'static str,
 }
 
 /// The one that the DIS leads to.
-const SLOW: Training<'static> = Training {
+const SLOW: Training = Training {
     dcs: "c002800005ffc8c100400040",
     indicator: "08",
     part: "c201e0000b",
@@ -78,35 +78,51 @@ const SLOW: Training<'static> = Training {
 
 /// What happens in a call, and what is to come of it. Moments are milliseconds behind the last packet that was given.
 #[derive(Clone, Copy, Debug)]
-enum Event<'a> {
+enum Event {
     /// The call of the job begins.
     Start(u64),
-    /// A datagram with the next number and this packet comes, behind which the call goes on.
-    Comes(&'a str),
-    /// So does this datagram.
-    Datagram(&'a str),
+    /// A datagram with the next number and this packet comes.
+    Comes(&'static str),
+    /// DCN comes so, and the call is over at once.
+    HangsUp,
+    /// This datagram comes.
+    Datagram(&'static str),
+    /// These octets come, which are no datagram.
+    NoDatagram(&'static str),
+    /// A preamble and this packet come, and a tick gives nothing: the state is as before.
+    Ignored(u64, &'static str),
     /// A tick gives nothing.
     Quiet(u64),
     /// A tick gives this packet, and one a millisecond before gave nothing.
-    Gives(u64, &'a str),
+    Gives(u64, &'static str),
+    /// A tick gives this packet, which was due before.
+    Overdue(u64, &'static str),
     /// Ticks give a training, 40 ms apart.
-    Trains(u64, Training<'a>),
+    Trains(u64, Training),
     /// Ticks give DCN behind its preamble, 40 ms apart, and the call has ended so.
     Ends(u64, Outcome),
+    /// So many pages have been answered MCF or RTP.
+    Delivered(u32),
+    /// The call stands there.
+    In(State),
+    /// The call awaits MCF.
+    AwaitsMcf,
+    /// The last packet was given at this moment, counted from 0.
+    LastAt(u64),
 }
 
 /// A call begins with CNG.
-const STARTED: &[Event<'static>] = &[Event::Start(240), Event::Gives(0, CNG)];
+const STARTED: &[Event] = &[Event::Start(240), Event::Gives(0, CNG)];
 
 /// The DIS comes, and CFR behind the training.
-const TRAINED: &[Event<'static>] = &[
+const TRAINED: &[Event] = &[
     Event::Comes(DIS),
     Event::Trains(40, SLOW),
     Event::Comes(CFR),
 ];
 
 /// A page of one white row goes out, up to its command.
-const WHITE_PAGE: &[Event<'static>] = &[
+const WHITE_PAGE: &[Event] = &[
     Event::Gives(40, "08"),
     Event::Gives(40, "c201e0000b0014d9a80000001001001001"),
     Event::Gives(40, "c201f00002001001"),
@@ -114,7 +130,7 @@ const WHITE_PAGE: &[Event<'static>] = &[
 ];
 
 /// So does one of one black row.
-const BLACK_PAGE: &[Event<'static>] = &[
+const BLACK_PAGE: &[Event] = &[
     Event::Gives(40, "08"),
     Event::Gives(40, "c201e0000b0013503286e0001001001001"),
     Event::Gives(40, "c201f00002001001"),
@@ -122,19 +138,51 @@ const BLACK_PAGE: &[Event<'static>] = &[
 ];
 
 /// The command behind the last page, and behind another one.
-const EOP_GIVEN: &[Event<'static>] = &[Event::Gives(40, EOP)];
+const EOP_GIVEN: &[Event] = &[Event::Gives(40, EOP)];
 
-const MPS_GIVEN: &[Event<'static>] = &[Event::Gives(40, MPS)];
+const MPS_GIVEN: &[Event] = &[Event::Gives(40, MPS)];
 
 /// The last page is confirmed, and the call ends.
-const CONFIRMED: &[Event<'static>] = &[Event::Comes(MCF), Event::Ends(40, Outcome::Delivered)];
+const CONFIRMED: &[Event] = &[Event::Comes(MCF), Event::Ends(40, Outcome::Delivered)];
 
 /// A call with one page.
-const ONE_PAGE: &[&[Event<'static>]] = &[STARTED, TRAINED, WHITE_PAGE, EOP_GIVEN, CONFIRMED];
+const ONE_PAGE: &[&[Event]] = &[STARTED, TRAINED, WHITE_PAGE, EOP_GIVEN, CONFIRMED];
+
+/// A job, and what happens on the leg that it goes out on.
+#[derive(Clone, Copy)]
+struct Call {
+    name: &'static str,
+    format: Format,
+    /// The texts of its pages.
+    pages: &'static [&'static str],
+    scripts: &'static [&'static [Event]],
+}
+
+/// The pages of jobs of the standard format.
+const ONE: &[&str] = &[WHITE];
+
+const TWO: &[&str] = &[WHITE, BLACK];
+
+/// Plays the calls of a table, each on a new leg. It fails unless all comes as they tell.
+fn play(rt: &impl Abort, alloc: Global, calls: &[Call]) -> Result<(), NoMemory> {
+    for call in calls {
+        play_call(rt, alloc, *call)?;
+    }
+    Ok(())
+}
+
+/// Plays a call on a new leg.
+fn play_call(rt: &impl Abort, alloc: Global, call: Call) -> Result<(), NoMemory> {
+    let mut leg = Leg::new(rt, alloc, call.format, call.pages)?;
+    leg.name = call.name;
+    leg.play(rt, call.scripts)
+}
 
 /// A leg on which the calls of a job are played. A call that is refused memory is made again once.
 #[derive(Drop)]
 struct Leg {
+    /// What is played.
+    name: &'static str,
     alloc: Global,
     receiver: Receiver,
     caller: Caller,
@@ -145,6 +193,8 @@ struct Leg {
     given: u64,
     /// The latest moment.
     now: u64,
+    /// How the last call has ended, as the scripts tell.
+    outcome: Option<Outcome>,
     /// How many calls were refused memory.
     refused_calls: u32,
     /// How many of the scripts' own texts were.
@@ -161,6 +211,7 @@ impl Leg {
     ) -> Result<Self, NoMemory> {
         let job = job_of(rt, alloc, format, pages)?;
         Ok(Leg {
+            name: "a call",
             alloc,
             receiver: Receiver::new(),
             caller: Caller::new(alloc),
@@ -168,53 +219,68 @@ impl Leg {
             number: 0,
             given: 0,
             now: 0,
+            outcome: None,
             refused_calls: 0,
             refused_texts: 0,
         })
     }
 
-    /// Plays scripts, one behind another. It fails unless all comes as they tell.
-    fn play(&mut self, rt: &impl Abort, scripts: &[&[Event<'_>]]) -> Result<(), NoMemory> {
+    /// Plays scripts, one behind another. It fails unless all comes as they tell, and a call has ended where they end it.
+    fn play(&mut self, rt: &impl Abort, scripts: &[&[Event]]) -> Result<(), NoMemory> {
         for script in scripts {
             for event in *script {
-                self.play_event(rt, *event)?;
+                let name = self.name;
+                let happens = self.play_event(rt, *event)?;
+                assert!(rt; happens, "{name}: {event:?}");
+                let is_ended = self.caller.outcome() == self.outcome;
+                assert!(rt; is_ended, "{name}: the outcome behind {event:?}");
             }
         }
         Ok(())
     }
 
-    /// Plays an event.
-    fn play_event(&mut self, rt: &impl Abort, event: Event<'_>) -> Result<(), NoMemory> {
+    /// Plays an event. Whether what is to come of it came.
+    fn play_event(&mut self, rt: &impl Abort, event: Event) -> Result<bool, NoMemory> {
         match event {
-            Event::Start(after) => {
-                self.start(rt, after);
-                Ok(())
-            }
-            Event::Comes(packet) => self.come(rt, packet),
-            Event::Datagram(text) => self.come_as(rt, text),
-            Event::Quiet(after) => {
-                let given = self.tick(rt, self.given.saturating_add(after))?;
-                assert!(rt; given.is_none(), "{given:?} at {after}");
-                Ok(())
-            }
-            Event::Gives(after, packet) => self.expect_packet(rt, after, packet, 0),
-            Event::Trains(after, training) => self.expect_training(rt, after, training),
-            Event::Ends(after, outcome) => self.expect_end(rt, after, outcome),
+            Event::Start(after) => self.start(rt, after),
+            Event::Comes(packet) => self.come(packet),
+            Event::HangsUp => self.hang_up(),
+            Event::Datagram(text) => self.come_as(text),
+            Event::NoDatagram(text) => self.come_broken(text),
+            Event::Ignored(after, packet) => self.ignore(rt, after, packet),
+            Event::Quiet(after) => self.is_quiet(rt, self.given.saturating_add(after)),
+            Event::Gives(after, packet) => self.gives(rt, after, packet, 0),
+            Event::Overdue(after, packet) => self.gives_now(rt, after, packet, 0),
+            Event::Trains(after, training) => self.trains(rt, after, training),
+            Event::Ends(after, outcome) => self.ends(rt, after, outcome),
+            Event::Delivered(pages) => Ok(self.caller.delivered() == pages),
+            Event::In(state) => Ok(self.caller.state() == state),
+            Event::AwaitsMcf => Ok(self.awaits_mcf()),
+            Event::LastAt(moment) => Ok(self.given == moment),
         }
     }
 
     /// The call of the job begins, with a receiver to which nothing came.
-    fn start(&mut self, rt: &impl Abort, after: u64) {
-        let now = self.given.saturating_add(after);
-        let pages = self.job.page_count();
-        assert!(rt; self.caller.state() == State::Idle, "a call is on at {now}");
-        assert!(rt; pages >= 1);
+    fn start(&mut self, rt: &impl Abort, after: u64) -> Result<bool, NoMemory> {
         self.receiver = Receiver::new();
         self.number = 0;
-        self.given = now;
-        self.now = now;
+        self.given = self.given.saturating_add(after);
+        self.now = self.given;
+        self.outcome = None;
+        self.start_caller(rt, self.now);
+        Ok(true)
+    }
+
+    /// The call of the job begins, where none is on.
+    fn start_caller(&mut self, rt: &impl Abort, now: u64) {
+        let State::Idle = self.caller.state() else {
+            rt.abort()
+        };
+        let pages = self.job.page_count();
+        if pages == 0 {
+            rt.abort()
+        }
         self.caller.start(self.job.format(), pages, now);
-        assert_eq!(rt; self.caller.outcome(), None);
     }
 
     /// The octets of a datagram come.
@@ -233,16 +299,26 @@ impl Leg {
 
     /// A moment comes, in the call of the job.
     fn tick(&mut self, rt: &impl Abort, now: u64) -> Result<Option<Octets>, NoMemory> {
-        assert!(rt; self.caller.procedure.format == self.job.format());
-        assert!(rt; self.caller.procedure.pages == self.job.page_count());
         self.now = now;
-        match self.caller.tick(&self.job, now) {
+        match self.tick_caller(rt, now) {
             Ok(given) => Ok(given),
             Err(NoMemory) => {
                 self.refused_calls = self.refused_calls.saturating_add(1);
-                self.caller.tick(&self.job, now)
+                self.tick_caller(rt, now)
             }
         }
+    }
+
+    /// The calling side is told the moment. It fails where the call on it is not of the job.
+    fn tick_caller(&mut self, rt: &impl Abort, now: u64) -> Result<Option<Octets>, NoMemory> {
+        let procedure = self.caller.procedure;
+        if procedure.format != self.job.format() {
+            rt.abort()
+        }
+        if procedure.pages != self.job.page_count() {
+            rt.abort()
+        }
+        self.caller.tick(&self.job, now)
     }
 
     /// So many zero octets behind those of a hex text. Where memory is refused it is asked for again once.
@@ -256,8 +332,8 @@ impl Leg {
         }
     }
 
-    /// A datagram with the next number and a packet comes. It fails where the call has ended.
-    fn come(&mut self, rt: &impl Abort, packet: &str) -> Result<(), NoMemory> {
+    /// A datagram with the next number and a packet comes.
+    fn come(&mut self, packet: &str) -> Result<bool, NoMemory> {
         let datagram = match datagram_of(self.alloc, self.number, packet) {
             Ok(octets) => octets,
             Err(_) => {
@@ -267,80 +343,113 @@ impl Leg {
         };
         self.take(datagram.as_slice())?;
         self.number = self.number.wrapping_add(1);
-        assert_eq!(rt; self.caller.outcome(), None, "at {packet}");
-        Ok(())
+        Ok(true)
     }
 
-    /// A datagram of a hex text comes. It fails where the call has ended.
-    fn come_as(&mut self, rt: &impl Abort, text: &str) -> Result<(), NoMemory> {
+    /// DCN comes, and the call is over.
+    fn hang_up(&mut self) -> Result<bool, NoMemory> {
+        self.outcome = Some(Outcome::HungUp);
+        self.come(DCN_CAME)?;
+        Ok(self.caller.state() == State::Idle)
+    }
+
+    /// A datagram of a hex text comes.
+    fn come_as(&mut self, text: &str) -> Result<bool, NoMemory> {
         let datagram = self.text(text, 0)?;
         self.take(datagram.as_slice())?;
         if let [high, low, ..] = datagram.as_slice() {
             self.number = u16::from_be_bytes([*high, *low]).wrapping_add(1);
         }
-        assert_eq!(rt; self.caller.outcome(), None, "at {text}");
-        Ok(())
+        Ok(true)
     }
 
-    /// Fails unless a tick gives a packet: so many zero octets behind those of a hex text.
-    fn expect_packet(
+    /// Octets come that are no datagram.
+    fn come_broken(&mut self, text: &str) -> Result<bool, NoMemory> {
+        let octets = self.text(text, 0)?;
+        self.take(octets.as_slice())?;
+        Ok(true)
+    }
+
+    /// A preamble and a packet come: whether they change nothing.
+    fn ignore(&mut self, rt: &impl Abort, after: u64, packet: &str) -> Result<bool, NoMemory> {
+        let state = self.caller.state();
+        self.come(PREAMBLE)?;
+        self.come(packet)?;
+        let is_quiet = self.is_quiet(rt, self.given.saturating_add(after))?;
+        Ok(is_quiet && self.caller.state() == state)
+    }
+
+    /// Whether a tick gives nothing.
+    fn is_quiet(&mut self, rt: &impl Abort, moment: u64) -> Result<bool, NoMemory> {
+        let given = self.tick(rt, moment)?;
+        Ok(given.is_none())
+    }
+
+    /// Whether the call awaits MCF.
+    fn awaits_mcf(&self) -> bool {
+        let state = self.caller.state();
+        matches!(&state, State::AwaitMcf(..))
+    }
+
+    /// Whether a tick gives a packet, so many zero octets behind those of a hex text, and none gave one before.
+    fn gives(
         &mut self,
         rt: &impl Abort,
         after: u64,
         head: &str,
         zeros: u16,
-    ) -> Result<(), NoMemory> {
-        let moment = self.given.saturating_add(after);
-        let early = moment.saturating_sub(1);
-        if early > self.now {
-            let given = self.tick(rt, early)?;
-            assert!(rt; given.is_none(), "{given:?} at {early}");
+    ) -> Result<bool, NoMemory> {
+        let early = self.given.saturating_add(after).saturating_sub(1);
+        if early > self.now && !self.is_quiet(rt, early)? {
+            return Ok(false);
         }
+        self.gives_now(rt, after, head, zeros)
+    }
+
+    /// Whether a tick gives a packet, as above.
+    fn gives_now(
+        &mut self,
+        rt: &impl Abort,
+        after: u64,
+        head: &str,
+        zeros: u16,
+    ) -> Result<bool, NoMemory> {
+        let moment = self.given.saturating_add(after);
         let given = self.tick(rt, moment)?;
         let wanted = self.text(head, zeros)?;
-        let octets = given.as_ref().map(Octets::as_slice);
-        assert_eq!(rt; octets, Some(wanted.as_slice()), "at {moment}");
         self.given = moment;
-        Ok(())
+        let octets = given.as_ref().map(Octets::as_slice);
+        assert_eq!(rt;
+            octets,
+            Some(wanted.as_slice()),
+            "{}: at {moment}",
+            self.name
+        );
+        Ok(true)
     }
 
-    /// Fails unless ticks give a training.
-    fn expect_training(
+    /// Whether ticks give a training.
+    fn trains(
         &mut self,
         rt: &impl Abort,
         after: u64,
-        training: Training<'_>,
-    ) -> Result<(), NoMemory> {
-        self.expect_packet(rt, after, PREAMBLE, 0)?;
-        self.expect_packet(rt, 40, training.dcs, 0)?;
-        self.expect_packet(rt, 40, training.indicator, 0)?;
+        training: Training,
+    ) -> Result<bool, NoMemory> {
+        let mut comes = self.gives(rt, after, PREAMBLE, 0)?
+            && self.gives(rt, 40, training.dcs, 0)?
+            && self.gives(rt, 40, training.indicator, 0)?;
         for _ in 0..37u8 {
-            self.expect_packet(rt, 40, training.part, training.zeros)?;
+            comes = comes && self.gives(rt, 40, training.part, training.zeros)?;
         }
-        self.expect_packet(rt, 40, training.last, training.zeros / 2)
+        Ok(comes && self.gives(rt, 40, training.last, training.zeros / 2)?)
     }
 
-    /// Fails unless ticks give DCN behind its preamble, and the call has ended so.
-    fn expect_end(
-        &mut self,
-        rt: &impl Abort,
-        after: u64,
-        outcome: Outcome,
-    ) -> Result<(), NoMemory> {
-        self.expect_packet(rt, after, PREAMBLE, 0)?;
-        assert_eq!(rt; self.caller.outcome(), None);
-        self.expect_packet(rt, 40, DCN, 0)?;
-        assert_eq!(rt; self.caller.outcome(), Some(outcome));
-        assert_eq!(rt; self.caller.state(), State::Idle);
-        Ok(())
+    /// Whether ticks give DCN behind its preamble, and the call ends with the second of them.
+    fn ends(&mut self, rt: &impl Abort, after: u64, outcome: Outcome) -> Result<bool, NoMemory> {
+        let is_on = self.gives(rt, after, PREAMBLE, 0)? && self.caller.outcome().is_none();
+        self.outcome = Some(outcome);
+        Ok(is_on && self.gives(rt, 40, DCN, 0)? && self.caller.state() == State::Idle)
     }
-}
-
-/// Plays scripts on a new leg, with a job of one white page.
-fn play(rt: &impl Abort, alloc: Global, scripts: &[&[Event<'_>]]) -> Result<Leg, NoMemory> {
-    let mut leg = Leg::new(rt, alloc, STANDARD, &[WHITE])?;
-    leg.play(rt, scripts)?;
-    Ok(leg)
 }
 
 /// A job of the pages of these texts, the first of which is there.
@@ -402,20 +511,18 @@ fn zeros_behind(alloc: Global, head: &str, zeros: u16) -> Result<Vec<u8>, AllocE
 
 /// Puts the octets that a hex text shows behind others.
 fn put_hex(octets: &mut Vec<u8>, text: &str) -> Result<(), AllocError> {
-    let mut high: Option<u8> = None;
-    for digit in text.bytes() {
-        let value = match digit {
-            b'0'..=b'9' => digit - b'0',
-            b'a'..=b'f' => digit - b'a' + 10,
-            _ => 0,
-        };
-        high = match high {
-            None => Some(value),
-            Some(first) => {
-                octets.push((first << 4) | value)?;
-                None
-            }
-        };
+    for pair in text.as_bytes().chunks_exact(2) {
+        if let [high, low] = pair {
+            octets.push((value_of(*high) << 4) | value_of(*low))?;
+        }
     }
     Ok(())
+}
+
+/// The value of a hex digit.
+fn value_of(digit: u8) -> u8 {
+    match digit {
+        b'a'..=b'f' => digit.wrapping_sub(b'a' - 10),
+        _ => digit.wrapping_sub(b'0'),
+    }
 }

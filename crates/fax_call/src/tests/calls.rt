@@ -1,10 +1,10 @@
 //! Calls in which pages go out.
 use super::{
-    BLACK, BLACK_PAGE, CFR, CNG, CONFIRMED, DCN_CAME, DIS, EOP, EOP_GIVEN, Event, FINE, FTT, Leg,
-    MCF, MPS_GIVEN, ONE_PAGE, PREAMBLE, RTN, RTP, SLOW, STANDARD, STARTED, TRAINED, Training,
-    WHITE, WHITE_PAGE, play,
+    BLACK_PAGE, CFR, CNG, CONFIRMED, Call, DCN_CAME, DIS, EOP, EOP_GIVEN, Event, FINE, FTT, MCF,
+    MPS_GIVEN, ONE, PREAMBLE, RTN, RTP, SLOW, STANDARD, STARTED, TRAINED, TWO, Training,
+    WHITE_PAGE, play,
 };
-use crate::{Outcome, State};
+use crate::Outcome;
 use fax_pagestore::Format;
 use fax_runcodes::Width;
 use std::process::Abort;
@@ -14,215 +14,307 @@ use std::test::Fail;
 const FAST_DIS: &str = "c002800005ffc80100775e40";
 
 /// The trainings that it leads to, one behind another.
-const FAST: [Training<'static>; 6] = [
-    Training {
-        dcs: "c002800005ffc8c100451e40",
-        indicator: "1e",
-        part: "d001e00047",
-        zeros: 72,
-        last: "d001f00023",
-    },
-    Training {
-        dcs: "c002800005ffc8c100551e40",
-        indicator: "1a",
-        part: "ce01e0003b",
-        zeros: 60,
-        last: "ce01f0001d",
-    },
-    Training {
-        dcs: "c002800005ffc8c100651e40",
-        indicator: "16",
-        part: "cc01e0002f",
-        zeros: 48,
-        last: "cc01f00017",
-    },
-    Training {
-        dcs: "c002800005ffc8c100751e40",
-        indicator: "12",
-        part: "ca01e00023",
-        zeros: 36,
-        last: "ca01f00011",
-    },
-    Training {
-        dcs: "c002800005ffc8c100511e40",
-        indicator: "0a",
-        part: "c401e00017",
-        zeros: 24,
-        last: "c401f0000b",
-    },
-    Training {
-        dcs: "c002800005ffc8c100411e40",
-        indicator: "08",
-        part: "c201e0000b",
-        zeros: 12,
-        last: "c201f00005",
-    },
+const FAST: Training = Training {
+    dcs: "c002800005ffc8c100451e40",
+    indicator: "1e",
+    part: "d001e00047",
+    zeros: 72,
+    last: "d001f00023",
+};
+
+const SECOND: Training = Training {
+    dcs: "c002800005ffc8c100551e40",
+    indicator: "1a",
+    part: "ce01e0003b",
+    zeros: 60,
+    last: "ce01f0001d",
+};
+
+const THIRD: Training = Training {
+    dcs: "c002800005ffc8c100651e40",
+    indicator: "16",
+    part: "cc01e0002f",
+    zeros: 48,
+    last: "cc01f00017",
+};
+
+const FOURTH: Training = Training {
+    dcs: "c002800005ffc8c100751e40",
+    indicator: "12",
+    part: "ca01e00023",
+    zeros: 36,
+    last: "ca01f00011",
+};
+
+const FIFTH: Training = Training {
+    dcs: "c002800005ffc8c100511e40",
+    indicator: "0a",
+    part: "c401e00017",
+    zeros: 24,
+    last: "c401f0000b",
+};
+
+const LAST: Training = Training {
+    dcs: "c002800005ffc8c100411e40",
+    indicator: "08",
+    part: "c201e0000b",
+    zeros: 12,
+    last: "c201f00005",
+};
+
+/// A DIS of a machine that takes no pages.
+const DEAF: &str = "c002800005ffc80100000040";
+
+/// Wide pages.
+const WIDE: Format = Format {
+    width: Width::W2048,
+    fine: false,
+};
+
+const WIDE_AND_FINE: Format = Format {
+    width: Width::W2048,
+    fine: true,
+};
+
+/// A white row of 2048 elements.
+const WIDE_ROW: &[&str] = &["00101335001001001001001001"];
+
+/// Wide pages are not taken.
+const WIDTH_LACKING: &[Event] = &[
+    Event::Comes(DIS),
+    Event::Ends(40, Outcome::WidthLacking),
+    Event::Quiet(40),
+    Event::Delivered(0),
 ];
 
-#[test]
-fn a_call_with_one_page(rt: HostRuntime) -> Result<(), Fail> {
-    let mut leg = play(&rt, rt.alloc(), ONE_PAGE)?;
-    assert_eq!(rt; leg.given, 2160);
-    assert_eq!(rt; leg.caller.delivered(), 1);
-    leg.play(&rt, &[&[Event::Quiet(40), Event::Quiet(100_000)]])?;
-    assert_eq!(rt; leg.caller.outcome(), Some(Outcome::Delivered));
-    Ok(())
-}
+/// The page comes in two dimensions.
+const IN_TWO_DIMENSIONS: &[Event] = &[
+    Event::Comes(FAST_DIS),
+    Event::Trains(40, FAST),
+    Event::Comes(CFR),
+    Event::Gives(40, "1c"),
+    Event::Gives(40, "d001f0000d001a6cd4006003001800c0060030"),
+    Event::Gives(40, PREAMBLE),
+    Event::Gives(40, EOP),
+];
 
-#[test]
-fn a_call_in_two_dimensions(rt: HostRuntime) -> Result<(), Fail> {
-    let [fast, ..] = FAST;
-    let sent = [
-        Event::Comes(FAST_DIS),
-        Event::Trains(40, fast),
-        Event::Comes(CFR),
-        Event::Gives(40, "1c"),
-        Event::Gives(40, "d001f0000d001a6cd4006003001800c0060030"),
-        Event::Gives(40, PREAMBLE),
-        Event::Gives(40, EOP),
-    ];
-    let leg = play(&rt, rt.alloc(), &[STARTED, &sent, CONFIRMED])?;
-    assert_eq!(rt; leg.caller.delivered(), 1);
-    Ok(())
-}
+/// No training is answered CFR.
+const FAILING: &[Event] = &[
+    Event::Comes(FAST_DIS),
+    Event::Trains(40, FAST),
+    Event::Comes(FTT),
+    Event::Trains(40, SECOND),
+    Event::Comes(FTT),
+    Event::Trains(40, THIRD),
+    Event::Comes(FTT),
+    Event::Trains(40, FOURTH),
+    Event::Comes(FTT),
+    Event::Trains(40, FIFTH),
+    Event::Comes(FTT),
+    Event::Trains(40, LAST),
+    Event::Comes(FTT),
+    Event::Ends(40, Outcome::RatesSpent),
+];
 
-#[test]
-fn a_called_machine_that_lacks_what_it_takes(rt: HostRuntime) -> Result<(), Fail> {
-    let wide = Format {
-        width: Width::W2048,
-        fine: false,
-    };
-    let both = Format { fine: true, ..wide };
-    let wide_row = "00101335001001001001001001";
-    let deaf = "c002800005ffc80100000040";
-    let lacking = [
-        (FINE, WHITE, DIS, Outcome::FineLacking),
-        (wide, wide_row, DIS, Outcome::WidthLacking),
-        (both, wide_row, DIS, Outcome::WidthLacking),
-        (STANDARD, WHITE, deaf, Outcome::NotReceiver),
-    ];
-    for (format, row, dis, outcome) in lacking {
-        let mut leg = Leg::new(&rt, rt.alloc(), format, &[row])?;
-        let refused = [
-            Event::Comes(dis),
-            Event::Ends(40, outcome),
-            Event::Quiet(40),
-        ];
-        leg.play(&rt, &[STARTED, &refused])?;
-        assert_eq!(rt; leg.caller.delivered(), 0);
-    }
-    Ok(())
-}
+/// The page is refused, and is sent again behind a training.
+const AGAIN: &[Event] = &[
+    Event::Comes(RTN),
+    Event::Trains(40, SLOW),
+    Event::Comes(CFR),
+];
 
-#[test]
-fn a_training_that_fails_at_each_rate(rt: HostRuntime) -> Result<(), Fail> {
-    let mut leg = play(&rt, rt.alloc(), &[STARTED, &[Event::Comes(FAST_DIS)]])?;
-    for training in FAST {
-        leg.play(&rt, &[&[Event::Trains(40, training), Event::Comes(FTT)]])?;
-    }
-    leg.play(&rt, &[&[Event::Ends(40, Outcome::RatesSpent)]])?;
-    Ok(())
-}
+/// It is refused for the last time, and the next call of the job begins.
+const REFUSED: &[Event] = &[
+    Event::Comes(RTN),
+    Event::Ends(40, Outcome::PageRefused),
+    Event::Delivered(0),
+    Event::Start(40),
+    Event::Gives(0, CNG),
+];
 
-#[test]
-fn a_page_that_is_refused(rt: HostRuntime) -> Result<(), Fail> {
-    let mut leg = play(&rt, rt.alloc(), &[STARTED, &[Event::Comes(DIS)]])?;
-    for _ in 0..3u8 {
-        let trained = [Event::Trains(40, SLOW), Event::Comes(CFR)];
-        let refused = [Event::Comes(RTN)];
-        leg.play(&rt, &[&trained, WHITE_PAGE, EOP_GIVEN, &refused])?;
-    }
-    leg.play(&rt, &[&[Event::Ends(40, Outcome::PageRefused)]])?;
-    assert_eq!(rt; leg.caller.delivered(), 0);
-    // the next call
-    leg.play(
-        &rt,
-        &[
-            &[Event::Start(40), Event::Gives(0, CNG)],
+/// Answers come while packets wait: they are not heard.
+const EARLY: &[Event] = &[
+    Event::Start(240),
+    Event::Comes(DCN_CAME),
+    Event::Comes(DIS),
+    Event::Gives(0, CNG),
+    Event::Comes(DIS),
+    Event::Comes(CFR),
+    Event::Comes(FTT),
+    Event::Trains(40, SLOW),
+    Event::Comes(CFR),
+    Event::Gives(40, "08"),
+    Event::Comes(MCF),
+    Event::Comes(DCN_CAME),
+    Event::Gives(40, "c201e0000b0014d9a80000001001001001"),
+    Event::Comes(DCN_CAME),
+    Event::Gives(40, "c201f00002001001"),
+    Event::Comes(RTN),
+    Event::Gives(40, PREAMBLE),
+    Event::Comes(MCF),
+    Event::Gives(40, EOP),
+];
+
+/// The second of two slots, and behind it the first: both confirm the page.
+const TWICE: &str = "000309c002800002ffc83140000109c002800002ffc83140";
+
+static CALLS: [Call; 12] = [
+    Call {
+        name: "a call with one page",
+        format: STANDARD,
+        pages: ONE,
+        scripts: &[
+            STARTED,
             TRAINED,
             WHITE_PAGE,
+            EOP_GIVEN,
+            CONFIRMED,
+            &[
+                Event::LastAt(2160),
+                Event::Delivered(1),
+                Event::Quiet(40),
+                Event::Quiet(100_000),
+            ],
         ],
-    )?;
-    Ok(())
-}
-
-#[test]
-fn a_call_with_two_pages(rt: HostRuntime) -> Result<(), Fail> {
-    let mut leg = Leg::new(&rt, rt.alloc(), STANDARD, &[WHITE, BLACK])?;
-    leg.play(&rt, &[STARTED, TRAINED, WHITE_PAGE, MPS_GIVEN])?;
-    assert_eq!(rt; leg.caller.delivered(), 0);
-    leg.play(&rt, &[&[Event::Comes(MCF)], BLACK_PAGE, EOP_GIVEN])?;
-    assert_eq!(rt; leg.caller.delivered(), 1);
-    leg.play(&rt, &[CONFIRMED])?;
-    assert_eq!(rt; leg.caller.delivered(), 2);
-    Ok(())
-}
-
-#[test]
-fn a_call_that_trains_again(rt: HostRuntime) -> Result<(), Fail> {
-    let mut leg = Leg::new(&rt, rt.alloc(), STANDARD, &[WHITE, BLACK])?;
-    let again = [
-        Event::Comes(RTP),
-        Event::Trains(40, SLOW),
-        Event::Comes(CFR),
-    ];
-    leg.play(&rt, &[STARTED, TRAINED, WHITE_PAGE, MPS_GIVEN, &again])?;
-    assert_eq!(rt; leg.caller.delivered(), 1);
-    let ended = [Event::Comes(RTP), Event::Ends(40, Outcome::Delivered)];
-    leg.play(&rt, &[BLACK_PAGE, EOP_GIVEN, &ended])?;
-    assert_eq!(rt; leg.caller.delivered(), 2);
-    Ok(())
-}
-
-#[test]
-fn answers_that_come_while_packets_wait(rt: HostRuntime) -> Result<(), Fail> {
-    let early = [
-        Event::Comes(DCN_CAME),
-        Event::Comes(DIS),
-        Event::Gives(0, CNG),
-        Event::Comes(DIS),
-        Event::Comes(CFR),
-        Event::Comes(FTT),
-        Event::Trains(40, SLOW),
-        Event::Comes(CFR),
-        Event::Gives(40, "08"),
-        Event::Comes(MCF),
-        Event::Comes(DCN_CAME),
-        Event::Gives(40, "c201e0000b0014d9a80000001001001001"),
-        Event::Comes(DCN_CAME),
-        Event::Gives(40, "c201f00002001001"),
-        Event::Comes(RTN),
-        Event::Gives(40, PREAMBLE),
-        Event::Comes(MCF),
-        Event::Gives(40, EOP),
-    ];
-    let leg = play(&rt, rt.alloc(), &[&[Event::Start(240)], &early, CONFIRMED])?;
-    assert_eq!(rt; leg.caller.delivered(), 1);
-    Ok(())
-}
-
-#[test]
-fn a_page_that_is_confirmed_twice(rt: HostRuntime) -> Result<(), Fail> {
-    let mut leg = Leg::new(&rt, rt.alloc(), STANDARD, &[WHITE, BLACK])?;
-    // the second of two slots, and behind it the first
-    let twice = "000309c002800002ffc83140000109c002800002ffc83140";
-    leg.play(
-        &rt,
-        &[
+    },
+    Call {
+        name: "a call in two dimensions",
+        format: STANDARD,
+        pages: ONE,
+        scripts: &[
+            STARTED,
+            IN_TWO_DIMENSIONS,
+            CONFIRMED,
+            &[Event::Delivered(1)],
+        ],
+    },
+    Call {
+        name: "a called machine that lacks fine pages",
+        format: FINE,
+        pages: ONE,
+        scripts: &[
+            STARTED,
+            &[
+                Event::Comes(DIS),
+                Event::Ends(40, Outcome::FineLacking),
+                Event::Quiet(40),
+                Event::Delivered(0),
+            ],
+        ],
+    },
+    Call {
+        name: "a called machine that lacks wide pages",
+        format: WIDE,
+        pages: WIDE_ROW,
+        scripts: &[STARTED, WIDTH_LACKING],
+    },
+    Call {
+        name: "a called machine that lacks wide and fine pages",
+        format: WIDE_AND_FINE,
+        pages: WIDE_ROW,
+        scripts: &[STARTED, WIDTH_LACKING],
+    },
+    Call {
+        name: "a called machine that takes no pages",
+        format: STANDARD,
+        pages: ONE,
+        scripts: &[
+            STARTED,
+            &[
+                Event::Comes(DEAF),
+                Event::Ends(40, Outcome::NotReceiver),
+                Event::Quiet(40),
+                Event::Delivered(0),
+            ],
+        ],
+    },
+    Call {
+        name: "a training that fails at each rate",
+        format: STANDARD,
+        pages: ONE,
+        scripts: &[STARTED, FAILING],
+    },
+    Call {
+        name: "a page that is refused",
+        format: STANDARD,
+        pages: ONE,
+        scripts: &[
+            STARTED, TRAINED, WHITE_PAGE, EOP_GIVEN, AGAIN, WHITE_PAGE, EOP_GIVEN, AGAIN,
+            WHITE_PAGE, EOP_GIVEN, REFUSED, TRAINED, WHITE_PAGE,
+        ],
+    },
+    Call {
+        name: "a call with two pages",
+        format: STANDARD,
+        pages: TWO,
+        scripts: &[
             STARTED,
             TRAINED,
             WHITE_PAGE,
             MPS_GIVEN,
-            &[Event::Datagram(twice)],
+            &[Event::Delivered(0), Event::Comes(MCF)],
+            BLACK_PAGE,
+            EOP_GIVEN,
+            &[Event::Delivered(1)],
+            CONFIRMED,
+            &[Event::Delivered(2)],
         ],
-    )?;
-    assert_eq!(rt; leg.caller.delivered(), 1);
-    leg.play(&rt, &[BLACK_PAGE, EOP_GIVEN, &[Event::Quiet(40)]])?;
-    assert!(rt; matches!(leg.caller.state(), State::AwaitMcf(..)));
-    leg.play(
-        &rt,
-        &[&[Event::Comes(MCF), Event::Ends(41, Outcome::Delivered)]],
-    )?;
-    assert_eq!(rt; leg.caller.delivered(), 2);
+    },
+    Call {
+        name: "a call that trains again",
+        format: STANDARD,
+        pages: TWO,
+        scripts: &[
+            STARTED,
+            TRAINED,
+            WHITE_PAGE,
+            MPS_GIVEN,
+            &[
+                Event::Comes(RTP),
+                Event::Trains(40, SLOW),
+                Event::Comes(CFR),
+                Event::Delivered(1),
+            ],
+            BLACK_PAGE,
+            EOP_GIVEN,
+            &[
+                Event::Comes(RTP),
+                Event::Ends(40, Outcome::Delivered),
+                Event::Delivered(2),
+            ],
+        ],
+    },
+    Call {
+        name: "answers that come while packets wait",
+        format: STANDARD,
+        pages: ONE,
+        scripts: &[EARLY, CONFIRMED, &[Event::Delivered(1)]],
+    },
+    Call {
+        name: "a page that is confirmed twice",
+        format: STANDARD,
+        pages: TWO,
+        scripts: &[
+            STARTED,
+            TRAINED,
+            WHITE_PAGE,
+            MPS_GIVEN,
+            &[Event::Datagram(TWICE), Event::Delivered(1)],
+            BLACK_PAGE,
+            EOP_GIVEN,
+            &[
+                Event::Quiet(40),
+                Event::AwaitsMcf,
+                Event::Comes(MCF),
+                Event::Ends(41, Outcome::Delivered),
+                Event::Delivered(2),
+            ],
+        ],
+    },
+];
+
+#[test]
+fn calls_in_which_pages_go_out(rt: HostRuntime) -> Result<(), Fail> {
+    play(&rt, rt.alloc(), &CALLS)?;
     Ok(())
 }

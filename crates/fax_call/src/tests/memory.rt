@@ -1,36 +1,53 @@
 //! A call that is refused memory. Nothing in a test can refuse it: `tools/refuse-test-memory` does, from outside, each
 //! allocation in turn, and reads what the test prints.
-use super::{CONFIRMED, DIS, EOP_GIVEN, Event, Leg, SLOW, STANDARD, STARTED, WHITE, WHITE_PAGE};
+use super::{CONFIRMED, DIS, EOP_GIVEN, Event, Leg, ONE, SLOW, STANDARD, STARTED, WHITE_PAGE};
 use fax_bits::NoMemory;
+use std::alloc::Global;
 use std::process::Abort;
 use std::test::Fail;
 
 /// The DIS comes, and behind the training a CFR in five fields, for which a list of fields takes memory.
-const TRAINED: &[Event<'static>] = &[
+const TRAINED: &[Event] = &[
     Event::Comes(DIS),
     Event::Trains(40, SLOW),
     Event::Comes("c005800000ff800000c88000002141"),
 ];
 
-#[test]
-fn a_call_that_is_refused_memory(rt: HostRuntime) -> Result<(), Fail> {
-    // what is refused is asked for again at once, and nothing else differs
-    let mut leg = match Leg::new(&rt, rt.alloc(), STANDARD, &[WHITE]) {
-        Ok(leg) => leg,
-        Err(NoMemory) => {
-            let mut again = Leg::new(&rt, rt.alloc(), STANDARD, &[WHITE])?;
-            again.refused_texts = 1;
-            again
-        }
-    };
-    leg.play(&rt, &[STARTED, TRAINED, WHITE_PAGE, EOP_GIVEN, CONFIRMED])?;
-    assert_eq!(rt; leg.caller.delivered(), 1);
-    let refused = match (leg.refused_calls, leg.refused_texts) {
+const CALL: &[&[Event]] = &[
+    STARTED,
+    TRAINED,
+    WHITE_PAGE,
+    EOP_GIVEN,
+    CONFIRMED,
+    &[Event::Delivered(1)],
+];
+
+/// A leg. Where memory is refused it is asked for again once.
+fn leg_of(rt: &impl Abort, alloc: Global) -> Result<Leg, NoMemory> {
+    if let Ok(leg) = Leg::new(rt, alloc, STANDARD, ONE) {
+        return Ok(leg);
+    }
+    let mut leg = Leg::new(rt, alloc, STANDARD, ONE)?;
+    leg.refused_texts = 1;
+    Ok(leg)
+}
+
+/// What was refused, once at most.
+fn refused(rt: &impl Abort, leg: &Leg) -> &'static str {
+    match (leg.refused_calls, leg.refused_texts) {
         (0, 0) => "nothing",
         (1, 0) => "a call",
         (0, 1) => "a text",
         _ => rt.abort(),
-    };
+    }
+}
+
+#[test]
+fn a_call_that_is_refused_memory(rt: HostRuntime) -> Result<(), Fail> {
+    // what is refused is asked for again at once, and nothing else differs
+    let mut leg = leg_of(&rt, rt.alloc())?;
+    leg.play(&rt, CALL)?;
+    let refused = refused(&rt, &leg);
     println!(rt; "refused: {refused}")?;
     Ok(())
 }
