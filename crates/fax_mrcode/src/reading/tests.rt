@@ -1,49 +1,106 @@
 //! Two-dimensional lines, spelt by hand with ITU-T T.4, table 4/T.4, and its tables of runs.
 use super::{LineFault, read_line_2d, read_line_2d_into};
-use fax_bits::BitReader;
-use fax_runcodes::{Row, RowBuilder, RunFault};
+use fax_bits::{BitReader, NoMemory};
+use fax_runcodes::{Row, RowBuilder, RowFault, RunFault};
+use std::alloc::Global;
+use std::process::Abort;
 use std::test::Fail;
+
+/// The runs of the reference, the octets, how many bits are passed, and the changing places of the row.
+const LINES: [(&[u16], &[u8], u128, &[u16]); 10] = [
+    // V0
+    (&[1728], &[0x80], 1, &[]),
+    // horizontal with white 0 and black 3, V0
+    (&[1728], &[0x26, 0xb4], 14, &[0, 3]),
+    // horizontal with white 1728 and black 0
+    (&[1728], &[0x29, 0xb3, 0x50, 0xdc], 30, &[]),
+    // VL2, VL1, V0
+    (&[4, 1, 1723], &[0x09, 0x40], 10, &[2, 4]),
+    // pass, V0
+    (&[4, 1, 1723], &[0x18], 5, &[]),
+    // VR1, V0
+    (&[4, 1, 1723], &[0x70], 4, &[5]),
+    // V0 five times
+    (&[4, 1, 1, 1, 1721], &[0xff], 5, &[4, 5, 6, 7]),
+    // V0 three times, VR1, V0
+    (&[4, 1, 1, 1, 1721], &[0xee], 7, &[4, 5, 6, 8]),
+    // V0 three times, the first at the first element
+    (&[0, 3, 1725], &[0xe0], 3, &[0, 3]),
+    // Horizontal with white 12 and black 1, VL3 from 21, V0 at 20, V0 at 21, V0: the place 20 lies
+    // left of b1 and right of a1.
+    (
+        &[10, 10, 1, 1707],
+        &[0x24, 0x20, 0x5c],
+        22,
+        &[12, 13, 18, 20, 21],
+    ),
+];
+
+/// The runs of the reference, the octets, and why they are no line.
+const FAULTS: [(&[u16], &[u8], LineFault); 10] = [
+    // pass with b2 at the width
+    (&[1728], &[0x18], LineFault::BadPlace),
+    // horizontal with white 1728 + 1
+    (&[1728], &[0x29, 0xb1, 0xc0], LineFault::PastWidth),
+    // horizontal with white 1 and black 0
+    (&[1728], &[0x23, 0x86, 0xe0], LineFault::BadPlace),
+    // horizontal, and then a part of a word
+    (&[1728], &[0x20], LineFault::Run(RunFault::End)),
+    // horizontal, and then no word
+    (&[1728], &[0x20, 0x00], LineFault::Run(RunFault::NoWord)),
+    // the front of an extension
+    (&[1728], &[0x02], LineFault::NoMode),
+    (&[1728], &[], LineFault::NoMode),
+    // VR1 from the width
+    (&[1728], &[0x60], LineFault::BadPlace),
+    // V0, VL3
+    (&[4, 1, 1723], &[0x82], LineFault::BadPlace),
+    // V0, VL1
+    (&[4, 1, 1723], &[0xa0], LineFault::BadPlace),
+];
+
+/// Reads a line against the row of such runs into a builder that is cleared before.
+fn read_into(
+    line: &mut RowBuilder,
+    reader: &mut BitReader,
+    alloc: Global,
+    runs: &[u16],
+) -> Result<Result<(), LineFault>, RowFault> {
+    let reference = Row::from_runs(alloc, runs)?;
+    line.clear();
+    Ok(read_line_2d_into(line, reader, &reference.lend()))
+}
+
+/// The row of 1728 elements that a builder has.
+fn row_of(rt: &impl Abort, line: &RowBuilder) -> Result<Row, NoMemory> {
+    assert_eq!(rt; line.len(), 1728);
+    line.row()
+}
+
+/// Reads a line, and fails unless it has these changing places and ends at this place.
+fn expect_line(
+    rt: &impl Abort,
+    alloc: Global,
+    reader: &mut BitReader,
+    reference: &Row,
+    place: u128,
+    changes: &[u16],
+) -> Result<Row, LineFault> {
+    let row = read_line_2d(alloc, reader, reference)?;
+    assert_eq!(rt; reader.place(), place);
+    assert_eq!(rt; row.changes(), changes);
+    Ok(row)
+}
 
 #[test]
 fn reads_line_after_line_into_one_builder(rt: HostRuntime) -> Result<(), Fail> {
-    // the runs of the reference, the octets, how many bits are passed, and the changing places of the row
-    let cases: [(&[u16], &[u8], u128, &[u16]); 10] = [
-        // V0
-        (&[1728], &[0x80], 1, &[]),
-        // horizontal with white 0 and black 3, V0
-        (&[1728], &[0x26, 0xb4], 14, &[0, 3]),
-        // horizontal with white 1728 and black 0
-        (&[1728], &[0x29, 0xb3, 0x50, 0xdc], 30, &[]),
-        // VL2, VL1, V0
-        (&[4, 1, 1723], &[0x09, 0x40], 10, &[2, 4]),
-        // pass, V0
-        (&[4, 1, 1723], &[0x18], 5, &[]),
-        // VR1, V0
-        (&[4, 1, 1723], &[0x70], 4, &[5]),
-        // V0 five times
-        (&[4, 1, 1, 1, 1721], &[0xff], 5, &[4, 5, 6, 7]),
-        // V0 three times, VR1, V0
-        (&[4, 1, 1, 1, 1721], &[0xee], 7, &[4, 5, 6, 8]),
-        // V0 three times, the first at the first element
-        (&[0, 3, 1725], &[0xe0], 3, &[0, 3]),
-        // Horizontal with white 12 and black 1, VL3 from 21, V0 at 20, V0 at 21, V0: the place 20 lies
-        // left of b1 and right of a1.
-        (
-            &[10, 10, 1, 1707],
-            &[0x24, 0x20, 0x5c],
-            22,
-            &[12, 13, 18, 20, 21],
-        ),
-    ];
     let mut line = RowBuilder::new(rt.alloc())?;
-    for (runs, octets, bits, changes) in cases {
-        line.clear();
-        let reference = Row::from_runs(rt.alloc(), runs)?;
+    for (runs, octets, bits, changes) in LINES {
         let mut reader = BitReader::new(octets);
-        read_line_2d_into(&mut line, &mut reader, &reference.lend())?;
+        let result = read_into(&mut line, &mut reader, rt.alloc(), runs)?;
+        assert_eq!(rt; result, Ok(()), "at {octets:?}");
         assert_eq!(rt; reader.place(), bits, "at {octets:?}");
-        assert_eq!(rt; line.len(), 1728, "at {octets:?}");
-        let row = line.row()?;
+        let row = row_of(&rt, &line)?;
         assert_eq!(rt; row.changes(), changes, "at {octets:?}");
     }
     Ok(())
@@ -51,33 +108,10 @@ fn reads_line_after_line_into_one_builder(rt: HostRuntime) -> Result<(), Fail> {
 
 #[test]
 fn says_why_it_reads_no_line(rt: HostRuntime) -> Result<(), Fail> {
-    let cases: [(&[u16], &[u8], LineFault); 10] = [
-        // pass with b2 at the width
-        (&[1728], &[0x18], LineFault::BadPlace),
-        // horizontal with white 1728 + 1
-        (&[1728], &[0x29, 0xb1, 0xc0], LineFault::PastWidth),
-        // horizontal with white 1 and black 0
-        (&[1728], &[0x23, 0x86, 0xe0], LineFault::BadPlace),
-        // horizontal, and then a part of a word
-        (&[1728], &[0x20], LineFault::Run(RunFault::End)),
-        // horizontal, and then no word
-        (&[1728], &[0x20, 0x00], LineFault::Run(RunFault::NoWord)),
-        // the front of an extension
-        (&[1728], &[0x02], LineFault::NoMode),
-        (&[1728], &[], LineFault::NoMode),
-        // VR1 from the width
-        (&[1728], &[0x60], LineFault::BadPlace),
-        // V0, VL3
-        (&[4, 1, 1723], &[0x82], LineFault::BadPlace),
-        // V0, VL1
-        (&[4, 1, 1723], &[0xa0], LineFault::BadPlace),
-    ];
     let mut line = RowBuilder::new(rt.alloc())?;
-    for (runs, octets, fault) in cases {
-        line.clear();
-        let reference = Row::from_runs(rt.alloc(), runs)?;
+    for (runs, octets, fault) in FAULTS {
         let mut reader = BitReader::new(octets);
-        let result = read_line_2d_into(&mut line, &mut reader, &reference.lend());
+        let result = read_into(&mut line, &mut reader, rt.alloc(), runs)?;
         assert_eq!(rt; result, Err(fault), "at {octets:?}");
         assert_eq!(rt; reader.place(), 0, "at {octets:?}");
         assert_eq!(rt; line.len(), 0, "at {octets:?}");
@@ -91,16 +125,12 @@ fn reads_rows_of_their_own(rt: HostRuntime) -> Result<(), Fail> {
     // the end.
     let mut reader = BitReader::new(&[0x09, 0x78, 0x30]);
     let first = Row::from_runs(rt.alloc(), &[4, 1, 1723])?;
-    let second = read_line_2d(rt.alloc(), &mut reader, &first)?;
+    let second = expect_line(&rt, rt.alloc(), &mut reader, &first, 10, &[2, 4])?;
     assert_eq!(rt; second.width(), 1728);
-    assert_eq!(rt; second.changes(), [2, 4].as_slice());
-    assert_eq!(rt; reader.place(), 10);
-    let third = read_line_2d(rt.alloc(), &mut reader, &second)?;
-    assert_eq!(rt; third.changes(), [2, 4].as_slice());
-    assert_eq!(rt; reader.place(), 13);
+    expect_line(&rt, rt.alloc(), &mut reader, &second, 13, &[2, 4])?;
     let white = Row::from_runs(rt.alloc(), &[2432])?;
-    let result = read_line_2d(rt.alloc(), &mut reader, &white);
-    assert!(rt; matches!(result, Err(LineFault::BadPlace)));
+    let fault = read_line_2d(rt.alloc(), &mut reader, &white).err();
+    assert_eq!(rt; fault, Some(LineFault::BadPlace));
     assert_eq!(rt; reader.place(), 13);
     Ok(())
 }
