@@ -3,7 +3,7 @@ use crate::{
     Coding, Format, PackedRows, Page, PageFault, PlainRows, RowStore, read_page, write_page,
 };
 use fax_bits::{BitWriter, NoMemory, Octets};
-use fax_runcodes::{Row, Width};
+use fax_runcodes::{Row, RowFault, Width};
 use std::alloc::Global;
 use std::process::Abort;
 use std::test::Fail;
@@ -105,6 +105,138 @@ const OF_FOUR: &[&str] = &[
     EOL_1,
 ];
 
+/// A one-dimensional line of 2048 white elements.
+const WHITE_2048: &str = "00000001001100110101";
+
+/// A one-dimensional line of 2432 white elements.
+const WHITE_2432: &str = "00000001110100110101";
+
+/// Four white rows of each width, in each coding.
+const WHITE_PAGES: [(Width, Coding, &[&str]); 6] = [
+    (
+        Width::W1728,
+        Coding::Mr,
+        &[
+            EOL_1, WHITE, EOL_0, AS_WHITE, EOL_0, AS_WHITE, "000", EOL_1, WHITE, EOL_1, EOL_1,
+            EOL_1, EOL_1, EOL_1, EOL_1,
+        ],
+    ),
+    (
+        Width::W1728,
+        Coding::Mh,
+        &[
+            EOL, WHITE, EOL, WHITE, EOL, WHITE, "000", EOL, WHITE, EOL, EOL, EOL, EOL, EOL, EOL,
+        ],
+    ),
+    (
+        Width::W2048,
+        Coding::Mr,
+        &[
+            EOL_1, WHITE_2048, EOL_0, AS_WHITE, EOL_0, AS_WHITE, "000", EOL_1, WHITE_2048, EOL_1,
+            EOL_1, EOL_1, EOL_1, EOL_1, EOL_1,
+        ],
+    ),
+    (
+        Width::W2048,
+        Coding::Mh,
+        &[
+            EOL, WHITE_2048, EOL, WHITE_2048, EOL, WHITE_2048, "000", EOL, WHITE_2048, EOL, EOL,
+            EOL, EOL, EOL, EOL,
+        ],
+    ),
+    (
+        Width::W2432,
+        Coding::Mr,
+        &[
+            EOL_1, WHITE_2432, EOL_0, AS_WHITE, EOL_0, AS_WHITE, "000", EOL_1, WHITE_2432, EOL_1,
+            EOL_1, EOL_1, EOL_1, EOL_1, EOL_1,
+        ],
+    ),
+    (
+        Width::W2432,
+        Coding::Mh,
+        &[
+            EOL, WHITE_2432, EOL, WHITE_2432, EOL, WHITE_2432, "000", EOL, WHITE_2432, EOL, EOL,
+            EOL, EOL, EOL, EOL,
+        ],
+    ),
+];
+
+/// Why texts are no page.
+const REFUSED: [(Coding, &[&str], PageFault); 15] = [
+    (Coding::Mh, &[], PageFault::NoEol),
+    (Coding::Mh, &[WHITE], PageFault::NoEol),
+    (Coding::Mh, &["0000", EOL], PageFault::NoRtc),
+    // an EOL without its tag
+    (Coding::Mr, &["0000", EOL], PageFault::NoEol),
+    (
+        Coding::Mr,
+        &["0000000", EOL_1, "0000", EOL],
+        PageFault::NoRtc,
+    ),
+    // no row before the first line
+    (Coding::Mr, &[EOL_0, AS_WHITE, EOL_1], PageFault::BadLine(0)),
+    // an extension behind the first line, and a 1
+    (
+        Coding::Mr,
+        &[EOL_1, WHITE, EOL_0, "0000001"],
+        PageFault::BadLine(1),
+    ),
+    (
+        Coding::Mr,
+        &[EOL_1, WHITE, "1", EOL_1],
+        PageFault::BadLine(0),
+    ),
+    // only zeros behind a line
+    (Coding::Mr, &[EOL_1, WHITE], PageFault::NoRtc),
+    // an EOL without its tag behind a line
+    (Coding::Mr, &[EOL_1, WHITE, EOL], PageFault::NoRtc),
+    // an EOL behind one with tag 0, and the sixth with tag 0
+    (
+        Coding::Mr,
+        &[EOL_1, WHITE, EOL_0, EOL_1, EOL_1, EOL_1, EOL_1, EOL_1],
+        PageFault::NoRtc,
+    ),
+    (
+        Coding::Mr,
+        &[EOL_1, WHITE, EOL_1, EOL_1, EOL_1, EOL_1, EOL_1, EOL_0],
+        PageFault::NoRtc,
+    ),
+    // a line behind two EOLs
+    (
+        Coding::Mr,
+        &[EOL_1, WHITE, EOL_1, EOL_1, WHITE, EOL_1],
+        PageFault::NoRtc,
+    ),
+    (
+        Coding::Mh,
+        &[EOL, EOL, EOL, EOL, EOL, EOL],
+        PageFault::Empty,
+    ),
+    (
+        Coding::Mr,
+        &[EOL_1, EOL_1, EOL_1, EOL_1, EOL_1, EOL_1],
+        PageFault::Empty,
+    ),
+];
+
+/// A page that is read, whether its resolution is the fine one, and how it is written with the least bits
+/// of a line.
+const WRITTEN: [(&[&str], bool, Coding, u32, &[&str]); 5] = [
+    (ONE_WHITE, false, Coding::Mh, 0, ONE_WHITE),
+    (ONE_WHITE, true, Coding::Mh, 40, FILLED),
+    (TWO_WHITE, false, Coding::Mr, 0, OF_TWO),
+    (ONE_WHITE, false, Coding::Mr, 32, OF_TWO_FILLED),
+    (FIVE_WHITE, true, Coding::Mr, 0, OF_FOUR),
+];
+
+/// Pages that are read into either store.
+const EITHER: [(Coding, &[&str]); 3] = [
+    (Coding::Mh, FILLED),
+    (Coding::Mr, OF_TWO_FILLED),
+    (Coding::Mr, OF_FOUR),
+];
+
 /// The octets of the bits that texts of the digits 0 and 1 show.
 fn octets_of(alloc: Global, texts: &[&str]) -> Result<Octets, NoMemory> {
     let mut writer = BitWriter::new(alloc);
@@ -156,6 +288,51 @@ fn expect_rows(rt: &impl Abort, page: &Page<PlainRows>, wanted: &[&[u16]]) -> Re
     Ok(())
 }
 
+/// Fails unless there are four rows, white and of such a width.
+fn expect_four_white(rt: &impl Abort, rows: &PackedRows, elements: u16) {
+    assert_eq!(rt; rows.len(), 4);
+    for i in 0..rows.len() {
+        let row = rows.lend(i);
+        assert_eq!(rt; row.width(), elements, "in row {i}");
+        assert_eq!(rt; row.changes().len(), 0, "in row {i} of {elements}");
+    }
+}
+
+/// Fails unless both stores have rows of the same changes.
+fn expect_same(rt: &impl Abort, packed: &PackedRows, plain: &PlainRows) {
+    assert_eq!(rt; packed.len(), plain.len());
+    for i in 0..plain.len() {
+        let (row, same) = (packed.lend(i), plain.lend(i));
+        assert_eq!(rt; row.changes(), same.changes(), "in row {i}");
+    }
+}
+
+/// Adds a row of such runs, and fails where it is handed back.
+fn push_runs(
+    rt: &impl Abort,
+    alloc: Global,
+    rows: &mut PlainRows,
+    runs: &[u16],
+) -> Result<(), RowFault> {
+    let row = Row::from_runs(alloc, runs)?;
+    assert!(rt; rows.push(row).is_ok());
+    Ok(())
+}
+
+/// Fails unless a row has these changes, itself and lent.
+fn expect_changes(
+    rt: &impl Abort,
+    rows: &PlainRows,
+    i: u32,
+    changes: &[u16],
+) -> Result<(), NoMemory> {
+    assert!(rt; i < rows.len());
+    let row = rows.row(i)?;
+    assert_eq!(rt; row.changes(), changes);
+    assert_eq!(rt; rows.lend(i).changes(), changes);
+    Ok(())
+}
+
 #[test]
 fn reads_lines_in_one_dimension(rt: HostRuntime) -> Result<(), Fail> {
     // any bits before the first EOL, fill before another, and anything behind the sixth
@@ -181,93 +358,18 @@ fn reads_lines_in_two_dimensions(rt: HostRuntime) -> Result<(), Fail> {
 
 #[test]
 fn reads_white_rows_of_each_width(rt: HostRuntime) -> Result<(), Fail> {
-    let cases = [
-        (Width::W1728, WHITE),
-        (Width::W2048, "00000001001100110101"),
-        (Width::W2432, "00000001110100110101"),
-    ];
-    for (width, white) in cases {
-        let tagged = [
-            EOL_1, white, EOL_0, AS_WHITE, EOL_0, AS_WHITE, "000", EOL_1, white, EOL_1, EOL_1,
-            EOL_1, EOL_1, EOL_1, EOL_1,
-        ];
-        let untagged = [
-            EOL, white, EOL, white, EOL, white, "000", EOL, white, EOL, EOL, EOL, EOL, EOL, EOL,
-        ];
-        for (coding, texts) in [(Coding::Mr, tagged), (Coding::Mh, untagged)] {
-            let octets = octets_of(rt.alloc(), &texts)?;
-            let format = Format { width, fine: true };
-            let page: Page<PackedRows> = read_page(rt.alloc(), octets.as_slice(), format, coding)?;
-            assert_eq!(rt; page.rows().len(), 4, "in {texts:?}");
-            for i in 0..page.rows().len() {
-                let row = page.rows().lend(i);
-                assert_eq!(rt; row.width(), width.elements(), "in row {i}");
-                assert_eq!(rt; row.changes(), [].as_slice(), "in row {i}");
-            }
-        }
+    for (width, coding, texts) in WHITE_PAGES {
+        let octets = octets_of(rt.alloc(), texts)?;
+        let format = Format { width, fine: true };
+        let page: Page<PackedRows> = read_page(rt.alloc(), octets.as_slice(), format, coding)?;
+        expect_four_white(&rt, page.rows(), width.elements());
     }
     Ok(())
 }
 
 #[test]
 fn says_why_it_reads_no_page(rt: HostRuntime) -> Result<(), Fail> {
-    let cases: [(Coding, &[&str], PageFault); 15] = [
-        (Coding::Mh, &[], PageFault::NoEol),
-        (Coding::Mh, &[WHITE], PageFault::NoEol),
-        (Coding::Mh, &["0000", EOL], PageFault::NoRtc),
-        // an EOL without its tag
-        (Coding::Mr, &["0000", EOL], PageFault::NoEol),
-        (
-            Coding::Mr,
-            &["0000000", EOL_1, "0000", EOL],
-            PageFault::NoRtc,
-        ),
-        // no row before the first line
-        (Coding::Mr, &[EOL_0, AS_WHITE, EOL_1], PageFault::BadLine(0)),
-        // an extension behind the first line, and a 1
-        (
-            Coding::Mr,
-            &[EOL_1, WHITE, EOL_0, "0000001"],
-            PageFault::BadLine(1),
-        ),
-        (
-            Coding::Mr,
-            &[EOL_1, WHITE, "1", EOL_1],
-            PageFault::BadLine(0),
-        ),
-        // only zeros behind a line
-        (Coding::Mr, &[EOL_1, WHITE], PageFault::NoRtc),
-        // an EOL without its tag behind a line
-        (Coding::Mr, &[EOL_1, WHITE, EOL], PageFault::NoRtc),
-        // an EOL behind one with tag 0, and the sixth with tag 0
-        (
-            Coding::Mr,
-            &[EOL_1, WHITE, EOL_0, EOL_1, EOL_1, EOL_1, EOL_1, EOL_1],
-            PageFault::NoRtc,
-        ),
-        (
-            Coding::Mr,
-            &[EOL_1, WHITE, EOL_1, EOL_1, EOL_1, EOL_1, EOL_1, EOL_0],
-            PageFault::NoRtc,
-        ),
-        // a line behind two EOLs
-        (
-            Coding::Mr,
-            &[EOL_1, WHITE, EOL_1, EOL_1, WHITE, EOL_1],
-            PageFault::NoRtc,
-        ),
-        (
-            Coding::Mh,
-            &[EOL, EOL, EOL, EOL, EOL, EOL],
-            PageFault::Empty,
-        ),
-        (
-            Coding::Mr,
-            &[EOL_1, EOL_1, EOL_1, EOL_1, EOL_1, EOL_1],
-            PageFault::Empty,
-        ),
-    ];
-    for (coding, texts, fault) in cases {
+    for (coding, texts, fault) in REFUSED {
         let result = read(rt.alloc(), texts, true, coding);
         assert_eq!(rt; result.err(), Some(fault), "at {texts:?}");
     }
@@ -276,14 +378,7 @@ fn says_why_it_reads_no_page(rt: HostRuntime) -> Result<(), Fail> {
 
 #[test]
 fn writes_the_one_fixed_text(rt: HostRuntime) -> Result<(), Fail> {
-    let cases: [(&[&str], bool, Coding, u32, &[&str]); 5] = [
-        (ONE_WHITE, false, Coding::Mh, 0, ONE_WHITE),
-        (ONE_WHITE, true, Coding::Mh, 40, FILLED),
-        (TWO_WHITE, false, Coding::Mr, 0, OF_TWO),
-        (ONE_WHITE, false, Coding::Mr, 32, OF_TWO_FILLED),
-        (FIVE_WHITE, true, Coding::Mr, 0, OF_FOUR),
-    ];
-    for (texts, fine, coding, least_bits, written) in cases {
+    for (texts, fine, coding, least_bits, written) in WRITTEN {
         let page = read(rt.alloc(), texts, fine, Coding::Mh)?;
         let octets = write_page(rt.alloc(), &page, coding, least_bits)?;
         let wanted = octets_of(rt.alloc(), written)?;
@@ -310,35 +405,20 @@ fn faults_have_numbers(rt: HostRuntime) {
 fn stores_keep_rows(rt: HostRuntime) -> Result<(), Fail> {
     let mut rows = PlainRows::empty(rt.alloc());
     assert_eq!(rt; rows.len(), 0);
-    assert!(rt; rows.push(Row::from_runs(rt.alloc(), &[2048])?).is_ok());
-    assert!(rt; rows.push(Row::from_runs(rt.alloc(), &[0, 2048])?).is_ok());
+    push_runs(&rt, rt.alloc(), &mut rows, &[2048])?;
+    push_runs(&rt, rt.alloc(), &mut rows, &[0, 2048])?;
     assert_eq!(rt; rows.len(), 2);
-    if rows.len() == 2 {
-        assert_eq!(rt; rows.row(0)?.changes(), [].as_slice());
-        assert_eq!(rt; rows.row(1)?.changes(), [0].as_slice());
-        assert_eq!(rt; rows.lend(0).changes(), [].as_slice());
-        assert_eq!(rt; rows.lend(1).changes(), [0].as_slice());
-    }
+    expect_changes(&rt, &rows, 0, &[])?;
+    expect_changes(&rt, &rows, 1, &[0])?;
     Ok(())
 }
 
 #[test]
 fn reads_into_either_store(rt: HostRuntime) -> Result<(), Fail> {
-    let cases: [(Coding, &[&str]); 3] = [
-        (Coding::Mh, FILLED),
-        (Coding::Mr, OF_TWO_FILLED),
-        (Coding::Mr, OF_FOUR),
-    ];
-    for (coding, texts) in cases {
+    for (coding, texts) in EITHER {
         let plain = read(rt.alloc(), texts, true, coding)?;
         let packed: Page<PackedRows> = read_into(rt.alloc(), texts, true, coding)?;
-        assert_eq!(rt; packed.rows().len(), plain.rows().len());
-        for i in 0..plain.rows().len() {
-            if i < packed.rows().len() && i < plain.rows().len() {
-                let (row, same) = (packed.rows().lend(i), plain.rows().lend(i));
-                assert_eq!(rt; row.changes(), same.changes(), "in row {i} of {texts:?}");
-            }
-        }
+        expect_same(&rt, packed.rows(), plain.rows());
     }
     Ok(())
 }
