@@ -1,45 +1,127 @@
 //! Rows, made of run lengths and by a builder.
-use super::{Row, RowBuilder, RowRef};
+use super::{Row, RowBuilder, RowRef, is_width};
 use crate::Colour::{Black, White};
 use crate::{Colour, RowFault, Width};
+use fax_bits::NoMemory;
+use std::process::Abort;
 use std::test::Fail;
+
+/// Runs of a row, and the colours of its first and last elements.
+const ROWS: [(&[u16], Colour, Colour); 9] = [
+    (&[1728], White, White),
+    (&[0, 1728], Black, Black),
+    (&[4, 1, 1723], White, White),
+    (&[2, 2, 1724], White, White),
+    (&[0, 3, 1725], Black, White),
+    (&[1000, 728], White, Black),
+    (&[2048], White, White),
+    (&[0, 2432], Black, Black),
+    (&[0, 1, 2431], Black, White),
+];
+
+/// Runs of no row.
+const REFUSED: [&[u16]; 8] = [
+    &[],
+    &[1000],
+    &[0],
+    &[5, 0, 1723],
+    &[1728, 0],
+    &[1729],
+    &[65535; 40],
+    &[60000, 7264],
+];
+
+/// What is painted behind one another, how many elements that makes, and the runs of their row, if any.
+const PAINTED: [(&[(Colour, u16)], u16, &[u16]); 3] = [
+    (&[(White, 0), (Black, 0)], 0, &[]),
+    (
+        &[
+            (White, 0),
+            (Black, 0),
+            (White, 1),
+            (Black, 0),
+            (White, 1727),
+        ],
+        1728,
+        &[1728],
+    ),
+    (
+        &[(Black, 2), (Black, 1), (White, 2045)],
+        2048,
+        &[0, 3, 2045],
+    ),
+];
+
+/// Run lengths, a width, and those in front that are the row of the width, if any.
+const IN_FRONT: [(&[u16], Width, &[u16]); 6] = [
+    (&[0, 3, 1725, 1728, 5, 0, 1723], Width::W1728, &[0, 3, 1725]),
+    (&[1728, 5, 0, 1723], Width::W1728, &[1728]),
+    (&[5, 0, 1723], Width::W1728, &[]),
+    (&[0, 3, 1725, 1728, 5, 0, 1723], Width::W2432, &[]),
+    (&[1, 1726], Width::W1728, &[]),
+    (&[], Width::W1728, &[]),
+];
+
+/// Fails unless a row has such runs.
+fn expect_runs(rt: &impl Abort, row: &Row, runs: &[u16]) -> Result<(), NoMemory> {
+    assert_eq!(rt; row.runs()?.as_slice(), runs);
+    Ok(())
+}
+
+/// Fails unless a row begins and ends with these colours.
+fn expect_ends(rt: &impl Abort, row: &Row, first: Colour, last: Colour) {
+    assert!(rt; row.width() > 0);
+    assert_eq!(rt; row.colour_at(0), first);
+    assert_eq!(rt; row.colour_at(row.width() - 1), last);
+}
+
+/// Fails unless a row has the colour at a place.
+fn expect_colour(rt: &impl Abort, row: &Row, place: u16, colour: Colour) {
+    assert!(rt; place < row.width());
+    assert_eq!(rt; row.colour_at(place), colour, "at {place}");
+}
+
+/// Adds elements of a colour, and fails where there are too many.
+fn paint(rt: &impl Abort, builder: &mut RowBuilder, colour: Colour, n: u16) {
+    assert!(rt; n <= 2432 - builder.len());
+    builder.paint(colour, n);
+}
+
+/// Adds a white run and a black one behind it, and fails where one is empty or they are too long.
+fn paint_pair(rt: &impl Abort, builder: &mut RowBuilder, white: u16, black: u16) {
+    assert!(rt; white > 0);
+    assert!(rt; black > 0);
+    assert!(rt; white <= 2432 - builder.len());
+    assert!(rt; black <= 2432 - builder.len() - white);
+    builder.paint_pair(white, black);
+}
+
+/// Puts the runs of the row so far at the start of a slice.
+fn put_built(rt: &impl Abort, builder: &RowBuilder, runs: &mut [u16]) -> Option<usize> {
+    assert!(rt; is_width(builder.len()));
+    builder.lend().put_runs(runs)
+}
+
+/// The row so far.
+fn row_of(rt: &impl Abort, builder: &RowBuilder) -> Result<Row, NoMemory> {
+    assert!(rt; is_width(builder.len()));
+    builder.row()
+}
 
 #[test]
 fn makes_a_row_of_runs_and_gives_them_back(rt: HostRuntime) -> Result<(), Fail> {
-    let cases: [(&[u16], Colour, Colour); 9] = [
-        (&[1728], White, White),
-        (&[0, 1728], Black, Black),
-        (&[4, 1, 1723], White, White),
-        (&[2, 2, 1724], White, White),
-        (&[0, 3, 1725], Black, White),
-        (&[1000, 728], White, Black),
-        (&[2048], White, White),
-        (&[0, 2432], Black, Black),
-        (&[0, 1, 2431], Black, White),
-    ];
-    for (runs, first, last) in cases {
+    for (runs, first, last) in ROWS {
         let row = Row::from_runs(rt.alloc(), runs)?;
-        assert_eq!(rt; row.runs()?.as_slice(), runs);
-        assert_eq!(rt; row.copy()?.runs()?.as_slice(), runs);
-        assert_eq!(rt; row.colour_at(0), first);
-        assert_eq!(rt; row.colour_at(row.width() - 1), last);
+        expect_runs(&rt, &row, runs)?;
+        expect_runs(&rt, &row.copy()?, runs)?;
+        expect_ends(&rt, &row, first, last);
     }
     Ok(())
 }
 
 #[test]
 fn refuses_runs_that_are_no_rows(rt: HostRuntime) -> Result<(), Fail> {
-    let cases: [&[u16]; 8] = [
-        &[],
-        &[1000],
-        &[0],
-        &[5, 0, 1723],
-        &[1728, 0],
-        &[1729],
-        &[65535; 40],
-        &[60000, 7264],
-    ];
-    for runs in cases {
+    for runs in REFUSED {
         let fault = Row::from_runs(rt.alloc(), runs).err();
         assert_eq!(rt; fault, Some(RowFault::BadRuns));
     }
@@ -50,9 +132,9 @@ fn refuses_runs_that_are_no_rows(rt: HostRuntime) -> Result<(), Fail> {
 fn gives_places_and_colours(rt: HostRuntime) -> Result<(), Fail> {
     let row = Row::from_runs(rt.alloc(), &[4, 1, 1723])?;
     assert_eq!(rt; row.changes(), [4, 5].as_slice());
-    for (place, colour) in [(3, White), (4, Black), (5, White)] {
-        assert_eq!(rt; row.colour_at(place), colour, "at {place}");
-    }
+    expect_colour(&rt, &row, 3, White);
+    expect_colour(&rt, &row, 4, Black);
+    expect_colour(&rt, &row, 5, White);
     let black = Row::from_runs(rt.alloc(), &[0, 1728])?;
     assert_eq!(rt; black.changes(), [0].as_slice());
     Ok(())
@@ -78,47 +160,43 @@ fn numbers_colours_and_widths(rt: HostRuntime) -> Result<(), Fail> {
 #[test]
 fn builds_rows(rt: HostRuntime) -> Result<(), Fail> {
     let mut builder = RowBuilder::new(rt.alloc())?;
-    builder.paint(White, 0);
-    builder.paint(Black, 0);
-    assert_eq!(rt; builder.len(), 0);
-
-    builder.paint(White, 1);
-    builder.paint(Black, 0);
-    builder.paint(White, 1727);
-    assert_eq!(rt; builder.len(), 1728);
-    assert_eq!(rt; builder.row()?.runs()?.as_slice(), [1728].as_slice());
-
-    builder.clear();
-    builder.paint(Black, 2);
-    builder.paint(Black, 1);
-    builder.paint(White, 2045);
-    let row = builder.row()?;
-    assert_eq!(rt; row.width(), 2048);
-    assert_eq!(rt; row.runs()?.as_slice(), [0, 3, 2045].as_slice());
+    for (painted, len, runs) in PAINTED {
+        builder.clear();
+        for (colour, n) in painted {
+            paint(&rt, &mut builder, *colour, *n);
+        }
+        assert_eq!(rt; builder.len(), len, "at {runs:?}");
+        if len > 0 {
+            let row = row_of(&rt, &builder)?;
+            assert_eq!(rt; row.width(), len, "at {runs:?}");
+            expect_runs(&rt, &row, runs)?;
+        }
+    }
     Ok(())
 }
 
 #[test]
 fn paints_pairs_and_puts_runs(rt: HostRuntime) -> Result<(), Fail> {
     let mut builder = RowBuilder::new(rt.alloc())?;
-    builder.paint(Black, 3);
-    builder.paint_pair(5, 1);
-    builder.paint_pair(2, 10);
-    builder.paint(White, 1000);
-    builder.paint_pair(700, 7);
-    let row = builder.row()?;
+    paint(&rt, &mut builder, Black, 3);
+    paint_pair(&rt, &mut builder, 5, 1);
+    paint_pair(&rt, &mut builder, 2, 10);
+    paint(&rt, &mut builder, White, 1000);
+    paint_pair(&rt, &mut builder, 700, 7);
+    let row = row_of(&rt, &builder)?;
     let mut runs = [9; 8];
     assert_eq!(rt; row.lend().put_runs(&mut runs[..5]), None);
     assert_eq!(rt; runs, [9; 8]);
     assert_eq!(rt; row.lend().put_runs(&mut runs), Some(8));
     assert_eq!(rt; runs, [0, 3, 5, 1, 2, 10, 1700, 7]);
     builder.clear();
-    builder.paint(White, 2432);
-    assert_eq!(rt; builder.row()?.lend().put_runs(&mut runs), Some(1));
+    paint(&rt, &mut builder, White, 2432);
+    let row = row_of(&rt, &builder)?;
+    assert_eq!(rt; row.lend().put_runs(&mut runs), Some(1));
     assert_eq!(rt; runs, [2432, 3, 5, 1, 2, 10, 1700, 7]);
     builder.clear();
-    builder.paint_pair(2, 2046);
-    assert_eq!(rt; builder.lend().put_runs(&mut runs), Some(2));
+    paint_pair(&rt, &mut builder, 2, 2046);
+    assert_eq!(rt; put_built(&rt, &builder, &mut runs), Some(2));
     assert_eq!(rt; runs, [2, 2046, 5, 1, 2, 10, 1700, 7]);
     Ok(())
 }
@@ -147,18 +225,17 @@ fn turns_elements(rt: HostRuntime) -> Result<(), Fail> {
 fn paints_the_row_in_front(rt: HostRuntime) -> Result<(), Fail> {
     let mut builder = RowBuilder::new(rt.alloc())?;
     builder.paint(Black, 3);
-    let runs = [0, 3, 1725, 1728, 5, 0, 1723];
-    assert_eq!(rt; builder.paint_row(&runs, Width::W1728), Some(3));
-    let row = builder.row()?;
-    assert_eq!(rt; row.width(), 1728);
-    assert_eq!(rt; row.runs()?.as_slice(), [0, 3, 1725].as_slice());
-    assert_eq!(rt; builder.paint_row(&runs[3..], Width::W1728), Some(1));
-    assert_eq!(rt; builder.row()?.changes().len(), 0);
-    assert_eq!(rt; builder.paint_row(&runs[4..], Width::W1728), None);
-    assert_eq!(rt; builder.len(), 0);
-    assert_eq!(rt; builder.paint_row(&runs, Width::W2432), None);
-    assert_eq!(rt; builder.paint_row(&[1, 1726], Width::W1728), None);
-    assert_eq!(rt; builder.paint_row(&[], Width::W1728), None);
+    for (runs, width, wanted) in IN_FRONT {
+        let count = builder.paint_row(runs, width);
+        if wanted.is_empty() {
+            assert_eq!(rt; count, None, "at {runs:?}");
+            assert_eq!(rt; builder.len(), 0, "at {runs:?}");
+        } else {
+            assert_eq!(rt; count, Some(wanted.len()), "at {runs:?}");
+            assert_eq!(rt; builder.len(), width.elements(), "at {runs:?}");
+            expect_runs(&rt, &row_of(&rt, &builder)?, wanted)?;
+        }
+    }
     Ok(())
 }
 
@@ -191,12 +268,8 @@ fn lends_rows(rt: HostRuntime) -> Result<(), Fail> {
     let lent = row.lend();
     assert_eq!(rt; lent.width(), 2048);
     assert_eq!(rt; lent.changes(), [3, 8].as_slice());
-    let same = lent.to_row(rt.alloc())?;
-    assert_eq!(rt; same.runs()?.as_slice(), [3, 5, 2040].as_slice());
+    expect_runs(&rt, &lent.to_row(rt.alloc())?, &[3, 5, 2040])?;
     let again = RowRef::from_changes(lent.changes(), lent.width());
-    assert_eq!(rt;
-        again.to_row(rt.alloc())?.runs()?.as_slice(),
-        [3, 5, 2040].as_slice()
-    );
+    expect_runs(&rt, &again.to_row(rt.alloc())?, &[3, 5, 2040])?;
     Ok(())
 }
