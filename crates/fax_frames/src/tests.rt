@@ -1,7 +1,7 @@
 //! Frames by hand, with the tables of ITU-T T.30 and T.38.
 use crate::{
-    Caps, Dcs, Dis, Frame, FrameBytes, Length, OUR_DIS, Plain, Rate, Refusal, choose, write_dcs,
-    write_dis, write_plain,
+    Caps, Dcs, Dis, Frame, Length, OUR_DIS, Plain, Rate, Refusal, choose, write_dcs, write_dis,
+    write_plain,
 };
 use bitflags::Flags;
 use fax_runcodes::{Coding, Format, Width};
@@ -31,6 +31,18 @@ const WIDEST: Format = Format {
     fine: false,
 };
 
+/// Fine pages of 2048 elements.
+const WIDER_FINE: Format = Format {
+    width: Width::W2048,
+    fine: true,
+};
+
+/// Fine pages of 2432 elements.
+const WIDEST_FINE: Format = Format {
+    width: Width::W2432,
+    fine: true,
+};
+
 /// What a DCS of three zero octets says.
 const LEAST_DCS: Dcs = Dcs {
     rate: Rate::V27At2400,
@@ -45,7 +57,7 @@ const LEAST_DCS: Dcs = Dcs {
 const NO_DIS: Dis = Dis { caps: Caps(0) };
 
 /// The facsimile control fields and their frames, with three zero octets of information.
-const FIELDS: [(u8, Frame); 27] = [
+const FIELDS: &[(u8, Frame)] = &[
     (0x01, Frame::Dis(NO_DIS)),
     (0x02, Frame::Csi),
     (0x04, Frame::Nsf),
@@ -76,7 +88,7 @@ const FIELDS: [(u8, Frame); 27] = [
 ];
 
 /// Each code of bits 11 to 14 of a DCS, by the second octet, and its rate.
-const DCS_RATES: [(u8, Option<Rate>); 16] = [
+const DCS_RATES: &[(u8, Option<Rate>)] = &[
     (0b0000_0000, Some(Rate::V27At2400)),
     (0b0000_0100, Some(Rate::V17At14400)),
     (0b0000_1000, None),
@@ -96,7 +108,7 @@ const DCS_RATES: [(u8, Option<Rate>); 16] = [
 ];
 
 /// Each rate, its bits a second, the indicators of its short and its long training, its data type.
-const RATES: [(Rate, u16, u8, u8, u8); 8] = [
+const RATES: &[(Rate, u16, u8, u8, u8)] = &[
     (Rate::V27At2400, 2400, 4, 4, 1),
     (Rate::V27At4800, 4800, 5, 5, 2),
     (Rate::V29At7200, 7200, 6, 6, 3),
@@ -107,84 +119,375 @@ const RATES: [(Rate, u16, u8, u8, u8); 8] = [
     (Rate::V17At14400, 14_400, 14, 15, 8),
 ];
 
-/// The frame with this facsimile control field and three octets of information.
-fn read(field: u8, info: [u8; 3]) -> Option<Frame> {
+/// A DCS of three zero octets but for one thing.
+const FINE_DCS: Dcs = Dcs {
+    fine: true,
+    ..LEAST_DCS
+};
+
+const TWO_D_DCS: Dcs = Dcs {
+    two_d: true,
+    ..LEAST_DCS
+};
+
+const WIDER_DCS: Dcs = Dcs {
+    width: Width::W2048,
+    ..LEAST_DCS
+};
+
+const WIDEST_DCS: Dcs = Dcs {
+    width: Width::W2432,
+    ..LEAST_DCS
+};
+
+/// What a DIS says that has a further octet behind it.
+const LONG_DIS: Dis = Dis {
+    caps: Caps(0x00_77_5F),
+};
+
+/// Octets, and the frame that they are.
+const READINGS: &[(&str, &[u8], Option<Frame>)] = &[
+    ("no octets", b"", None),
+    ("an address", b"\xFF", None),
+    ("no control field", b"\xFF\xC8", None),
+    ("another address", b"\xFE\xC8\x31", None),
+    ("control C4", b"\xFF\xC4\x31", None),
+    ("control C9", b"\xFF\xC9\x31", None),
+    ("control C0", b"\xFF\xC0\x31", Some(Frame::Mcf)),
+    ("a DIS of no octets", b"\xFF\xC8\x01", Some(Frame::Other)),
+    ("a DIS of one", b"\xFF\xC8\x01\x00", Some(Frame::Other)),
+    ("a DIS of two", b"\xFF\xC8\x01\x00\x40", Some(Frame::Other)),
+    ("a DCS of no octets", b"\xFF\xC8\x41", Some(Frame::Other)),
+    ("a DCS of one", b"\xFF\xC8\x41\x00", Some(Frame::Other)),
+    ("a DCS of two", b"\xFF\xC8\x41\x00\x40", Some(Frame::Other)),
+    (
+        "a sender's DCS of no octets",
+        b"\xFF\xC8\xC1",
+        Some(Frame::Other),
+    ),
+    (
+        "a sender's DCS of one",
+        b"\xFF\xC8\xC1\x00",
+        Some(Frame::Other),
+    ),
+    (
+        "a sender's DCS of two",
+        b"\xFF\xC8\xC1\x00\x40",
+        Some(Frame::Other),
+    ),
+    (
+        "a long DIS",
+        b"\xFF\xC8\x01\x00\x77\x5F\xFF\xFF",
+        Some(Frame::Dis(LONG_DIS)),
+    ),
+    (
+        "error correction",
+        b"\xFF\xC8\xC1\x00\x40\x01\x20",
+        Some(Frame::Other),
+    ),
+    (
+        "error correction and more",
+        b"\xFF\xC8\xC1\x00\x40\x01\xFF",
+        Some(Frame::Other),
+    ),
+    (
+        "all but error correction",
+        b"\xFF\xC8\xC1\x00\x40\x01\xDF",
+        Some(Frame::Dcs(LEAST_DCS)),
+    ),
+    (
+        "behind no extend bit",
+        b"\xFF\xC8\xC1\x00\x40\x00\x20",
+        Some(Frame::Dcs(LEAST_DCS)),
+    ),
+    (
+        "nothing behind the extend bit",
+        b"\xFF\xC8\xC1\x00\x40\x01",
+        Some(Frame::Dcs(LEAST_DCS)),
+    ),
+    (
+        "bits that are not read: none",
+        b"\xFF\xC8\xC1\x00\x00\x00",
+        Some(Frame::Dcs(LEAST_DCS)),
+    ),
+    (
+        "bits 1 to 8",
+        b"\xFF\xC8\xC1\xFF\x00\x00",
+        Some(Frame::Dcs(LEAST_DCS)),
+    ),
+    (
+        "bit 10",
+        b"\xFF\xC8\xC1\x00\x40\x00",
+        Some(Frame::Dcs(LEAST_DCS)),
+    ),
+    (
+        "bits 9 and 10",
+        b"\xFF\xC8\xC1\x00\xC0\x00",
+        Some(Frame::Dcs(LEAST_DCS)),
+    ),
+    (
+        "bit 20",
+        b"\xFF\xC8\xC1\x00\x40\x10",
+        Some(Frame::Dcs(LEAST_DCS)),
+    ),
+    (
+        "bit 19",
+        b"\xFF\xC8\xC1\x00\x40\x20",
+        Some(Frame::Dcs(LEAST_DCS)),
+    ),
+    (
+        "bits 19 and 20",
+        b"\xFF\xC8\xC1\x00\x40\x30",
+        Some(Frame::Dcs(LEAST_DCS)),
+    ),
+    (
+        "bit 15",
+        b"\xFF\xC8\xC1\x00\x02\x00",
+        Some(Frame::Dcs(FINE_DCS)),
+    ),
+    (
+        "bit 16",
+        b"\xFF\xC8\xC1\x00\x01\x00",
+        Some(Frame::Dcs(TWO_D_DCS)),
+    ),
+    (
+        "bit 17",
+        b"\xFF\xC8\xC1\x00\x00\x80",
+        Some(Frame::Dcs(WIDER_DCS)),
+    ),
+    (
+        "bit 18",
+        b"\xFF\xC8\xC1\x00\x00\x40",
+        Some(Frame::Dcs(WIDEST_DCS)),
+    ),
+    (
+        "bits 17 and 18",
+        b"\xFF\xC8\xC1\x00\x00\xC0",
+        Some(Frame::Other),
+    ),
+];
+
+/// Each code of bits 21 to 23 of a DCS, by the third octet, and its time.
+const DCS_TIMES: &[(u8, u8)] = &[
+    (0b0000, 20),
+    (0b0010, 40),
+    (0b0100, 10),
+    (0b0110, 10),
+    (0b1000, 5),
+    (0b1010, 40),
+    (0b1100, 20),
+    (0b1110, 0),
+];
+
+/// A DIS, a format, a step of the rates, and the DCS that is chosen, written.
+const CHOICES: &[(u32, Format, u8, &[u8])] = &[
+    (0x00_77_5E, WIDEST_FINE, 0, b"\xFF\xC8\xC1\x00\x47\x5E"),
+    (0x00_77_5E, STANDARD, 0, b"\xFF\xC8\xC1\x00\x45\x1E"),
+    (0x00_77_5E, STANDARD, 1, b"\xFF\xC8\xC1\x00\x55\x1E"),
+    (0x00_77_5E, STANDARD, 2, b"\xFF\xC8\xC1\x00\x65\x1E"),
+    (0x00_77_5E, STANDARD, 3, b"\xFF\xC8\xC1\x00\x75\x1E"),
+    (0x00_77_5E, STANDARD, 4, b"\xFF\xC8\xC1\x00\x51\x1E"),
+    (0x00_77_5E, STANDARD, 5, b"\xFF\xC8\xC1\x00\x41\x1E"),
+    (0x00_42_06, STANDARD, 0, b"\xFF\xC8\xC1\x00\x40\x04"),
+    (0x00_42_06, FINE, 0, b"\xFF\xC8\xC1\x00\x42\x08"),
+    (0x00_40_A0, WIDER, 0, b"\xFF\xC8\xC1\x00\x40\xA0"),
+    (0x00_40_F0, WIDEST, 0, b"\xFF\xC8\xC1\x00\x40\x40"),
+];
+
+/// A DIS, a format, a step of the rates, and why no DCS is chosen.
+const REFUSALS: &[(u32, Format, u8, Refusal)] = &[
+    (0, WIDER_FINE, 9, Refusal::NotReceiver),
+    (0x00_40_00, WIDER_FINE, 9, Refusal::WidthLacking),
+    (0x00_40_00, WIDER, 0, Refusal::WidthLacking),
+    (0x00_40_00, WIDEST, 0, Refusal::WidthLacking),
+    (0x00_40_00, FINE, 9, Refusal::FineLacking),
+    (0x00_40_00, FINE, 0, Refusal::FineLacking),
+    (0x00_40_00, STANDARD, 1, Refusal::RatesSpent),
+    (0x00_77_5E, STANDARD, 6, Refusal::RatesSpent),
+    (0x00_77_5E, STANDARD, 255, Refusal::RatesSpent),
+];
+
+const REFUSAL_NUMBERS: &[(Refusal, u8)] = &[
+    (Refusal::NotReceiver, 1),
+    (Refusal::WidthLacking, 2),
+    (Refusal::FineLacking, 3),
+    (Refusal::RatesSpent, 4),
+];
+
+/// A frame with no information field, whether its sender got a DIS, its octets, and what is read of them.
+const PLAIN_FRAMES: &[(Plain, bool, &[u8], Frame)] = &[
+    (Plain::Cfr, false, b"\xFF\xC8\x21", Frame::Cfr),
+    (Plain::Ftt, false, b"\xFF\xC8\x22", Frame::Ftt),
+    (Plain::Mps, false, b"\xFF\xC8\xF2", Frame::Mps),
+    (Plain::Eop, false, b"\xFF\xC8\xF4", Frame::Eop),
+    (Plain::Mcf, false, b"\xFF\xC8\x31", Frame::Mcf),
+    (Plain::Rtn, false, b"\xFF\xC8\x32", Frame::Rtn),
+    (Plain::Dcn, false, b"\xFF\xC8\x5F", Frame::Dcn),
+    (Plain::Dcn, true, b"\xFF\xC8\xDF", Frame::Dcn),
+    (Plain::Mcf, true, b"\xFF\xC8\x31", Frame::Mcf),
+];
+
+/// Each code of bits 11 to 14 of a DIS, and its rates.
+const DIS_RATES: &[&[Rate]] = &[
+    FALLBACK,
+    FALLBACK,
+    FALLBACK,
+    FALLBACK,
+    V27TER,
+    FALLBACK,
+    FALLBACK,
+    FALLBACK,
+    V29,
+    FALLBACK,
+    FALLBACK,
+    FALLBACK,
+    V29_AND_V27TER,
+    ALL_RATES,
+    V29_AND_V27TER,
+    V29_AND_V27TER,
+];
+
+const FALLBACK: &[Rate] = &[Rate::V27At2400];
+
+const V27TER: &[Rate] = &[Rate::V27At4800, Rate::V27At2400];
+
+const V29: &[Rate] = &[Rate::V29At9600, Rate::V29At7200];
+
+const V29_AND_V27TER: &[Rate] = &[
+    Rate::V29At9600,
+    Rate::V29At7200,
+    Rate::V27At4800,
+    Rate::V27At2400,
+];
+
+const ALL_RATES: &[Rate] = &[
+    Rate::V17At14400,
+    Rate::V17At12000,
+    Rate::V17At9600,
+    Rate::V17At7200,
+    Rate::V27At4800,
+    Rate::V27At2400,
+];
+
+/// The third octet of a DIS, and whether it has the widths of 2048 and of 2432 elements.
+const DIS_WIDTHS: &[(u32, bool, bool)] = &[
+    (0x00, false, false),
+    (0x80, true, false),
+    (0x40, true, true),
+    (0xC0, true, true),
+];
+
+/// The third octet of a DIS, and its length of a page.
+const DIS_LENGTHS: &[(u32, Length)] = &[
+    (0x00, Length::A4),
+    (0x20, Length::A4AndB4),
+    (0x10, Length::Unlimited),
+    (0x30, Length::A4),
+];
+
+/// The third octet of a DIS, and its times at the standard and the fine resolution.
+const DIS_TIMES: &[(u32, u8, u8)] = &[
+    (0b0000, 20, 20),
+    (0b0010, 40, 40),
+    (0b0100, 10, 10),
+    (0b0110, 10, 5),
+    (0b1000, 5, 5),
+    (0b1010, 40, 20),
+    (0b1100, 20, 10),
+    (0b1110, 0, 0),
+];
+
+/// The bits of a DIS, and whether it receives, has fine pages, and two-dimensional lines.
+const DIS_FLAGS: &[(u32, bool, bool, bool)] = &[
+    (0x00_00_00, false, false, false),
+    (0x00_40_00, true, false, false),
+    (0x00_02_00, false, true, false),
+    (0x00_01_00, false, false, true),
+    (0x00_BC_00, false, false, false),
+];
+
+/// The octets of a frame with three octets of information.
+fn octets_of(control: u8, field: u8, info: [u8; 3]) -> [u8; 6] {
     let [first, second, third] = info;
-    Frame::read(&[0xFF, 0xC8, field, first, second, third])
+    [0xFF, control, field, first, second, third]
 }
 
-/// The DIS of three octets.
-fn dis_of(octets: [u8; 3]) -> Dis {
-    let [first, second, third] = octets;
-    let bits = u32::from_be_bytes([0, first, second, third]);
+/// The frame with this facsimile control field and three octets of information.
+fn read(field: u8, info: [u8; 3]) -> Option<Frame> {
+    Frame::read(&octets_of(0xC8, field, info))
+}
+
+/// The DIS of these 24 bits.
+fn dis_of(bits: u32) -> Dis {
     Dis {
         caps: Caps::from_bits_retain(bits),
     }
 }
 
-/// That this DCS is chosen for a DIS.
-fn expect_dcs<R: Abort>(rt: &R, dis: [u8; 3], format: Format, step: u8, info: [u8; 3]) {
-    let [first, second, third] = info;
-    let dcs = choose(&dis_of(dis), format, step).expect(rt, "no refusal");
-    let frame = write_dcs(&dcs);
-    assert!(rt; frame.as_slice() == [0xFF, 0xC8, 0xC1, first, second, third].as_slice());
-    assert_eq!(rt;
-        read(0xC1, info),
-        Some(Frame::Dcs(Dcs {
-            length: Length::A4,
-            ..dcs
-        }))
-    );
+/// The DCS that is chosen for the DIS of these bits.
+fn chosen(rt: &impl Abort, bits: u32, format: Format, step: u8) -> Dcs {
+    let Ok(dcs) = choose(&dis_of(bits), format, step) else {
+        rt.abort()
+    };
+    dcs
+}
+
+/// Whether no DCS is chosen for the DIS of these bits, for that reason.
+fn is_refused(bits: u32, format: Format, step: u8, refusal: Refusal) -> bool {
+    match choose(&dis_of(bits), format, step) {
+        Ok(_) => false,
+        Err(found) => found == refusal,
+    }
+}
+
+/// The frame of a facsimile control field with three zero octets behind it.
+fn frame_named(field: u8) -> Frame {
+    for (named, frame) in FIELDS {
+        if field == *named {
+            return *frame;
+        }
+    }
+    Frame::Other
 }
 
 #[test]
 fn our_dis_is_written(rt: HostRuntime) {
     let frame = write_dis(&OUR_DIS);
-    assert!(rt; frame.as_slice() == [0xFF, 0xC8, 0x01, 0x00, 0x77, 0x5E].as_slice());
-    assert_eq!(rt; Frame::read(frame.as_slice()), Some(Frame::Dis(OUR_DIS)));
-    assert_eq!(rt; OUR_DIS, dis_of([0x00, 0x77, 0x5E]));
+    assert!(rt; frame.as_slice() == b"\xFF\xC8\x01\x00\x77\x5E".as_slice());
+    assert!(rt; Frame::read(frame.as_slice()) == Some(Frame::Dis(OUR_DIS)));
 }
 
 #[test]
-fn our_dis_gives_all_rates(rt: HostRuntime) {
-    let ours = [0x00, 0x77, 0x5E];
-    let fine = Format {
-        width: Width::W2432,
-        fine: true,
-    };
-    expect_dcs(&rt, ours, fine, 0, [0x00, 0x47, 0x5E]);
-    for (step, info) in [
-        (0, [0x00, 0x45, 0x1E]),
-        (1, [0x00, 0x55, 0x1E]),
-        (2, [0x00, 0x65, 0x1E]),
-        (3, [0x00, 0x75, 0x1E]),
-        (4, [0x00, 0x51, 0x1E]),
-        (5, [0x00, 0x41, 0x1E]),
-    ] {
-        expect_dcs(&rt, ours, STANDARD, step, info);
+fn dcs_are_chosen(rt: HostRuntime) {
+    for (bits, format, step, octets) in CHOICES {
+        let Ok(dcs) = choose(&dis_of(*bits), *format, *step) else {
+            rt.abort()
+        };
+        assert!(rt; write_dcs(&dcs).as_slice() == *octets);
+        // the length of a page is not read
+        let read_dcs = Dcs {
+            length: Length::A4,
+            ..dcs
+        };
+        assert!(rt; Frame::read(octets) == Some(Frame::Dcs(read_dcs)));
     }
-    assert_eq!(rt; choose(&OUR_DIS, STANDARD, 6), Err(Refusal::RatesSpent));
-    assert_eq!(rt; choose(&OUR_DIS, STANDARD, 255), Err(Refusal::RatesSpent));
 }
 
 #[test]
 fn times_are_those_of_the_resolution(rt: HostRuntime) {
-    let dis = [0x00, 0x42, 0x06];
-    expect_dcs(&rt, dis, STANDARD, 0, [0x00, 0x40, 0x04]);
-    expect_dcs(&rt, dis, FINE, 0, [0x00, 0x42, 0x08]);
-    let standard = choose(&dis_of(dis), STANDARD, 0).expect(&rt, "no refusal");
-    assert_eq!(rt; standard.scan_ms, 10);
-    assert_eq!(rt; standard.least_bits(), 24);
-    assert_eq!(rt; standard.format(), STANDARD);
-    assert_eq!(rt; standard.coding(), Coding::Mh);
-    let fine = choose(&dis_of(dis), FINE, 0).expect(&rt, "no refusal");
-    assert_eq!(rt; fine.scan_ms, 5);
-    assert_eq!(rt; fine.least_bits(), 12);
-    assert_eq!(rt; fine.format(), FINE);
-    let ours = choose(&OUR_DIS, WIDEST, 0).expect(&rt, "no refusal");
-    assert_eq!(rt; ours.least_bits(), 0);
-    assert_eq!(rt; ours.coding(), Coding::Mr);
-    assert_eq!(rt; ours.format(), WIDEST);
+    let standard = chosen(&rt, 0x00_42_06, STANDARD, 0);
+    assert!(rt; standard.scan_ms == 10);
+    assert!(rt; standard.least_bits() == 24);
+    assert!(rt; standard.format() == STANDARD);
+    assert!(rt; standard.coding() == Coding::Mh);
+    let fine = chosen(&rt, 0x00_42_06, FINE, 0);
+    assert!(rt; fine.scan_ms == 5);
+    assert!(rt; fine.least_bits() == 12);
+    assert!(rt; fine.format() == FINE);
+    let ours = chosen(&rt, 0x00_77_5E, WIDEST, 0);
+    assert!(rt; ours.least_bits() == 0);
+    assert!(rt; ours.coding() == Coding::Mr);
+    assert!(rt; ours.format() == WIDEST);
 }
 
 #[test]
@@ -198,135 +501,45 @@ fn dcs_are_written(rt: HostRuntime) {
         scan_ms: 40,
     };
     let frame = write_dcs(&dcs);
-    assert!(rt; frame.as_slice() == [0xFF, 0xC8, 0xC1, 0x00, 0x72, 0xA2].as_slice());
-    assert_eq!(rt; dcs.least_bits(), 288);
+    assert!(rt; frame.as_slice() == b"\xFF\xC8\xC1\x00\x72\xA2".as_slice());
+    assert!(rt; dcs.least_bits() == 288);
 }
 
 #[test]
 fn refusals_come_in_order(rt: HostRuntime) {
-    let least = dis_of([0x00, 0x40, 0x00]);
-    let both = Format {
-        width: Width::W2048,
-        fine: true,
-    };
-    assert_eq!(rt; choose(&NO_DIS, both, 9), Err(Refusal::NotReceiver));
-    assert_eq!(rt; choose(&least, both, 9), Err(Refusal::WidthLacking));
-    assert_eq!(rt; choose(&least, WIDER, 0), Err(Refusal::WidthLacking));
-    assert_eq!(rt; choose(&least, WIDEST, 0), Err(Refusal::WidthLacking));
-    assert_eq!(rt; choose(&least, FINE, 9), Err(Refusal::FineLacking));
-    assert_eq!(rt; choose(&least, FINE, 0), Err(Refusal::FineLacking));
-    assert_eq!(rt; choose(&least, STANDARD, 1), Err(Refusal::RatesSpent));
-    for (refusal, number) in [
-        (Refusal::NotReceiver, 1),
-        (Refusal::WidthLacking, 2),
-        (Refusal::FineLacking, 3),
-        (Refusal::RatesSpent, 4),
-    ] {
-        assert_eq!(rt; refusal.number(), number);
+    for (bits, format, step, refusal) in REFUSALS {
+        assert!(rt; is_refused(*bits, *format, *step, *refusal));
+    }
+}
+
+#[test]
+fn refusals_have_numbers(rt: HostRuntime) {
+    for (refusal, number) in REFUSAL_NUMBERS {
+        assert!(rt; refusal.number() == *number);
     }
 }
 
 #[test]
 fn fields_name_frames(rt: HostRuntime) {
     for field in 0..=255 {
-        let mut frame = Frame::Other;
-        for (named, its_frame) in FIELDS {
-            if field == named {
-                frame = its_frame;
-            }
-        }
-        assert_eq!(rt; read(field, [0x00, 0x00, 0x00]), Some(frame));
-        assert_eq!(rt;
-            Frame::read(&[0xFF, 0xC0, field, 0x00, 0x00, 0x00]),
-            Some(frame)
-        );
+        let frame = frame_named(field);
+        assert!(rt; read(field, [0, 0, 0]) == Some(frame));
+        assert!(rt; Frame::read(&octets_of(0xC0, field, [0, 0, 0])) == Some(frame));
     }
 }
 
 #[test]
 fn plain_frames_are_written(rt: HostRuntime) {
-    for (plain, field, frame) in [
-        (Plain::Cfr, 0x21, Frame::Cfr),
-        (Plain::Ftt, 0x22, Frame::Ftt),
-        (Plain::Mps, 0xF2, Frame::Mps),
-        (Plain::Eop, 0xF4, Frame::Eop),
-        (Plain::Mcf, 0x31, Frame::Mcf),
-        (Plain::Rtn, 0x32, Frame::Rtn),
-        (Plain::Dcn, 0x5F, Frame::Dcn),
-    ] {
-        let written = write_plain(plain, false);
-        assert!(rt; written.as_slice() == [0xFF, 0xC8, field].as_slice());
-        assert_eq!(rt; Frame::read(written.as_slice()), Some(frame));
+    for (plain, got_dis, octets, frame) in PLAIN_FRAMES {
+        assert!(rt; write_plain(*plain, *got_dis).as_slice() == *octets);
+        assert!(rt; Frame::read(octets) == Some(*frame));
     }
-    assert!(rt; write_plain(Plain::Dcn, true).as_slice() == [0xFF, 0xC8, 0xDF].as_slice());
-    assert!(rt; write_plain(Plain::Mcf, true).as_slice() == [0xFF, 0xC8, 0x31].as_slice());
 }
 
 #[test]
-fn octets_that_are_no_frame(rt: HostRuntime) {
-    assert_eq!(rt; Frame::read(&[]), None);
-    assert_eq!(rt; Frame::read(&[0xFF]), None);
-    assert_eq!(rt; Frame::read(&[0xFF, 0xC8]), None);
-    assert_eq!(rt; Frame::read(&[0xFE, 0xC8, 0x31]), None);
-    assert_eq!(rt; Frame::read(&[0xFF, 0xC4, 0x31]), None);
-    assert_eq!(rt; Frame::read(&[0xFF, 0xC9, 0x31]), None);
-    assert_eq!(rt; Frame::read(&[0xFF, 0xC0, 0x31]), Some(Frame::Mcf));
-}
-
-#[test]
-fn short_information_fields(rt: HostRuntime) {
-    for field in [0x01, 0x41, 0xC1] {
-        assert_eq!(rt; Frame::read(&[0xFF, 0xC8, field]), Some(Frame::Other));
-        assert_eq!(rt; Frame::read(&[0xFF, 0xC8, field, 0x00]), Some(Frame::Other));
-        assert_eq!(rt;
-            Frame::read(&[0xFF, 0xC8, field, 0x00, 0x40]),
-            Some(Frame::Other)
-        );
-    }
-    assert_eq!(rt;
-        Frame::read(&[0xFF, 0xC8, 0x01, 0x00, 0x77, 0x5F, 0xFF, 0xFF]),
-        Some(Frame::Dis(dis_of([0x00, 0x77, 0x5F])))
-    );
-}
-
-#[test]
-fn error_correction_is_not_read(rt: HostRuntime) {
-    let read_dcs = Some(Frame::Dcs(LEAST_DCS));
-    assert_eq!(rt;
-        Frame::read(&[0xFF, 0xC8, 0xC1, 0x00, 0x40, 0x01, 0x20]),
-        Some(Frame::Other)
-    );
-    assert_eq!(rt;
-        Frame::read(&[0xFF, 0xC8, 0xC1, 0x00, 0x40, 0x01, 0xFF]),
-        Some(Frame::Other)
-    );
-    assert_eq!(rt;
-        Frame::read(&[0xFF, 0xC8, 0xC1, 0x00, 0x40, 0x01, 0xDF]),
-        read_dcs
-    );
-    assert_eq!(rt;
-        Frame::read(&[0xFF, 0xC8, 0xC1, 0x00, 0x40, 0x00, 0x20]),
-        read_dcs
-    );
-    assert_eq!(rt;
-        Frame::read(&[0xFF, 0xC8, 0xC1, 0x00, 0x40, 0x01]),
-        read_dcs
-    );
-}
-
-#[test]
-fn what_is_not_read_of_a_dcs(rt: HostRuntime) {
-    let read_dcs = Some(Frame::Dcs(LEAST_DCS));
-    for info in [
-        [0x00, 0x00, 0x00],
-        [0xFF, 0x00, 0x00],
-        [0x00, 0x40, 0x00],
-        [0x00, 0xC0, 0x00],
-        [0x00, 0x40, 0x10],
-        [0x00, 0x40, 0x20],
-        [0x00, 0x40, 0x30],
-    ] {
-        assert_eq!(rt; read(0xC1, info), read_dcs);
+fn octets_are_read(rt: HostRuntime) {
+    for (name, octets, frame) in READINGS {
+        assert!(rt; Frame::read(octets) == *frame, "{name}");
     }
 }
 
@@ -334,159 +547,90 @@ fn what_is_not_read_of_a_dcs(rt: HostRuntime) {
 fn rates_of_a_dcs(rt: HostRuntime) {
     for (second, rate) in DCS_RATES {
         let frame = match rate {
-            Some(rate) => Frame::Dcs(Dcs { rate, ..LEAST_DCS }),
+            Some(rate) => Frame::Dcs(Dcs {
+                rate: *rate,
+                ..LEAST_DCS
+            }),
             None => Frame::Other,
         };
-        assert_eq!(rt; read(0x41, [0x00, second, 0x00]), Some(frame));
-        assert_eq!(rt; read(0xC1, [0x00, second | 0x40, 0x00]), Some(frame));
+        assert!(rt; read(0x41, [0x00, *second, 0x00]) == Some(frame));
+        assert!(rt; read(0xC1, [0x00, *second | 0x40, 0x00]) == Some(frame));
     }
 }
 
 #[test]
-fn other_bits_of_a_dcs(rt: HostRuntime) {
-    let fine = Dcs {
-        fine: true,
-        ..LEAST_DCS
-    };
-    let two_d = Dcs {
-        two_d: true,
-        ..LEAST_DCS
-    };
-    let wider = Dcs {
-        width: Width::W2048,
-        ..LEAST_DCS
-    };
-    let widest = Dcs {
-        width: Width::W2432,
-        ..LEAST_DCS
-    };
-    assert_eq!(rt; read(0xC1, [0x00, 0x02, 0x00]), Some(Frame::Dcs(fine)));
-    assert_eq!(rt; read(0xC1, [0x00, 0x01, 0x00]), Some(Frame::Dcs(two_d)));
-    assert_eq!(rt; read(0xC1, [0x00, 0x00, 0x80]), Some(Frame::Dcs(wider)));
-    assert_eq!(rt; read(0xC1, [0x00, 0x00, 0x40]), Some(Frame::Dcs(widest)));
-    assert_eq!(rt; read(0xC1, [0x00, 0x00, 0xC0]), Some(Frame::Other));
-    for (third, scan_ms) in [
-        (0b0000, 20),
-        (0b0010, 40),
-        (0b0100, 10),
-        (0b0110, 10),
-        (0b1000, 5),
-        (0b1010, 40),
-        (0b1100, 20),
-        (0b1110, 0),
-    ] {
+fn times_of_a_dcs(rt: HostRuntime) {
+    for (third, scan_ms) in DCS_TIMES {
         let dcs = Dcs {
-            scan_ms,
+            scan_ms: *scan_ms,
             ..LEAST_DCS
         };
-        assert_eq!(rt; read(0xC1, [0x00, 0x00, third]), Some(Frame::Dcs(dcs)));
+        assert!(rt; read(0xC1, [0x00, 0x00, *third]) == Some(Frame::Dcs(dcs)));
     }
 }
 
 #[test]
 fn rates_of_a_dis(rt: HostRuntime) {
-    let fallback = [Rate::V27At2400];
-    let v27ter = [Rate::V27At4800, Rate::V27At2400];
-    let v29 = [Rate::V29At9600, Rate::V29At7200];
-    let both = [
-        Rate::V29At9600,
-        Rate::V29At7200,
-        Rate::V27At4800,
-        Rate::V27At2400,
-    ];
-    let all = [
-        Rate::V17At14400,
-        Rate::V17At12000,
-        Rate::V17At9600,
-        Rate::V17At7200,
-        Rate::V27At4800,
-        Rate::V27At2400,
-    ];
-    for code in 0..16 {
-        let rates = match code {
-            0b0100 => v27ter.as_slice(),
-            0b1000 => v29.as_slice(),
-            0b1100 | 0b1110 | 0b1111 => both.as_slice(),
-            0b1101 => all.as_slice(),
-            _ => fallback.as_slice(),
-        };
-        assert!(rt; dis_of([0x00, code << 2, 0x00]).rates() == rates);
+    let mut code = 0u32;
+    for rates in DIS_RATES {
+        assert!(rt; dis_of(code % 16 * 0x00_04_00).rates() == *rates);
+        code = code.wrapping_add(1);
+    }
+    assert!(rt; code == 16);
+}
+
+#[test]
+fn widths_of_a_dis(rt: HostRuntime) {
+    for (third, wider, widest) in DIS_WIDTHS {
+        let dis = dis_of(*third);
+        assert!(rt; dis.has_width(Width::W1728));
+        assert!(rt; dis.has_width(Width::W2048) == *wider);
+        assert!(rt; dis.has_width(Width::W2432) == *widest);
     }
 }
 
 #[test]
-fn sizes_of_a_dis(rt: HostRuntime) {
-    for (third, wider, widest) in [
-        (0x00, false, false),
-        (0x80, true, false),
-        (0x40, true, true),
-        (0xC0, true, true),
-    ] {
-        let dis = dis_of([0x00, 0x00, third]);
-        assert!(rt; dis.has_width(Width::W1728));
-        assert_eq!(rt; dis.has_width(Width::W2048), wider);
-        assert_eq!(rt; dis.has_width(Width::W2432), widest);
+fn lengths_of_a_dis(rt: HostRuntime) {
+    for (third, length) in DIS_LENGTHS {
+        assert!(rt; dis_of(*third).length() == *length);
     }
-    for (third, length) in [
-        (0x00, Length::A4),
-        (0x20, Length::A4AndB4),
-        (0x10, Length::Unlimited),
-        (0x30, Length::A4),
-    ] {
-        assert_eq!(rt; dis_of([0x00, 0x00, third]).length(), length);
-    }
-    expect_dcs(&rt, [0x00, 0x40, 0xA0], WIDER, 0, [0x00, 0x40, 0xA0]);
-    expect_dcs(&rt, [0x00, 0x40, 0xF0], WIDEST, 0, [0x00, 0x40, 0x40]);
 }
 
 #[test]
 fn times_of_a_dis(rt: HostRuntime) {
-    for (third, standard_ms, fine_ms) in [
-        (0b0000, 20, 20),
-        (0b0010, 40, 40),
-        (0b0100, 10, 10),
-        (0b0110, 10, 5),
-        (0b1000, 5, 5),
-        (0b1010, 40, 20),
-        (0b1100, 20, 10),
-        (0b1110, 0, 0),
-    ] {
-        let dis = dis_of([0x00, 0x00, third]);
-        assert_eq!(rt; dis.scan_ms(false), standard_ms);
-        assert_eq!(rt; dis.scan_ms(true), fine_ms);
+    for (third, standard_ms, fine_ms) in DIS_TIMES {
+        let dis = dis_of(*third);
+        assert!(rt; dis.scan_ms(false) == *standard_ms);
+        assert!(rt; dis.scan_ms(true) == *fine_ms);
     }
 }
 
 #[test]
 fn flags_of_a_dis(rt: HostRuntime) {
-    for (second, receiver, fine, two_d) in [
-        (0x00, false, false, false),
-        (0x40, true, false, false),
-        (0x02, false, true, false),
-        (0x01, false, false, true),
-        (0xBC, false, false, false),
-    ] {
-        let dis = dis_of([0x00, second, 0x00]);
-        assert_eq!(rt; dis.is_receiver(), receiver);
-        assert_eq!(rt; dis.has_fine(), fine);
-        assert_eq!(rt; dis.has_two_d(), two_d);
+    for (bits, receiver, fine, two_d) in DIS_FLAGS {
+        let dis = dis_of(*bits);
+        assert!(rt; dis.is_receiver() == *receiver);
+        assert!(rt; dis.has_fine() == *fine);
+        assert!(rt; dis.has_two_d() == *two_d);
     }
-    assert!(rt;
-        OUR_DIS
-            .caps
-            .contains(Caps::RECEIVER | Caps::WIDTH_2432 | Caps::LENGTH_UNLIMITED)
-    );
-    assert!(rt; !OUR_DIS.caps.contains(Caps::EXTEND));
-    assert_eq!(rt; OUR_DIS.caps.bits(), 0x00_77_5E);
-    assert_eq!(rt; Caps::flags().len(), 15);
+}
+
+#[test]
+fn caps_are_flags(rt: HostRuntime) {
+    let caps = dis_of(0x00_77_5E).caps;
+    assert!(rt; caps == OUR_DIS.caps);
+    assert!(rt; caps.contains(Caps::RECEIVER | Caps::WIDTH_2432 | Caps::LENGTH_UNLIMITED));
+    assert!(rt; !caps.contains(Caps::EXTEND));
+    assert!(rt; caps.bits() == 0x00_77_5E);
+    assert!(rt; Caps::flags().len() == 15);
 }
 
 #[test]
 fn rates_have_their_numbers(rt: HostRuntime) {
     for (rate, bits, short, long, kind) in RATES {
-        assert_eq!(rt; rate.bits(), bits);
-        assert_eq!(rt; rate.training(false), short);
-        assert_eq!(rt; rate.training(true), long);
-        assert_eq!(rt; rate.kind(), kind);
+        assert!(rt; rate.bits() == *bits);
+        assert!(rt; rate.training(false) == *short);
+        assert!(rt; rate.training(true) == *long);
+        assert!(rt; rate.kind() == *kind);
     }
 }
