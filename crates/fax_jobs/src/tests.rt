@@ -1,54 +1,42 @@
 use crate::{Job, Jobs, Outcome, Pages, Report};
-use fax_bits::BitWriter;
 use fax_pagestore::{Coding, Format, Page, PlainRows, RowStore, read_page};
 use fax_runcodes::Width;
 use std::alloc::Global;
 use std::process::Abort;
 use std::test::Fail;
 
-/// The bits of an EOL, and of a white row of 1728 elements (ITU-T T.4, 4.1.2, tables 2/T.4 and 3a/T.4).
-const EOL: &str = "000000000001";
+/// Modified Huffman pages of one, two and three white rows of 1728 elements: an EOL, each row with an EOL behind it, five
+/// more EOLs, and bits of 0 to the octet's end. (ITU-T T.4, 4.1, tables 2/T.4 and 3a/T.4.)
+const ONE_ROW: &[u8] = b"\x00\x14\xd9\xa8\x00\x80\x08\x00\x80\x08\x00\x80\x08";
 
-const WHITE: &str = "01001101100110101";
+const TWO_ROWS: &[u8] = b"\x00\x14\xd9\xa8\x00\xa6\xcd\x40\x04\x00\x40\x04\x00\x40\x04\x00\x40";
 
-/// What happens in a call: a page is confirmed, of this call, fine or not, and for EOP or not; or the call ends.
-#[derive(Clone, Copy, Debug)]
+const THREE_ROWS: &[u8] =
+    b"\x00\x14\xd9\xa8\x00\xa6\xcd\x40\x05\x36\x6a\x00\x20\x02\x00\x20\x02\x00\x20\x02";
+
+/// The formats of the pages.
+const STANDARD: Format = Format {
+    width: Width::W1728,
+    fine: false,
+};
+
+const FINE: Format = Format {
+    width: Width::W1728,
+    fine: true,
+};
+
+/// What happens in a call: a page of that format is confirmed, of this call, and for EOP or not; or the call ends.
 enum Event {
-    Confirms(u32, bool, bool),
+    Confirms(u32, Format, bool),
     CallEnds,
 }
 
 /// A job as it is told: its call, whether it is fine, and how many pages it has.
-#[derive(Clone, Copy, PartialEq, Eq, Debug)]
-struct Told {
-    call: u32,
-    fine: bool,
-    pages: u32,
-}
+type Told = (u32, bool, u32);
 
-/// A page of so many white rows.
-fn page_of(alloc: Global, rows: u32, fine: bool) -> Result<Page<PlainRows>, Fail> {
-    let mut writer = BitWriter::new(alloc);
-    put(&mut writer, EOL)?;
-    for _ in 0..rows {
-        put(&mut writer, WHITE)?;
-        put(&mut writer, EOL)?;
-    }
-    for _ in 0..5 {
-        put(&mut writer, EOL)?;
-    }
-    let format = Format {
-        width: Width::W1728,
-        fine,
-    };
-    Ok(read_page(alloc, writer.finish().as_slice(), format, Coding::Mh)?)
-}
-
-fn put(writer: &mut BitWriter, text: &str) -> Result<(), Fail> {
-    for digit in text.bytes() {
-        writer.put(u32::from(digit == b'1'), 1)?;
-    }
-    Ok(())
+/// A page of these octets.
+fn page_of(alloc: Global, octets: &[u8], format: Format) -> Result<Page<PlainRows>, Fail> {
+    Ok(read_page(alloc, octets, format, Coding::Mh)?)
 }
 
 /// A page that was handed back as an error of its own.
@@ -58,7 +46,10 @@ fn taken<T>(answer: Result<T, Page<PlainRows>>) -> Result<T, &'static str> {
 
 /// How a book stands: how many jobs wait, and the call and the count of pages of the open one.
 fn shown(jobs: &Jobs<PlainRows>) -> (usize, Option<(u32, u32)>) {
-    let open_job = jobs.open_job().map(|job| (job.call(), job.page_count()));
+    let open_job = match jobs.open_job() {
+        Some(job) => Some((job.call(), job.page_count())),
+        None => None,
+    };
     (jobs.waiting(), open_job)
 }
 
@@ -74,7 +65,7 @@ fn confirm(
     let Err(back) = jobs.confirm(call, page, closes) else {
         return Ok(());
     };
-    assert_eq!(rt; shown(jobs), before);
+    assert!(rt; shown(jobs) == before);
     taken(jobs.confirm(call, back, closes))
 }
 
@@ -85,115 +76,114 @@ fn send_one(jobs: &mut Jobs<PlainRows>) -> Option<Told> {
     }
     jobs.next();
     let job = jobs.sending()?;
-    let told = Told {
-        call: job.call(),
-        fine: job.format().fine,
-        pages: job.page_count(),
-    };
-    jobs.end(Outcome::Delivered, told.pages);
+    let pages = job.page_count();
+    let told = (job.call(), job.format().fine, pages);
+    jobs.end(Outcome::Delivered, pages);
     Some(told)
 }
 
 /// Fails unless these jobs wait, in their order.
 fn expect_jobs(rt: &impl Abort, jobs: &mut Jobs<PlainRows>, wanted: &[Told]) {
-    assert_eq!(rt; jobs.waiting(), wanted.len());
+    assert!(rt; jobs.waiting() == wanted.len());
     for told in wanted {
-        assert_eq!(rt; send_one(jobs), Some(*told));
+        assert!(rt; send_one(jobs) == Some(*told));
     }
-    assert_eq!(rt; send_one(jobs), None);
+    assert!(rt; send_one(jobs).is_none());
 }
+
+/// Each outcome, its number and its name.
+const OUTCOMES: &[(Outcome, u8, &str)] = &[
+    (Outcome::Delivered, 0, "Delivered"),
+    (Outcome::NotReceiver, 1, "NotReceiver"),
+    (Outcome::WidthLacking, 2, "WidthLacking"),
+    (Outcome::FineLacking, 3, "FineLacking"),
+    (Outcome::RatesSpent, 4, "RatesSpent"),
+    (Outcome::NoAnswer, 5, "NoAnswer"),
+    (Outcome::NoReply, 6, "NoReply"),
+    (Outcome::PageRefused, 7, "PageRefused"),
+    (Outcome::HungUp, 8, "HungUp"),
+];
 
 #[test]
 fn outcomes_have_numbers_and_names(rt: HostRuntime) -> Result<(), Fail> {
-    let cases = [
-        (Outcome::Delivered, 0, "Delivered"),
-        (Outcome::NotReceiver, 1, "NotReceiver"),
-        (Outcome::WidthLacking, 2, "WidthLacking"),
-        (Outcome::FineLacking, 3, "FineLacking"),
-        (Outcome::RatesSpent, 4, "RatesSpent"),
-        (Outcome::NoAnswer, 5, "NoAnswer"),
-        (Outcome::NoReply, 6, "NoReply"),
-        (Outcome::PageRefused, 7, "PageRefused"),
-        (Outcome::HungUp, 8, "HungUp"),
-    ];
-    for (outcome, number, name) in cases {
-        assert_eq!(rt; outcome.number(), number);
-        assert_eq!(rt; outcome.name(), name);
-        assert_eq!(rt; format!(in rt.alloc(); "{outcome}")?.as_str(), name);
+    for (outcome, number, name) in OUTCOMES {
+        assert!(rt; outcome.number() == *number);
+        assert!(rt; outcome.name() == *name);
+        assert!(rt; format!(in rt.alloc(); "{outcome}")?.as_str() == *name);
     }
     Ok(())
 }
 
 #[test]
 fn jobs_have_their_pages(rt: HostRuntime) -> Result<(), Fail> {
-    let first = page_of(rt.alloc(), 1, true)?;
-    let second = page_of(rt.alloc(), 2, true)?;
+    let first = page_of(rt.alloc(), ONE_ROW, FINE)?;
+    let second = page_of(rt.alloc(), TWO_ROWS, FINE)?;
     let mut job = taken(Job::of_page(rt.alloc(), 7, first))?;
-    assert_eq!(rt; job.page_count(), 1);
-    assert_eq!(rt; second.format(), job.format());
+    assert!(rt; job.page_count() == 1);
+    assert!(rt; second.format() == job.format());
     if job.page_count() < 999 {
         taken(job.add_page(second))?;
     }
-    assert_eq!(rt; job.call(), 7);
-    assert_eq!(rt;
-        job.format(),
-        Format {
-            width: Width::W1728,
-            fine: true
-        }
-    );
-    assert_eq!(rt; job.page_count(), 2);
-    for (page, rows) in job.pages().as_slice().iter().zip([1u32, 2]) {
-        assert_eq!(rt; page.rows().len(), rows);
-    }
+    assert!(rt; job.call() == 7);
+    assert!(rt; job.format() == FINE);
+    assert!(rt; job.page_count() == 2);
+    let [first, second] = job.pages().as_slice() else {
+        rt.abort()
+    };
+    assert!(rt; first.rows().len() == 1);
+    assert!(rt; second.rows().len() == 2);
     Ok(())
 }
 
 #[test]
 fn pages_are_a_list(rt: HostRuntime) -> Result<(), Fail> {
     let mut list = Vec::new(rt.alloc());
-    list.push(page_of(rt.alloc(), 3, false)?)?;
+    list.push(page_of(rt.alloc(), THREE_ROWS, STANDARD)?)?;
     let pages = Pages::from_vec(list);
-    assert_eq!(rt; pages.as_slice().len(), 1);
+    assert!(rt; pages.as_slice().len() == 1);
     let list = pages.into_vec();
-    assert_eq!(rt; list.len(), 1);
-    assert_eq!(rt; list[0].rows().len(), 3);
+    let [page] = list.as_slice() else { rt.abort() };
+    assert!(rt; page.rows().len() == 3);
     Ok(())
+}
+
+/// A book in which a job of two pages, of call 7, waits.
+fn book_of_two_pages(rt: &impl Abort, alloc: Global) -> Result<Jobs<PlainRows>, Fail> {
+    let mut jobs = Jobs::new(alloc)?;
+    assert!(rt; jobs.open_job().is_none());
+    let first = page_of(alloc, ONE_ROW, STANDARD)?;
+    let second = page_of(alloc, TWO_ROWS, STANDARD)?;
+    assert!(rt; second.format() == first.format());
+    assert!(rt; jobs.open(7, first).is_ok());
+    assert!(rt; jobs.add_page(second).is_ok());
+    assert!(rt; shown(&jobs) == (0, Some((7, 2))));
+    jobs.close();
+    assert!(rt; shown(&jobs) == (1, None));
+    Ok(jobs)
 }
 
 #[test]
 fn a_job_goes_through_the_book(rt: HostRuntime) -> Result<(), Fail> {
-    let mut jobs = Jobs::new(rt.alloc())?;
-    assert!(rt; jobs.open_job().is_none());
-    let first = page_of(rt.alloc(), 1, false)?;
-    let second = page_of(rt.alloc(), 2, false)?;
-    assert_eq!(rt; second.format(), first.format());
-    assert!(rt; jobs.open(7, first).is_ok());
-    assert!(rt; jobs.add_page(second).is_ok());
-    assert_eq!(rt; jobs.open_job().map(|job| job.page_count()), Some(2));
-    assert_eq!(rt; jobs.waiting(), 0);
-    jobs.close();
-    assert!(rt; jobs.open_job().is_none());
-    assert_eq!(rt; jobs.waiting(), 1);
+    let mut jobs = book_of_two_pages(&rt, rt.alloc())?;
     assert!(rt; jobs.sending().is_none());
     jobs.next();
-    assert_eq!(rt; jobs.waiting(), 0);
-    assert_eq!(rt; jobs.sending().map(|job| job.call()), Some(7));
-    assert_eq!(rt; jobs.report(0), None);
+    assert!(rt; jobs.waiting() == 0);
+    assert!(rt; jobs.report(0).is_none());
+    let Some(job) = jobs.sending() else {
+        rt.abort()
+    };
+    assert!(rt; job.call() == 7);
     jobs.end(Outcome::PageRefused, 1);
     assert!(rt; jobs.sending().is_none());
     let wanted = Report {
         call: 7,
-        format: Format {
-            width: Width::W1728,
-            fine: false,
-        },
+        format: STANDARD,
         pages: 2,
         delivered: 1,
         outcome: Outcome::PageRefused,
     };
     assert_eq!(rt; jobs.report(0), Some(wanted));
-    assert_eq!(rt; jobs.report(1), None);
+    assert!(rt; jobs.report(1).is_none());
     Ok(())
 }
 
@@ -219,141 +209,88 @@ fn pages_come_into_room_that_is_there(rt: HostRuntime) -> Result<(), Fail> {
 }
 
 /// Calls, and the jobs that they are cut into.
-const CUTS: [(&[Event], &[Told]); 7] = [
+const CUTS: &[(&[Event], &[Told])] = &[
     // no page
     (&[Event::CallEnds], &[]),
     // two pages, the last of them for EOP
     (
         &[
-            Event::Confirms(7, false, false),
-            Event::Confirms(7, false, true),
+            Event::Confirms(7, STANDARD, false),
+            Event::Confirms(7, STANDARD, true),
         ],
-        &[Told {
-            call: 7,
-            fine: false,
-            pages: 2,
-        }],
+        &[(7, false, 2)],
     ),
     // a page of another format in mid-call
     (
         &[
-            Event::Confirms(7, false, false),
-            Event::Confirms(7, true, false),
+            Event::Confirms(7, STANDARD, false),
+            Event::Confirms(7, FINE, false),
             Event::CallEnds,
         ],
-        &[
-            Told {
-                call: 7,
-                fine: false,
-                pages: 1,
-            },
-            Told {
-                call: 7,
-                fine: true,
-                pages: 1,
-            },
-        ],
+        &[(7, false, 1), (7, true, 1)],
     ),
     // EOP in mid-call
     (
         &[
-            Event::Confirms(7, false, true),
-            Event::Confirms(7, false, false),
+            Event::Confirms(7, STANDARD, true),
+            Event::Confirms(7, STANDARD, false),
             Event::CallEnds,
         ],
-        &[
-            Told {
-                call: 7,
-                fine: false,
-                pages: 1,
-            },
-            Told {
-                call: 7,
-                fine: false,
-                pages: 1,
-            },
-        ],
+        &[(7, false, 1), (7, false, 1)],
     ),
     // two calls, of which the first ends without EOP
     (
         &[
-            Event::Confirms(7, true, false),
-            Event::Confirms(7, true, false),
+            Event::Confirms(7, FINE, false),
+            Event::Confirms(7, FINE, false),
             Event::CallEnds,
-            Event::Confirms(8, true, true),
+            Event::Confirms(8, FINE, true),
             Event::CallEnds,
         ],
-        &[
-            Told {
-                call: 7,
-                fine: true,
-                pages: 2,
-            },
-            Told {
-                call: 8,
-                fine: true,
-                pages: 1,
-            },
-        ],
+        &[(7, true, 2), (8, true, 1)],
     ),
     // two calls, of which the end of the first is not told
     (
         &[
-            Event::Confirms(7, true, false),
-            Event::Confirms(8, true, true),
+            Event::Confirms(7, FINE, false),
+            Event::Confirms(8, FINE, true),
         ],
-        &[
-            Told {
-                call: 7,
-                fine: true,
-                pages: 1,
-            },
-            Told {
-                call: 8,
-                fine: true,
-                pages: 1,
-            },
-        ],
+        &[(7, true, 1), (8, true, 1)],
     ),
     // three jobs that wait
     (
         &[
-            Event::Confirms(9, false, true),
-            Event::Confirms(3, false, true),
-            Event::Confirms(5, false, true),
+            Event::Confirms(9, STANDARD, true),
+            Event::Confirms(3, STANDARD, true),
+            Event::Confirms(5, STANDARD, true),
         ],
-        &[
-            Told {
-                call: 9,
-                fine: false,
-                pages: 1,
-            },
-            Told {
-                call: 3,
-                fine: false,
-                pages: 1,
-            },
-            Told {
-                call: 5,
-                fine: false,
-                pages: 1,
-            },
-        ],
+        &[(9, false, 1), (3, false, 1), (5, false, 1)],
     ),
 ];
+
+/// Tells the book what happens.
+fn tell(
+    rt: &impl Abort,
+    alloc: Global,
+    jobs: &mut Jobs<PlainRows>,
+    event: &Event,
+) -> Result<(), Fail> {
+    match event {
+        Event::Confirms(call, format, closes) => {
+            let page = page_of(alloc, ONE_ROW, *format)?;
+            confirm(rt, jobs, *call, page, *closes)?;
+        }
+        Event::CallEnds => jobs.end_call(),
+    }
+    Ok(())
+}
 
 #[test]
 fn cuts_calls_into_jobs(rt: HostRuntime) -> Result<(), Fail> {
     for (events, wanted) in CUTS {
         let mut jobs = Jobs::new(rt.alloc())?;
-        for event in events {
-            match *event {
-                Event::Confirms(call, fine, closes) => {
-                    let page = page_of(rt.alloc(), 1, fine)?;
-                    confirm(&rt, &mut jobs, call, page, closes)?;
-                }
-                Event::CallEnds => jobs.end_call(),
-            }
+        for event in *events {
+            tell(&rt, rt.alloc(), &mut jobs, event)?;
         }
         assert!(rt; jobs.open_job().is_none());
         expect_jobs(&rt, &mut jobs, wanted);
@@ -365,18 +302,12 @@ fn cuts_calls_into_jobs(rt: HostRuntime) -> Result<(), Fail> {
 fn cuts_behind_999_pages(rt: HostRuntime) -> Result<(), Fail> {
     let mut jobs = Jobs::new(rt.alloc())?;
     for _ in 0..1000 {
-        let page = page_of(rt.alloc(), 1, false)?;
+        let page = page_of(rt.alloc(), ONE_ROW, STANDARD)?;
         confirm(&rt, &mut jobs, 7, page, false)?;
     }
-    assert_eq!(rt; jobs.waiting(), 1);
+    assert!(rt; jobs.waiting() == 1);
     jobs.end_call();
-    let first = Told {
-        call: 7,
-        fine: false,
-        pages: 999,
-    };
-    let last = Told { pages: 1, ..first };
-    expect_jobs(&rt, &mut jobs, &[first, last]);
+    expect_jobs(&rt, &mut jobs, &[(7, false, 999), (7, false, 1)]);
     Ok(())
 }
 
@@ -384,18 +315,18 @@ fn cuts_behind_999_pages(rt: HostRuntime) -> Result<(), Fail> {
 fn keeps_the_last_64_reports(rt: HostRuntime) -> Result<(), Fail> {
     let mut jobs = Jobs::new(rt.alloc())?;
     for call in 1..=65 {
-        let page = page_of(rt.alloc(), 1, false)?;
+        let page = page_of(rt.alloc(), ONE_ROW, STANDARD)?;
         confirm(&rt, &mut jobs, call, page, true)?;
     }
     for call in 1..=65 {
-        assert_eq!(rt; send_one(&mut jobs).map(|told| told.call), Some(call));
+        assert!(rt; send_one(&mut jobs) == Some((call, false, 1)));
     }
     for i in 0..64usize {
-        assert_eq!(rt;
-            jobs.report(i).map(|report| report.call),
-            Some(i as u32 + 2)
-        );
+        let Some(report) = jobs.report(i) else {
+            rt.abort()
+        };
+        assert!(rt; report.call == i as u32 + 2);
     }
-    assert_eq!(rt; jobs.report(64), None);
+    assert!(rt; jobs.report(64).is_none());
     Ok(())
 }
