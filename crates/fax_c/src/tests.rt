@@ -1,5 +1,6 @@
 //! Pages of one and two rows, and each status.
 use crate::{Outcome, fax_read_pixels, fax_read_runs, fax_write_runs};
+use std::process::Abort;
 
 /// A white row: EOL, the row, six EOLs.
 const WHITE: [u8; 13] = [
@@ -22,6 +23,40 @@ const WIDE: [u8; 13] = [
     0x00, 0x10, 0x1d, 0x35, 0x00, 0x10, 0x01, 0x00, 0x10, 0x01, 0x00, 0x10, 0x01,
 ];
 
+/// Octets, a width, whether in two dimensions, the room for runs, and the status of reading them.
+const READ_FAULTS: &[(&[u8], u16, bool, usize, u32)] = &[
+    (&[0xff], 1728, false, 4, 1),
+    (&[0x00, 0x14, 0x3f], 1728, false, 4, 2),
+    // the white row and no more
+    (
+        &[
+            0x00, 0x14, 0xd9, 0xa8, 0x00, 0x80, 0x08, 0x00, 0x80, 0x08, 0x00,
+        ],
+        1728,
+        false,
+        4,
+        3,
+    ),
+    (&WHITE, 1729, false, 4, 8),
+    (&TWO_ROWS, 1728, true, 3, 7),
+    // the width comes first
+    (&[], 1729, false, 0, 8),
+];
+
+/// Runs, a width, the least bits of a line, the room for octets, the status of writing them, and the row
+/// that is wrong.
+const WRITE_FAULTS: &[(&[u16], u16, u32, usize, u32, u32)] = &[
+    (&[1728], 1728, 0, 12, 7, 0),
+    (&[], 1728, 0, 12, 4, 0),
+    (&[1728, 1727], 1728, 0, 12, 9, 1),
+    (&[5, 0, 1723], 1728, 0, 12, 9, 0),
+    (&[1729], 1728, 0, 12, 9, 0),
+    // the width comes first, and then the least bits
+    (&[], 1729, 65_536, 0, 8, 0),
+    (&[], 1728, 65_536, 0, 10, 0),
+    (&[], 1728, 65_535, 0, 4, 0),
+];
+
 fn outcome(status: u32, rows: u32, filled: usize) -> Outcome {
     Outcome {
         status,
@@ -34,40 +69,40 @@ fn outcome(status: u32, rows: u32, filled: usize) -> Outcome {
 fn runs_are_read(rt: HostRuntime) {
     let mut runs = [7u16; 8];
     let read = fax_read_runs(rt.alloc(), &WHITE, 1728, false, &mut runs);
-    assert_eq!(rt; read, outcome(0, 1, 1));
-    assert_eq!(rt; runs, [1728, 7, 7, 7, 7, 7, 7, 7]);
+    assert!(rt; read == outcome(0, 1, 1));
+    assert!(rt; runs == [1728, 7, 7, 7, 7, 7, 7, 7]);
     let read = fax_read_runs(rt.alloc(), &TWO_ROWS, 1728, true, &mut runs);
-    assert_eq!(rt; read, outcome(0, 2, 4));
-    assert_eq!(rt; runs, [1728, 0, 3, 1725, 7, 7, 7, 7]);
+    assert!(rt; read == outcome(0, 2, 4));
+    assert!(rt; runs == [1728, 0, 3, 1725, 7, 7, 7, 7]);
     let read = fax_read_runs(rt.alloc(), &BLACK, 1728, false, &mut runs);
-    assert_eq!(rt; read, outcome(0, 1, 2));
-    assert_eq!(rt; runs[0], 0);
-    assert_eq!(rt; runs[1], 1728);
+    assert!(rt; read == outcome(0, 1, 2));
+    assert!(rt; runs[0] == 0);
+    assert!(rt; runs[1] == 1728);
 }
 
 #[test]
 fn pixels_are_read(rt: HostRuntime) {
     let mut pixels = [0x55u8; 512];
     let read = fax_read_pixels(rt.alloc(), &TWO_ROWS, 1728, true, &mut pixels);
-    assert_eq!(rt; read, outcome(0, 2, 432));
+    assert!(rt; read == outcome(0, 2, 432));
     for i in 0..432 {
-        assert_eq!(rt; pixels[i], if i == 216 { 0xe0 } else { 0 });
+        assert!(rt; pixels[i] == if i == 216 { 0xe0 } else { 0 });
     }
-    assert_eq!(rt; pixels[432], 0x55);
+    assert!(rt; pixels[432] == 0x55);
     let read = fax_read_pixels(rt.alloc(), &BLACK, 1728, false, &mut pixels);
-    assert_eq!(rt; read, outcome(0, 1, 216));
+    assert!(rt; read == outcome(0, 1, 216));
     for i in 0..216 {
-        assert_eq!(rt; pixels[i], 0xff);
+        assert!(rt; pixels[i] == 0xff);
     }
-    assert_eq!(rt; pixels[216], 0xe0);
+    assert!(rt; pixels[216] == 0xe0);
 }
 
 #[test]
 fn pages_are_written(rt: HostRuntime) {
     let mut octets = [0u8; 64];
     let written = fax_write_runs(rt.alloc(), &[1728], 1728, false, false, 0, &mut octets);
-    assert_eq!(rt; written, outcome(0, 1, 13));
-    assert_eq!(rt; octets[..13], WHITE[..]);
+    assert!(rt; written == outcome(0, 1, 13));
+    assert!(rt; octets[..13] == WHITE[..]);
     let written = fax_write_runs(
         rt.alloc(),
         &[1728, 0, 3, 1725],
@@ -77,118 +112,50 @@ fn pages_are_written(rt: HostRuntime) {
         0,
         &mut octets,
     );
-    assert_eq!(rt; written, outcome(0, 2, 17));
-    assert_eq!(rt; octets[..17], TWO_ROWS[..]);
+    assert!(rt; written == outcome(0, 2, 17));
+    assert!(rt; octets[..17] == TWO_ROWS[..]);
     let written = fax_write_runs(rt.alloc(), &[2432], 2432, false, true, 0, &mut octets);
-    assert_eq!(rt; written, outcome(0, 1, 13));
-    assert_eq!(rt; octets[..13], WIDE[..]);
+    assert!(rt; written == outcome(0, 1, 13));
+    assert!(rt; octets[..13] == WIDE[..]);
 }
 
 #[test]
-fn faults_have_their_numbers(rt: HostRuntime) {
-    let mut runs = [0u16; 4];
-    assert_eq!(rt;
-        fax_read_runs(rt.alloc(), &[0xff], 1728, false, &mut runs),
-        outcome(1, 0, 0)
-    );
-    assert_eq!(rt;
-        fax_read_runs(rt.alloc(), &[0x00, 0x14, 0x3f], 1728, false, &mut runs),
-        outcome(2, 0, 0)
-    );
-    assert_eq!(rt;
-        fax_read_runs(rt.alloc(), &WHITE[..11], 1728, false, &mut runs),
-        outcome(3, 0, 0)
-    );
-    assert_eq!(rt;
-        fax_read_runs(rt.alloc(), &WHITE, 1729, false, &mut runs),
-        outcome(8, 0, 0)
-    );
-    assert_eq!(rt;
-        fax_read_runs(rt.alloc(), &TWO_ROWS, 1728, true, &mut runs[..3]),
-        outcome(7, 0, 0)
-    );
-    let mut pixels = [0u8; 215];
-    assert_eq!(rt;
-        fax_read_pixels(rt.alloc(), &WHITE, 1728, false, &mut pixels),
-        outcome(7, 0, 0)
-    );
-    let mut octets = [0u8; 12];
-    assert_eq!(rt;
-        fax_write_runs(rt.alloc(), &[1728], 1728, false, false, 0, &mut octets),
-        outcome(7, 0, 0)
-    );
-    assert_eq!(rt;
-        fax_write_runs(rt.alloc(), &[], 1728, false, false, 0, &mut octets),
-        outcome(4, 0, 0)
-    );
-    assert_eq!(rt;
-        fax_write_runs(
-            rt.alloc(),
-            &[1728, 1727],
-            1728,
-            false,
-            false,
-            0,
-            &mut octets
-        ),
-        outcome(9, 1, 0)
-    );
-    assert_eq!(rt;
-        fax_write_runs(
-            rt.alloc(),
-            &[5, 0, 1723],
-            1728,
-            false,
-            false,
-            0,
-            &mut octets
-        ),
-        outcome(9, 0, 0)
-    );
-    assert_eq!(rt;
-        fax_write_runs(rt.alloc(), &[1729], 1728, false, false, 0, &mut octets),
-        outcome(9, 0, 0)
-    );
-}
-
-#[test]
-fn no_slice_is_changed_by_a_refusal(rt: HostRuntime) {
-    let mut runs = [7u16; 3];
-    assert_eq!(rt;
-        fax_read_runs(rt.alloc(), &TWO_ROWS, 1728, true, &mut runs),
-        outcome(7, 0, 0)
-    );
-    assert_eq!(rt; runs, [7, 7, 7]);
-    let mut pixels = [0x55u8; 431];
-    assert_eq!(rt;
-        fax_read_pixels(rt.alloc(), &TWO_ROWS, 1728, true, &mut pixels),
-        outcome(7, 0, 0)
-    );
-    for pixel in &pixels {
-        assert_eq!(rt; *pixel, 0x55);
+fn reading_tells_its_faults(rt: HostRuntime) {
+    let mut runs = [7u16; 4];
+    for (octets, width, two_dimensional, room, status) in READ_FAULTS {
+        let Some(front) = runs.get_mut(..*room) else {
+            rt.abort()
+        };
+        let read = fax_read_runs(rt.alloc(), octets, *width, *two_dimensional, front);
+        assert!(rt; read == outcome(*status, 0, 0));
+        // no refusal changes the slice
+        assert!(rt; runs == [7, 7, 7, 7]);
     }
 }
 
 #[test]
-fn refusals_come_in_order(rt: HostRuntime) {
-    assert_eq!(rt;
-        fax_read_runs(rt.alloc(), &[], 1729, false, &mut []),
-        outcome(8, 0, 0)
-    );
-    assert_eq!(rt;
-        fax_read_pixels(rt.alloc(), &[], 1728, false, &mut []),
-        outcome(1, 0, 0)
-    );
-    assert_eq!(rt;
-        fax_write_runs(rt.alloc(), &[], 1729, false, false, 65_536, &mut []),
-        outcome(8, 0, 0)
-    );
-    assert_eq!(rt;
-        fax_write_runs(rt.alloc(), &[], 1728, false, false, 65_536, &mut []),
-        outcome(10, 0, 0)
-    );
-    assert_eq!(rt;
-        fax_write_runs(rt.alloc(), &[], 1728, false, false, 65_535, &mut []),
-        outcome(4, 0, 0)
-    );
+fn writing_tells_its_faults(rt: HostRuntime) {
+    let mut octets = [0u8; 12];
+    for (runs, width, least_bits, room, status, rows) in WRITE_FAULTS {
+        let Some(front) = octets.get_mut(..*room) else {
+            rt.abort()
+        };
+        let written = fax_write_runs(rt.alloc(), runs, *width, false, false, *least_bits, front);
+        assert!(rt; written == outcome(*status, *rows, 0));
+    }
+}
+
+#[test]
+fn reading_pixels_tells_its_faults(rt: HostRuntime) {
+    let mut pixels = [0x55u8; 431];
+    let read = fax_read_pixels(rt.alloc(), &TWO_ROWS, 1728, true, &mut pixels);
+    assert!(rt; read == outcome(7, 0, 0));
+    for pixel in &pixels {
+        assert!(rt; *pixel == 0x55);
+    }
+    let mut pixels = [0u8; 215];
+    let read = fax_read_pixels(rt.alloc(), &WHITE, 1728, false, &mut pixels);
+    assert!(rt; read == outcome(7, 0, 0));
+    let read = fax_read_pixels(rt.alloc(), &[], 1728, false, &mut []);
+    assert!(rt; read == outcome(1, 0, 0));
 }
