@@ -14,6 +14,7 @@ mod McfAnswers
 mod Replied
 mod Reporting
 mod ServedAlone
+mod Serving
 mod States
 mod Steps
 mod Ticking

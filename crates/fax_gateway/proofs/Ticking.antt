@@ -19,7 +19,8 @@ use Rattle.fax_gateway.specs.CallingLegs.{CallingLeg, answers, confirmed_by, cal
 use Rattle.fax_gateway.specs.CalledLegs.{CalledLeg, is_free, core_left, begun_leg, calls, outcome_of, with_tick, leg_ticked, told_by, told_called, outcome_told, delivered_told, report_by, told_report}
 use Rattle.fax_gateway.specs.Sides.{Sides, book_of, confirms_if, ends_if, heard_in_tick, leg_of, sends, sends_if, enters, serves, sides, in_tick}
 use Rattle.fax_gateway.specs.Reports.{job_sent, HaveStates}
-use Rattle.fax_gateway.specs.Reached.{HasNumber, confirmed_if, closed_if, confirmed_on, ended_on, ticked_on, IsCalling, IsCalled, outcome_kept, report_if, ended_with, ended_if, GatewayValue, IsReachedBy}
+use Rattle.fax_gateway.specs.Reached.{HasNumber, confirmed_if, closed_if, confirmed_on, ended_on, ticked_on, IsCalling, IsCalled, TicksOn, Begins, outcome_kept, report_if, ended_with, ended_if, GatewayValue, IsReachedBy}
+use Rattle.fax_gateway.proofs.InCalls.{heard_sends}
 use Rattle.fax_gateway.proofs.States.{have_states}
 
 -- THE BOOK hears of the calling leg
@@ -106,4 +107,146 @@ served_off writes now steps (Some l) side off r =
       datagram = sym (ap (λ (b : Bool). if◌then◌else◌ {A = Option (List ℕ)} b None (told_by l.given t.given)) off);
       report = sym (ap (report_by l t.core.counts.delivered) entered);
       book = sym (ap (λ (x : Option Outcome). (after_steps new_past (enters t.core.counts.delivered x steps)).book) entered);
+    }
+
+-- THE ORDER of a tick
+sent_on : (b : Bool) (j job : JobValue) → (if◌then◌else◌ {A = Option JobValue} b None (Some j)) ≡ Some job → (b ≡ false) × (j ≡ job)
+sent_on true j job e = cc
+sent_on false j job e = (refl, cc)
+
+sent_off : (leg : Option CalledLeg) → job_sent leg ≡ None → is_free leg ≡ true
+sent_off None e = refl
+sent_off (Some l) e = by l.entered e
+  where
+    by : (b : Bool) → (if◌then◌else◌ {A = Option JobValue} b None (Some l.job)) ≡ None → b ≡ true
+    by true e = refl
+    by false e = cc
+
+pub same_served : (writes : Writing) (now : ℕ) (y z : Sides) (side : CalledSide) (given : Option (List ℕ)) (t told : Option Report) (l left : Book) → z ≡ y → told ≡ t → left ≡ l → Served writes now y side given t l → Served writes now z side given told left
+same_served writes now y z side given t told l left a b c h =
+    subst (λ (x : Sides). Served writes now x side given told left) (sym a) (subst (λ (r : Option Report). Served writes now y side given r left) (sym b) (subst (λ (k : Book). Served writes now y side given t k) (sym c) h))
+
+abbrev steps_heard : Writing → List Event → ℕ → List Step
+steps_heard writes trace at = heard_in_tick (calling_leg trace) (max at (clock trace)) (sides writes trace).steps
+
+-- what the book is when it heard of the calling leg
+abbrev pub IsHeard : List Event → ℕ → GatewayValue → Book → Type 0
+IsHeard trace now old heard = heard ≡ closed_if (ended_on (calling_leg trace) now) (confirmed_if old.calling.number (confirmed_on (calling_leg trace) now) old.book)
+
+heard_is : (writes : Writing) (trace : List Event) (at : ℕ) (old : GatewayValue) (heard : Book) → IsReachedBy writes trace old → IsHeard trace (max at (clock trace)) old heard → heard ≡ (after_steps new_past (steps_heard writes trace at)).book
+heard_is writes trace at old heard r h =
+    let now : ℕ = max at (clock trace) in
+    let leg : Option CallingLeg = calling_leg trace in
+    h ∙ ap (λ (b : Book). closed_if (ended_on leg now) (confirmed_if old.calling.number (confirmed_on leg now) b)) r.book ∙ sym (heard_book leg now old.calling.number (sides writes trace).steps r.calling.number)
+
+sending_is : (writes : Writing) (trace : List Event) (at : ℕ) (old : GatewayValue) → IsReachedBy writes trace old → (after_steps new_past (steps_heard writes trace at)).book.sending ≡ old.book.sending
+sending_is writes trace at old r = heard_sends (calling_leg trace) (max at (clock trace)) (sides writes trace).steps ∙ sym (ap (λ (b : Book). b.sending) r.book)
+
+job_is : (writes : Writing) (trace : List Event) (old : GatewayValue) → IsReachedBy writes trace old → job_sent (sides writes trace).leg ≡ old.book.sending
+job_is writes trace old r = let h : HaveStates writes trace = have_states writes trace r.is_trace in sym (ap (λ (b : Book). b.sending) r.book ∙ h.sending)
+
+in_tick_on : (writes : Writing) (trace : List Event) (at : ℕ) (leg : Option CalledLeg) → (sides writes trace).leg ≡ leg → is_free leg ≡ false → in_tick writes trace at ≡ record { steps = steps_heard writes trace at; leg = leg }
+in_tick_on writes trace at leg is on =
+    let z : Sides = record { steps = steps_heard writes trace at; leg = (sides writes trace).leg } in
+    ap (λ (b : Bool). if◌then◌else◌ {A = Sides} b (sends writes (max at (clock trace)) z) z) (ap is_free is ∙ on) ∙ ap (λ (o : Option CalledLeg). record { steps = steps_heard writes trace at; leg = o }) is
+
+-- a job is being sent
+pub serves_on : (writes : Writing) (trace : List Event) (at : ℕ) (old : GatewayValue) (job : JobValue) (side : CalledSide) (given : Option (List ℕ)) (heard : Book) → IsReachedBy writes trace old → old.book.sending ≡ Some job
+    → IsHeard trace (max at (clock trace)) old heard → ((l : CalledLeg) → l.job ≡ job → IsCalled writes (Some l) old.called → TicksOn writes l (max at (clock trace)) given side)
+    → Served writes (max at (clock trace)) (in_tick writes trace at) side given (report_if (Some job) (outcome_kept side.caller.procedure) side.caller.procedure.counts.delivered)
+    (ended_if (Some job) (outcome_kept side.caller.procedure) side.caller.procedure.counts.delivered heard)
+serves_on writes trace at old job side given heard r sending h f = by (sides writes trace).leg refl (job_is writes trace old r ∙ sending) r.called
+  where
+    o : Option Outcome
+    o = outcome_kept side.caller.procedure
+
+    d : ℕ
+    d = side.caller.procedure.counts.delivered
+
+    by : (leg : Option CalledLeg) → (sides writes trace).leg ≡ leg → job_sent leg ≡ Some job → IsCalled writes leg old.called
+        → Served writes (max at (clock trace)) (in_tick writes trace at) side given (report_if (Some job) o d) (ended_if (Some job) o d heard)
+    by None is e c = cc
+    by (Some l) is e c =
+        let now : ℕ = max at (clock trace) in
+        let steps : List Step = steps_heard writes trace at in
+        let on = sent_on l.entered l.job job e in
+        let t : TicksOn writes l now given side = f l on.1 c in
+        let sent : (after_steps new_past steps).book.sending ≡ Some l.job = sending_is writes trace at old r ∙ sending ∙ sym (ap (λ (j : JobValue). Some j) on.1) in
+        same_served writes now (record { steps = steps; leg = Some l }) (in_tick writes trace at) side given (report_if (Some l.job) o d) (report_if (Some job) o d) (ended_with o d (after_steps new_past steps).book) (ended_with o d heard)
+        (in_tick_on writes trace at (Some l) is on.0) (ap (λ (j : JobValue). report_if (Some j) o d) (sym on.1)) (ap (λ (b : Book). ended_with o d b) (heard_is writes trace at old heard r h))
+        (served_on writes now steps l side given on.0 sent t.called t.told)
+
+-- no job is being sent: the one that was closed first is, where one waits
+sends_free : (writes : Writing) (trace : List Event) (at : ℕ) → is_free (sides writes trace).leg ≡ true → in_tick writes trace at ≡ sends writes (max at (clock trace)) (record { steps = steps_heard writes trace at; leg = (sides writes trace).leg })
+sends_free writes trace at free =
+    let z : Sides = record { steps = steps_heard writes trace at; leg = (sides writes trace).leg } in
+    ap (λ (b : Bool). if◌then◌else◌ {A = Sides} b (sends writes (max at (clock trace)) z) z) free
+
+pub serves_off : (writes : Writing) (trace : List Event) (at : ℕ) (old : GatewayValue) (side : CalledSide) (given : Option (List ℕ)) (heard : Book) → IsReachedBy writes trace old → old.book.sending ≡ None
+    → IsHeard trace (max at (clock trace)) old heard → Begins writes (sides writes trace).leg (taken heard).sending (max at (clock trace)) given old.called side
+    → Served writes (max at (clock trace)) (in_tick writes trace at) side given (report_if (taken heard).sending (outcome_kept side.caller.procedure) side.caller.procedure.counts.delivered)
+    (ended_if (taken heard).sending (outcome_kept side.caller.procedure) side.caller.procedure.counts.delivered (taken heard))
+serves_off writes trace at old side given heard r none h begins = by (taken heard).sending refl begins
+  where
+    now : ℕ
+    now = max at (clock trace)
+
+    leg : Option CalledLeg
+    leg = (sides writes trace).leg
+
+    steps : List Step
+    steps = Sends ∷ steps_heard writes trace at
+
+    o : Option Outcome
+    o = outcome_kept side.caller.procedure
+
+    d : ℕ
+    d = side.caller.procedure.counts.delivered
+
+    free : is_free leg ≡ true
+    free = sent_off leg (job_is writes trace old r ∙ none)
+
+    book : (after_steps new_past steps).book ≡ taken heard
+    book =
+        let before : Book = (after_steps new_past (steps_heard writes trace at)).book in
+        ap (λ (s : Option JobValue). sent_if s before) (sending_is writes trace at old r ∙ none) ∙ ap taken (sym (heard_is writes trace at old heard r h))
+
+    in_it : (s : Option JobValue) → (taken heard).sending ≡ s → in_tick writes trace at ≡ record { steps = steps; leg = leg_of s (core_left writes leg) now leg }
+    in_it s e =
+        sends_free writes trace at free ∙ ap (λ (x : Option JobValue). record { steps = steps; leg = leg_of x (core_left writes leg) now leg }) (ap (λ (b : Book). b.sending) book ∙ e)
+
+    by : (s : Option JobValue) → (taken heard).sending ≡ s → Begins writes leg s now given old.called side → Served writes now (in_tick writes trace at) side given (report_if s o d) (ended_if s o d (taken heard))
+    by None e b =
+        subst (λ (x : CalledSide). Served writes now (in_tick writes trace at) x given None (taken heard)) (sym b.1)
+        (subst (λ (x : Option (List ℕ)). Served writes now (in_tick writes trace at) old.called x None (taken heard)) (sym b.0)
+        (same_served writes now (record { steps = steps; leg = leg }) (in_tick writes trace at) old.called None None None (after_steps new_past steps).book (taken heard) (in_it None e) refl (sym book)
+        (served_off writes now steps leg old.called free r.called)))
+    by (Some job) e b =
+        let l : CalledLeg = begun_leg job (core_left writes leg) now in
+        same_served writes now (record { steps = steps; leg = Some l }) (in_tick writes trace at) side given (report_if (Some job) o d) (report_if (Some job) o d) (ended_with o d (after_steps new_past steps).book) (ended_with o d (taken heard))
+        (in_it (Some job) e) refl (ap (λ (x : Book). ended_with o d x) (sym book)) (served_on writes now steps l side given refl (ap (λ (x : Book). x.sending) book ∙ e) b.called b.told)
+
+ticked_same : (leg : Option CallingLeg) (now at : ℕ) (given : Given) → ticked_on leg now ≡ calling_after leg now (Tick at given)
+ticked_same None now at given = refl
+ticked_same (Some l) now at given = refl
+
+-- so a tick leads on
+pub ticks : (writes : Writing) (trace : List Event) (at : ℕ) (given : Given) (old new : GatewayValue) → IsReachedBy writes trace old → new.clock ≡ max at old.clock → new.rings ≡ old.rings
+    → IsCalling (ticked_on (calling_leg trace) (max at (clock trace))) new.calling → given.on_calling ≡ told_calling (calling_leg trace) (max at (clock trace))
+    → Served writes (max at (clock trace)) (in_tick writes trace at) new.called given.on_called given.report new.book
+    → IsReachedBy writes (Tick at given ∷ trace) new
+ticks writes trace at given old new r later rung calling told s =
+    let now : ℕ = max at (clock trace) in
+    record {
+      is_trace = (
+        ap (λ (x : Option (List ℕ)). record { on_calling = x; on_called = given.on_called; report = given.report }) told
+            ∙ ap (λ (x : Option (List ℕ)). record { on_calling = told_calling (calling_leg trace) now; on_called = x; report = given.report }) s.datagram
+            ∙ ap (λ (x : Option Report). record { on_calling = told_calling (calling_leg trace) now; on_called = told_called writes (in_tick writes trace at).leg now; report = x }) s.report,
+        r.is_trace,
+      );
+      at = later ∙ ap (λ (m : ℕ). max at m) r.at;
+      rung = rung ∙ r.rung;
+      calling = subst (λ (o : Option CallingLeg). IsCalling o new.calling) (ticked_same (calling_leg trace) now at given) calling;
+      called = s.called;
+      book = s.book;
     }

@@ -1,5 +1,5 @@
 -- What a gateway keeps that a trace has led to.
-use Rattle.std.specs.Prelude.{◌≡◌, ℕ, Bool, true, false, List, [], ◌∷◌, Option, Some, None, if◌then◌else◌}
+use Rattle.std.specs.Prelude.{◌≡◌, ℕ, ◌<◌, ◌≤◌, Bool, true, false, List, [], ◌∷◌, Option, Some, None, if◌then◌else◌}
 use Rattle.fax_udptl.specs.Datagrams.{DatagramValue}
 use Rattle.fax_udptl.specs.Sending.{HasSent}
 use Rattle.fax_udptl.specs.Slots.{newest_slots}
@@ -128,6 +128,16 @@ abbrev pub IsServed : Option JobValue → Procedure → Type 0
 IsServed None procedure = procedure.state ≡ Idle
 IsServed (Some job) procedure = IsJobOfCall procedure job
 
+-- a tick in the call of a job: what it leaves and gives
+pub record TicksOn (writes : Writing) (l : CalledLeg) (now : ℕ) (given : Option (List ℕ)) (side : CalledSide) : Type 0 where
+  pub called : IsCalled writes (Some (called_legs.with_tick (called_legs.calls writes l now) now l)) side
+  pub told : given ≡ called_legs.told_by l.given (called_legs.calls writes l now).given
+
+-- where there is a job its call begins, and the tick goes on in it
+abbrev pub Begins : Writing → Option CalledLeg → Option JobValue → (now : ℕ) → (given : Option (List ℕ)) → (old new : CalledSide) → Type 0
+Begins writes leg None now given old new = (given ≡ None) × (new ≡ old)
+Begins writes leg (Some job) now given old new = TicksOn writes (called_legs.begun_leg job (called_legs.core_left writes leg) now) now given new
+
 -- the outcome of a call that is over, and the report of its job
 abbrev pub outcome_kept : Procedure → Option Outcome
 outcome_kept procedure = if is_over procedure.state then procedure.outcome else None
@@ -154,13 +164,14 @@ abbrev pub closed_if : Bool → Book → Book
 closed_if true book = closed book
 closed_if false book = book
 
--- THE GATEWAY
+-- THE GATEWAY: its clock, how many calls were rung, both sides, the book, and for how many pages this has room
 pub record GatewayValue : Type 0 where
   pub clock : ℕ
   pub rings : ℕ
   pub calling : CallingValue
   pub called : CalledSide
   pub book : Book
+  pub spare : ℕ
 
 -- the trace led to it, where this function gives the texts of pages
 pub record IsReachedBy (writes : Writing) (trace : List Event) (gateway : GatewayValue) : Type 0 where
@@ -175,3 +186,35 @@ pub record IsReachedBy (writes : Writing) (trace : List Event) (gateway : Gatewa
 pub record HearsFrom (writes : Writing) (trace : List Event) (octets : List ℕ) (now : ℕ) (decided : Bool) (gateway : GatewayValue) : Type 0 where
   pub read : Reading
   pub reached : IsReachedBy writes (FromCalling octets now decided read ∷ trace) gateway
+
+-- MEMORY that is reserved before a tick: for the packet of each side and its datagram, for a page, and for the first packet
+-- of a call
+abbrev pub most_octets : ℕ
+most_octets = 100
+
+pub record CallingHasRoom (side : CallingValue) : Type 0 where
+  pub packet : 1 ≤ side.kept.spare
+  pub datagram : most_octets < side.leg.sender.spare
+
+pub record CalledHasRoom (side : CalledSide) : Type 0 where
+  pub packet : 1 ≤ side.caller.spare
+  pub datagram : most_octets < side.leg.sender.spare
+
+pub record HasRoom (gateway : GatewayValue) : Type 0 where
+  pub calling : CallingHasRoom gateway.calling
+  pub called : CalledHasRoom gateway.called
+  pub page : 1 ≤ gateway.spare
+
+-- a gateway without what is reserved: all that is told of one
+abbrev pub leg_alone : Leg → Leg
+leg_alone leg = record { receiver = leg.receiver; sender = record leg.sender { spare = 0 } }
+
+abbrev pub calling_alone : CallingValue → CallingValue
+calling_alone side = record { number = side.number; kept = record side.kept { spare = 0 }; leg = leg_alone side.leg }
+
+abbrev pub called_alone : CalledSide → CalledSide
+called_alone side = record { caller = record side.caller { spare = 0 }; leg = leg_alone side.leg }
+
+abbrev pub alone : GatewayValue → GatewayValue
+alone g =
+    record { clock = g.clock; rings = g.rings; calling = calling_alone g.calling; called = called_alone g.called; book = g.book; spare = 0 }

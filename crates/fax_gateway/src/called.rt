@@ -1,14 +1,17 @@
 //! The called leg: jobs are sent there, each in a call of our own.
-ghost use Rattle.std.specs.Prelude.{◌≡◌, ℕ, true, Option, Some, None, IfOk, OnOk, OnErr, length, option_map};
+ghost use Rattle.std.specs.Prelude.{◌≡◌, ◌<◌, ◌≤◌, ℕ, true, List, [], Option, Some, None, IfOk, OnOk, OnErr, option_map};
 ghost use Rattle.fax_jobs.specs.Jobs.{JobValue};
-ghost use Rattle.fax_call.specs.Writings.{Writing};
+ghost use Rattle.fax_call.specs.Writings.{IsWriting, Writing};
 ghost use Rattle.fax_call.specs.Following.{IsJobOfCall};
-ghost use Rattle.fax_gateway.specs.CalledLegs.{CalledLeg, decided_called, hears};
-ghost use Rattle.fax_gateway.specs.Reached.{IsCalled};
+ghost use Rattle.fax_call.specs.declared.pending.Pending.TheVariants as Pending;
+ghost use Rattle.fax_gateway.specs.CalledLegs.{CalledLeg, begun_leg, core_left, decided_called, hears};
+ghost use Rattle.fax_gateway.specs.Reached.{Begins, CalledHasRoom, IsCalled, IsLeg, IsServed, TicksOn, called_alone, most_octets, outcome_kept};
 
 use crate::leg::Leg;
-use fax_bits::NoMemory;
+use fax_bits::{NoMemory, Octets};
 use fax_call::{Caller, State};
+use fax_jobs::{Job, Jobs, Outcome};
+use fax_pagestore::RowStore;
 use std::alloc::Global;
 
 /// The calling side of the called leg.
@@ -54,5 +57,90 @@ impl CalledSide {
         self.caller.slots(&decided, now)?;
         self.leg.receiver = receiver;
         Ok(!decided.is_empty())
+    }
+
+    /// The outcome of the call, where it is over.
+    pub fn outcome(&self) -> Option<Outcome>
+        ensures { result ≡ outcome_kept self.now.caller.procedure }
+    {
+        if self.caller.state() == State::Idle {
+            self.caller.outcome()
+        } else {
+            None
+        }
+    }
+
+    /// How many pages of the job were answered MCF or RTP.
+    pub fn delivered(&self) -> u32
+        ensures { result ≡ self.now.caller.procedure.counts.delivered }
+    {
+        self.caller.delivered()
+    }
+
+    /// Takes the memory of the next datagram, and of the first packet of a call.
+    pub fn reserve(&mut self) -> Result<(), NoMemory>
+        ensures room { OnOk result (CalledHasRoom self.new) }
+        ensures reached { (writes : Writing) (leg : Option CalledLeg) → IsCalled writes leg self.old → IsCalled writes leg self.new }
+        ensures same { called_alone self.new ≡ called_alone self.old }
+        ensures procedure { self.new.caller.procedure ≡ self.old.caller.procedure }
+    {
+        self.caller.reserve()?;
+        self.leg.reserve()
+    }
+
+    /// The call of a job begins, where no call is on, with a leg of its own. It takes no memory.
+    pub fn start<S: RowStore>(&mut self, job: &Job<S>, leg: Leg, now: u64)
+        requires idle { self.old.caller.procedure.state ≡ State.Idle }
+        requires fresh { IsLeg [] [] leg }
+        ensures started { (writes : Writing) (old : Option CalledLeg) → IsCalled writes old self.old
+            → IsCalled writes (Some (begun_leg job.now (core_left writes old) now)) self.new }
+        ensures job { IsJobOfCall self.new.caller.procedure job.now }
+        ensures tone { self.new.caller.procedure.pending ≡ Pending.Tone }
+        ensures spare { self.new.caller.spare ≡ self.old.caller.spare }
+        ensures leg { self.new.leg ≡ leg }
+    {
+        // what it ensures of the job is that it has a page
+        let _ = job.pages();
+        self.caller.start(job.format(), job.page_count(), now);
+        self.leg = leg;
+    }
+
+    /// Time goes on in the call of the job: it answers the datagram that is given. The memory of the datagram is reserved;
+    /// that of the packet is taken, but where it is the first of the call and its memory is reserved, and where no call is
+    /// on. An `Err` changes nothing.
+    pub fn tick<S: RowStore>(&mut self, job: &Job<S>, now: u64) -> Result<Option<Octets>, NoMemory>
+        requires job { IsJobOfCall self.old.caller.procedure job.now }
+        requires room { most_octets < self.old.leg.sender.spare }
+        ensures ticked { IfOk result (λ given. (writes : Writing) (l : CalledLeg) → IsWriting writes → l.job ≡ job.now → IsCalled writes (Some l) self.old
+            → TicksOn writes l now given self.new) }
+        ensures job { OnOk result (IsJobOfCall self.new.caller.procedure job.now) }
+        ensures first { self.old.caller.procedure.pending ≡ Pending.Tone → OnErr result (self.old.caller.spare ≡ 0) }
+        ensures err { OnErr result (self.new ≡ self.old) }
+    {
+        let packet = self.caller.tick(job, now)?;
+        Ok(self.leg.send_if(packet))
+    }
+
+    /// Where a job is to be sent, its call begins, with a leg of its own, and time goes on in it: it answers the datagram
+    /// that is given. No call is on before it. The memory is reserved.
+    pub fn begin<S: RowStore>(&mut self, jobs: &Jobs<S>, leg: Leg, now: u64) -> Option<Octets>
+        requires idle { self.old.caller.procedure.state ≡ State.Idle }
+        requires packet { 1 ≤ self.old.caller.spare }
+        requires fresh { IsLeg [] [] leg }
+        requires datagram { most_octets < leg.sender.spare }
+        ensures begun { (writes : Writing) (old : Option CalledLeg) → IsWriting writes → IsCalled writes old self.old
+            → Begins writes old jobs.now.book.sending now result self.old self.new }
+        ensures served { IsServed jobs.now.book.sending self.new.caller.procedure }
+    {
+        match jobs.sending() {
+            None => None,
+            Some(job) => {
+                self.start(job, leg, now);
+                match self.tick(job, now) {
+                    Ok(datagram) => datagram,
+                    Err(_) => unreachable!(),
+                }
+            }
+        }
     }
 }

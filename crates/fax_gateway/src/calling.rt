@@ -1,10 +1,10 @@
 //! The calling leg: who calls is answered there.
 ghost use Rattle.std.specs.Prelude.{◌≡◌, ◌↔◌, ℕ, true, IsTrue, Option, Some, None, IfOk, OnOk, OnErr};
 ghost use Rattle.fax_gateway.specs.CallingLegs.{CallingLeg, decided_calling, idle_after, rung_leg};
-ghost use Rattle.fax_gateway.specs.Reached.{IsCalling, HearsCalling, answering_of};
+ghost use Rattle.fax_gateway.specs.Reached.{IsCalling, HearsCalling, CallingHasRoom, TellsTick, answering_of, calling_alone, ticked_on};
 
 use crate::leg::Leg;
-use fax_answer::{Answerer, State};
+use fax_answer::{Answerer, State, Step};
 use fax_bits::NoMemory;
 use fax_pagestore::RowStore;
 use std::alloc::Global;
@@ -80,5 +80,40 @@ impl<S: RowStore> CallingSide<S> {
         self.answerer.slots(&decided, now)?;
         self.leg.receiver = receiver;
         Ok(!decided.is_empty())
+    }
+
+    /// The number of the last call.
+    pub fn number(&self) -> u32
+        ensures { result ≡ self.now.number }
+    {
+        self.number
+    }
+
+    /// Takes the memory of the next tick.
+    pub fn reserve(&mut self) -> Result<(), NoMemory>
+        ensures room { OnOk result (CallingHasRoom self.new) }
+        ensures reached { (leg : Option CallingLeg) → IsCalling leg self.old → IsCalling leg self.new }
+        ensures same { calling_alone self.new ≡ calling_alone self.old }
+    {
+        self.answerer.reserve()?;
+        self.leg.reserve()
+    }
+
+    /// Time goes on: it answers the datagram that is given, the page that is confirmed, and whether the call has ended.
+    /// The memory is reserved.
+    pub fn tick(&mut self, now: u64) -> Step<S>
+        requires { CallingHasRoom self.old }
+        ensures ticked { (leg : Option CallingLeg) → IsCalling leg self.old → IsCalling (ticked_on leg now) self.new }
+        ensures told { (leg : Option CallingLeg) → IsCalling leg self.old → TellsTick leg now result }
+        ensures number { self.new.number ≡ self.old.number }
+    {
+        match self.answerer.tick(now) {
+            Err(_) => unreachable!(),
+            Ok(step) => Step {
+                packet: self.leg.send_if(step.packet),
+                confirmed: step.confirmed,
+                ended: step.ended,
+            },
+        }
     }
 }

@@ -1,17 +1,22 @@
 //! The gateway.
-ghost use Rattle.std.specs.Prelude.{◌≡◌, ◌≤◌, ◌↔◌, ℕ, true, false, not, ◌&&◌, List, [], ◌∷◌, Ok, Err, IfOk, OnErr, slice_get, length};
-ghost use Rattle.fax_call.specs.Writings.{Writing};
-ghost use Rattle.fax_gateway.specs.Events.{Event, Ring, FromCalled, rings};
-ghost use Rattle.fax_gateway.specs.CallingLegs.{calling_leg, decided_calling, idle_after};
+ghost use Rattle.std.specs.Prelude.{◌≡◌, ◌<◌, ◌≤◌, ◌↔◌, ℕ, true, false, not, ◌&&◌, List, [], ◌∷◌, Option, None, Ok, Err, IsSome, IfOk, OnOk, OnErr, slice_get, length};
+ghost use Rattle.fax_jobs.specs.Books.{confirmed, report_of};
+ghost use Rattle.fax_answer.specs.Shown.{confirmed_shown};
+ghost use Rattle.fax_call.specs.Writings.{IsWriting, Writing};
+ghost use Rattle.fax_gateway.specs.Events.{Event, Ring, FromCalled, Tick, rings};
+ghost use Rattle.fax_gateway.specs.CallingLegs.{CallingLeg, calling_leg, decided_calling, idle_after, told_calling};
 ghost use Rattle.fax_gateway.specs.CalledLegs.{decided_called};
 ghost use Rattle.fax_gateway.specs.Sides.{book_of, sides};
-ghost use Rattle.fax_gateway.specs.Reached.{IsReachedBy, HearsFrom};
+ghost use Rattle.fax_gateway.specs.Reached.{CallingHasRoom, HasRoom, HearsFrom, IsCalling, IsLeg, IsReachedBy, IsServed, alone, closed_if, confirmed_if, confirmed_on, ended_if, ended_on, given_shown, most_octets, outcome_kept, report_if, ticked_on};
 
 use crate::called::CalledSide;
 use crate::calling::CallingSide;
 use crate::fault::RingFault;
-use fax_bits::NoMemory;
-use fax_jobs::{Jobs, Report};
+use crate::given::Given;
+use crate::leg::Leg;
+use fax_answer::Confirmed;
+use fax_bits::{NoMemory, Octets};
+use fax_jobs::{Job, Jobs, Outcome, Report};
 use fax_pagestore::RowStore;
 use fax_timers::Clock;
 use std::alloc::Global;
@@ -22,6 +27,7 @@ use std::marker::Model;
 /// as the latest. Seen as what a trace has led to: its contracts are told over every trace of events with their answers.
 #[derive(Drop)]
 pub struct Gateway<S: RowStore> {
+    alloc: Global,
     clock: Clock,
     /// How many calls were rung.
     rings: u64,
@@ -35,9 +41,9 @@ impl<S: RowStore> Model for Gateway<S> {
 
     ghost Value = { GatewayValue };
 
-    ghost view = { λ g. record { clock = g.clock; rings = g.rings; calling = g.calling; called = g.called; book = g.jobs } };
+    ghost view = { λ g. record { clock = g.clock; rings = g.rings; calling = g.calling; called = g.called; book = g.jobs.book; spare = g.jobs.spare } };
 
-    ghost invariant = { λ g. IsServed g.jobs.sending g.called.caller.procedure };
+    ghost invariant = { λ g. IsServed g.jobs.book.sending g.called.caller.procedure };
 }
 
 impl<S: RowStore> Gateway<S> {
@@ -49,6 +55,7 @@ impl<S: RowStore> Gateway<S> {
         let called = CalledSide::new(alloc)?;
         let jobs = Jobs::new(alloc)?;
         Ok(Gateway {
+            alloc,
             clock: Clock::new(),
             rings: 0,
             calling,
@@ -116,6 +123,82 @@ impl<S: RowStore> Gateway<S> {
         Ok(decided)
     }
 
+    /// Time goes on, on both legs. It answers what is given: on the calling leg the answering side's next datagram, whose
+    /// page joins the book where it confirms one; on the called leg that of the job that is being sent, or of the one that
+    /// was closed first where none is; and the report of a job whose call has ended, behind which the next one waits for the
+    /// next tick. It takes memory for the datagrams, and for a page. An `Err` changes nothing but the memory that is
+    /// reserved.
+    pub fn tick(&mut self, now: u64) -> Result<Given, NoMemory>
+        ensures ticked { IfOk result (λ given. (writes : Writing) (trace : List Event) → IsWriting writes → IsReachedBy writes trace self.old
+            → IsReachedBy writes (Tick now (given_shown given) ∷ trace) self.new) }
+        ensures err { OnErr result (alone self.new ≡ alone self.old) }
+        ensures kept { OnErr result ((writes : Writing) (trace : List Event) → IsReachedBy writes trace self.old → IsReachedBy writes trace self.new) }
+    {
+        self.reserve()?;
+        if self.jobs.sending().is_some() {
+            return self.tick_in_call(now);
+        }
+        let leg = Leg::with_room(self.alloc)?;
+        Ok(self.tick_between(leg, now))
+    }
+
+    /// Takes the memory of a tick, but for that of a packet of a call that is on on the called leg.
+    fn reserve(&mut self) -> Result<(), NoMemory>
+        ensures room { OnOk result (HasRoom self.new) }
+        ensures reached { (writes : Writing) (trace : List Event) → IsReachedBy writes trace self.old → IsReachedBy writes trace self.new }
+        ensures same { alone self.new ≡ alone self.old }
+    {
+        self.calling.reserve()?;
+        self.called.reserve()?;
+        self.jobs.reserve()
+    }
+
+    /// A tick while a job is being sent. The called leg is served first: it alone can be refused memory, and what it gives
+    /// does not depend on the calling leg. An `Err` changes nothing.
+    fn tick_in_call(&mut self, now: u64) -> Result<Given, NoMemory>
+        requires room { HasRoom self.old }
+        requires sends { IsSome self.old.book.sending }
+        ensures ticked { IfOk result (λ given. (writes : Writing) (trace : List Event) → IsWriting writes → IsReachedBy writes trace self.old
+            → IsReachedBy writes (Tick now (given_shown given) ∷ trace) self.new) }
+        ensures err { OnErr result (self.new ≡ self.old) }
+    {
+        let mut clock = self.clock;
+        let moment = clock.read(now);
+        let called = match self.jobs.sending() {
+            None => unreachable!(),
+            Some(job) => self.called.tick(job, moment)?,
+        };
+        self.clock = clock;
+        let calling = serve_calling(&mut self.calling, &mut self.jobs, moment);
+        let report = end_job(&mut self.jobs, &self.called);
+        Ok(Given {
+            calling,
+            called,
+            report,
+        })
+    }
+
+    /// A tick while no job is being sent: where one waits, its call begins, with a leg of its own. It takes no memory.
+    fn tick_between(&mut self, leg: Leg, now: u64) -> Given
+        requires room { HasRoom self.old }
+        requires none { self.old.book.sending ≡ None }
+        requires fresh { IsLeg [] [] leg }
+        requires datagram { most_octets < leg.sender.spare }
+        ensures { (writes : Writing) (trace : List Event) → IsWriting writes → IsReachedBy writes trace self.old
+            → IsReachedBy writes (Tick now (given_shown result) ∷ trace) self.new }
+    {
+        let moment = self.clock.read(now);
+        let calling = serve_calling(&mut self.calling, &mut self.jobs, moment);
+        self.jobs.next();
+        let called = self.called.begin(&self.jobs, leg, moment);
+        let report = end_job(&mut self.jobs, &self.called);
+        Given {
+            calling,
+            called,
+            report,
+        }
+    }
+
     /// How many jobs wait.
     pub fn waiting(&self) -> usize
         ensures waiting { result ≡ length self.now.book.waiting }
@@ -140,4 +223,76 @@ fn has_ended(was_idle: bool, is_idle: bool) -> bool
     ensures { result ≡ (not was_idle && is_idle) }
 {
     !was_idle && is_idle
+}
+
+/// Serves the calling leg in a tick: it answers the datagram that is given, and the book hears of the page that is
+/// confirmed and of the call's end. The memory is reserved.
+fn serve_calling<S: RowStore>(
+    calling: &mut CallingSide<S>,
+    jobs: &mut Jobs<S>,
+    now: u64,
+) -> Option<Octets>
+    requires room { CallingHasRoom calling.old }
+    requires page { 1 ≤ jobs.old.spare }
+    ensures ticked { (leg : Option CallingLeg) → IsCalling leg calling.old → IsCalling (ticked_on leg now) calling.new }
+    ensures told { (leg : Option CallingLeg) → IsCalling leg calling.old → result ≡ told_calling leg now }
+    ensures heard { (leg : Option CallingLeg) → IsCalling leg calling.old
+        → jobs.new.book ≡ closed_if (ended_on leg now) (confirmed_if calling.old.number (confirmed_on leg now) jobs.old.book) }
+    ensures sending { jobs.new.book.sending ≡ jobs.old.book.sending }
+{
+    let number = calling.number();
+    let step = calling.tick(now);
+    hear(jobs, number, step.confirmed, step.ended);
+    step.packet
+}
+
+/// The book hears of a page that was confirmed in the call of this number, and of the call's end. The memory is reserved.
+fn hear<S: RowStore>(jobs: &mut Jobs<S>, number: u32, confirmed: Option<Confirmed<S>>, ended: bool)
+    requires { 1 ≤ jobs.old.spare }
+    ensures heard { jobs.new.book ≡ closed_if ended (confirmed_if number (confirmed_shown confirmed) jobs.old.book) }
+    ensures sending { jobs.new.book.sending ≡ jobs.old.book.sending }
+{
+    if let Some(confirmed) = confirmed {
+        confirm(jobs, number, confirmed);
+    }
+    if ended {
+        jobs.end_call();
+    }
+}
+
+/// The book hears of a page that was confirmed in the call of this number. The memory is reserved.
+fn confirm<S: RowStore>(jobs: &mut Jobs<S>, number: u32, found: Confirmed<S>)
+    requires { 1 ≤ jobs.old.spare }
+    ensures { jobs.new.book ≡ confirmed jobs.old.book number found.page found.closes }
+{
+    match jobs.confirm(number, found.page, found.closes) {
+        Ok(()) => {}
+        Err(_) => unreachable!(),
+    }
+}
+
+/// Where a job is being sent and its call is over, it ends and is reported.
+fn end_job<S: RowStore>(jobs: &mut Jobs<S>, called: &CalledSide) -> Option<Report>
+    ensures report { result ≡ report_if jobs.old.book.sending (outcome_kept called.now.caller.procedure) called.now.caller.procedure.counts.delivered }
+    ensures ended { jobs.new.book ≡ ended_if jobs.old.book.sending (outcome_kept called.now.caller.procedure) called.now.caller.procedure.counts.delivered jobs.old.book }
+    ensures served { IsServed jobs.old.book.sending called.now.caller.procedure → IsServed jobs.new.book.sending called.now.caller.procedure }
+{
+    let job = jobs.sending()?;
+    let outcome = called.outcome()?;
+    let report = report_of(job, outcome, called.delivered());
+    jobs.end(outcome, report.delivered);
+    Some(report)
+}
+
+/// What is told of a job that ended so.
+fn report_of<S: RowStore>(job: &Job<S>, outcome: Outcome, delivered: u32) -> Report
+    ensures { result ≡ report_of job.now outcome delivered }
+{
+    Report {
+        call: job.call(),
+        format: job.format(),
+        pages: job.page_count(),
+        delivered,
+        outcome,
+    }
 }

@@ -1,12 +1,15 @@
 //! What a call has on its leg.
-ghost use Rattle.std.specs.Prelude.{ℕ, List, [], ◌∷◌, ◌≡◌, ◌≤◌, length, IfOk, OnErr};
+ghost use Rattle.std.specs.Prelude.{ℕ, List, [], ◌∷◌, ◌≡◌, ◌<◌, ◌≤◌, length, IfSome, IfOk, OnOk, OnErr};
 ghost use Rattle.fax_udptl.specs.Datagrams.{DatagramValue};
 ghost use Rattle.fax_gateway.specs.Legs.{sent};
-ghost use Rattle.fax_gateway.specs.Reached.{IsLeg};
+ghost use Rattle.fax_gateway.specs.Reached.{IsLeg, leg_alone, most_octets, sent_if, given_with};
 
 use fax_bits::{NoMemory, Octets};
 use fax_udptl::{Receiver, Sender};
 use std::alloc::Global;
+
+/// How many octets a packet of either side has at most.
+const MOST_OCTETS: usize = 100;
 
 /// A receiver and a sender, which each call has anew.
 #[derive(Drop)]
@@ -27,14 +30,49 @@ impl Leg {
         })
     }
 
-    /// The octets of the datagram of the next packet, which has at most 16,383 octets. It takes memory for both. An `Err`
-    /// changes nothing.
-    pub fn send(&mut self, packet: &[u8]) -> Result<Octets, NoMemory>
-        requires { length packet.now ≤ 16383 }
-        ensures sent { IfOk result (λ octets. (arrived : List DatagramValue) (given : List (List ℕ)) → IsLeg arrived given self.old
-            → (octets ≡ sent given packet.now) × IsLeg arrived (packet.now ∷ given) self.new) }
+    /// The same with the memory of its first datagram.
+    pub fn with_room(alloc: Global) -> Result<Self, NoMemory>
+        ensures fresh { IfOk result (λ leg. IsLeg [] [] leg) }
+        ensures room { IfOk result (λ leg. most_octets < leg.sender.spare) }
+    {
+        let mut leg = Leg::new(alloc)?;
+        leg.reserve()?;
+        Ok(leg)
+    }
+
+    /// Takes the memory of the next datagram, where its packet has at most `MOST_OCTETS` octets. An `Err` changes nothing.
+    pub fn reserve(&mut self) -> Result<(), NoMemory>
+        ensures room { OnOk result (most_octets < self.new.sender.spare) }
+        ensures reached { (arrived : List DatagramValue) (given : List (List ℕ)) → IsLeg arrived given self.old → IsLeg arrived given self.new }
+        ensures same { leg_alone self.new ≡ leg_alone self.old }
         ensures err { OnErr result (self.new ≡ self.old) }
     {
-        self.sender.send(packet)
+        self.sender.reserve(MOST_OCTETS)
+    }
+
+    /// The octets of the datagram of the next packet, whose memory is reserved.
+    pub fn send(&mut self, packet: &[u8]) -> Octets
+        requires short { length packet.now ≤ most_octets }
+        requires room { most_octets < self.old.sender.spare }
+        ensures { (arrived : List DatagramValue) (given : List (List ℕ)) → IsLeg arrived given self.old
+            → (result ≡ sent given packet.now) × IsLeg arrived (packet.now ∷ given) self.new }
+    {
+        match self.sender.send(packet) {
+            Ok(octets) => octets,
+            Err(_) => unreachable!(),
+        }
+    }
+
+    /// The same of a packet that may be given.
+    pub fn send_if(&mut self, packet: Option<Octets>) -> Option<Octets>
+        requires short { IfSome packet (λ packet. length packet ≤ most_octets) }
+        requires room { most_octets < self.old.sender.spare }
+        ensures { (arrived : List DatagramValue) (given : List (List ℕ)) → IsLeg arrived given self.old
+            → (result ≡ sent_if given packet) × IsLeg arrived (given_with packet given) self.new }
+    {
+        match packet {
+            None => None,
+            Some(packet) => Some(self.send(packet.as_slice())),
+        }
     }
 }

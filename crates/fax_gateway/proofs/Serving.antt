@@ -1,0 +1,141 @@
+-- What a side makes of a tick, and of the call that begins.
+use Rattle.std.proofs.Common.{◌≡◌, ℕ, Bool, List, [], ◌∷◌, length, Option, Some, None, option_map, refl, sym, ◌∙◌, ap, subst}
+use Rattle.fax_udptl.specs.Datagrams.{DatagramValue}
+use Rattle.fax_udptl.specs.Slots.{slots, newest_slots}
+use Rattle.fax_ifp.specs.Elements.{Slot}
+use Rattle.fax_runcodes.specs.declared.format.Format.{Format}
+use Rattle.fax_jobs.specs.Jobs.{JobValue}
+use Rattle.fax_answer.specs.declared.step.Step.{Step}
+use Rattle.fax_answer.specs.Replies.{ConfirmedPage, Waiting}
+use Rattle.fax_answer.specs.Calls as answer_calls
+use Rattle.fax_answer.specs.Calls.{Answering, new_answering}
+use Rattle.fax_answer.specs.Reached as answer
+use Rattle.fax_answer.specs.Shown.{IsStep, packet_in, confirmed_in, confirmed_shown}
+use Rattle.fax_call.specs.Writings.{Writing}
+use Rattle.fax_call.specs.Replies.{Packet, written}
+use Rattle.fax_call.specs.Calls.{Calling, new_calling, started, Ticked, ticked}
+use Rattle.fax_call.specs.Reached as call
+use Rattle.fax_gateway.specs.declared.leg.Leg.{Leg}
+use Rattle.fax_gateway.specs.declared.called.CalledSide.{CalledSide}
+use Rattle.fax_gateway.specs.Legs.{sent}
+use Rattle.fax_gateway.specs.CallingLegs as calling_legs
+use Rattle.fax_gateway.specs.CallingLegs.{CallingLeg, packets_with, confirmed_by}
+use Rattle.fax_gateway.specs.CalledLegs as called_legs
+use Rattle.fax_gateway.specs.CalledLegs.{CalledLeg, core_of, core_left, begun_leg, calls, packets_given, with_tick}
+use Rattle.fax_gateway.specs.Reached.{IsLeg, sent_if, given_with, CallingValue, IsCalling, ticked_on, TellsTick, IsCaller, IsCalledLeg, IsCalled, TicksOn}
+
+-- a leg gives a packet, where there is one
+abbrev pub Gives : Option (List ℕ) → Leg → Leg → Option (List ℕ) → Type 0
+Gives packet old new datagram = (arrived : List DatagramValue) (given : List (List ℕ)) → IsLeg arrived given old → (datagram ≡ sent_if given packet) × IsLeg arrived (given_with packet given) new
+
+-- THE CALLING SIDE
+waiting_told : (w : Option Waiting) (given : List (List ℕ)) → sent_if given (packet_in w) ≡ calling_legs.told_by given w
+waiting_told None given = refl
+waiting_told (Some w) given = refl
+
+waiting_given : (w : Option Waiting) (given : List (List ℕ)) → given_with (packet_in w) given ≡ packets_with w given
+waiting_given None given = refl
+waiting_given (Some w) given = refl
+
+waiting_confirms : (w : Option Waiting) → confirmed_in w ≡ confirmed_by w
+waiting_confirms None = refl
+waiting_confirms (Some w) = refl
+
+abbrev pub Answers : {S : Type 0} → ℕ → answer.Kept → answer.Kept → Step S → Type 0
+Answers now old new step = (heard : List Slot) (core : Answering) → answer.IsReached heard core old → answer.IsReached heard (answer_calls.ticked core now).core new × IsStep (answer_calls.ticked core now) step
+
+pub side_ticks : {S : Type 0} → (leg : Option CallingLeg) (now : ℕ) (old new : CallingValue) (step : Step S) (datagram : Option (List ℕ)) → new.number ≡ old.number → Answers now old.kept new.kept step
+    → Gives step.packet old.leg new.leg datagram → IsCalling leg old → IsCalling (ticked_on leg now) new
+side_ticks None now old new step datagram number a g r =
+    let k = a (newest_slots []) new_answering r.core in
+    record {
+      number = tt;
+      core = k.0;
+      on_leg = subst (λ (given : List (List ℕ)). IsLeg [] given new.leg) (ap (λ (p : Option (List ℕ)). given_with p []) k.1.packet) (g [] [] r.on_leg).1;
+    }
+side_ticks (Some l) now old new step datagram number a g r =
+    let k = a (newest_slots l.arrived) (calling_legs.core_of l) r.core in
+    record {
+      number = r.number ∙ sym number;
+      core = k.0;
+      on_leg =
+          subst (λ (given : List (List ℕ)). IsLeg l.arrived given new.leg) (ap (λ (p : Option (List ℕ)). given_with p l.given) k.1.packet ∙ waiting_given (calling_legs.answers l now).given l.given)
+          (g l.arrived l.given r.on_leg).1;
+    }
+
+pub side_tells : {S : Type 0} → (leg : Option CallingLeg) (now : ℕ) (old new : CallingValue) (step told : Step S) → Answers now old.kept new.kept step
+    → Gives step.packet old.leg new.leg told.packet → told.confirmed ≡ step.confirmed → told.ended ≡ step.ended → IsCalling leg old → TellsTick leg now told
+side_tells {S} None now old new step told a g page ends r =
+    let k = a (newest_slots []) new_answering r.core in
+    record {
+      packet = (g [] [] r.on_leg).0 ∙ ap (sent_if []) k.1.packet;
+      confirmed = ap (confirmed_shown {S = S}) page ∙ k.1.confirmed;
+      ends = ends ∙ k.1.ends;
+    }
+side_tells {S} (Some l) now old new step told a g page ends r =
+    let k = a (newest_slots l.arrived) (calling_legs.core_of l) r.core in
+    record {
+      packet = (g l.arrived l.given r.on_leg).0 ∙ ap (sent_if l.given) k.1.packet ∙ waiting_told (calling_legs.answers l now).given l.given;
+      confirmed = ap (confirmed_shown {S = S}) page ∙ k.1.confirmed ∙ waiting_confirms (calling_legs.answers l now).given;
+      ends = ends ∙ k.1.ends;
+    }
+
+-- THE CALLED SIDE
+packet_told : (o : Option Packet) (given : List (List ℕ)) → sent_if given (option_map written o) ≡ called_legs.told_by given o
+packet_told None given = refl
+packet_told (Some p) given = refl
+
+packet_given : (o : Option Packet) (given : List (List ℕ)) → given_with (option_map written o) given ≡ packets_given o given
+packet_given None given = refl
+packet_given (Some p) given = refl
+
+-- memory that is reserved makes no difference
+caller_keeps : (writes : Writing) (leg : Option CalledLeg) (old new : call.Kept) → ((writes : Writing) (job : JobValue) (heard : List Slot) (core : Calling) → call.IsReached writes job heard core old → call.IsReached writes job heard core new)
+    → new.procedure.format ≡ old.procedure.format → IsCaller writes leg old → IsCaller writes leg new
+caller_keeps writes None old new f same r = λ job. subst (λ (x : Format). call.IsReached writes job [] (new_calling x) new) (sym same) (f writes job [] (new_calling old.procedure.format) (r job))
+caller_keeps writes (Some l) old new f same r = f writes l.job (newest_slots l.arrived) (core_of writes l) r
+
+leg_keeps : (leg : Option CalledLeg) (old new : Leg) → ((arrived : List DatagramValue) (given : List (List ℕ)) → IsLeg arrived given old → IsLeg arrived given new) → IsCalledLeg leg old → IsCalledLeg leg new
+leg_keeps None old new f r = tt
+leg_keeps (Some l) old new f r = f l.arrived l.given r
+
+pub side_keeps : (writes : Writing) (leg : Option CalledLeg) (old new : CalledSide) → ((writes : Writing) (job : JobValue) (heard : List Slot) (core : Calling) → call.IsReached writes job heard core old.caller → call.IsReached writes job heard core new.caller)
+    → new.caller.procedure.format ≡ old.caller.procedure.format → ((arrived : List DatagramValue) (given : List (List ℕ)) → IsLeg arrived given old.leg → IsLeg arrived given new.leg) → IsCalled writes leg old → IsCalled writes leg new
+side_keeps writes leg old new f same g r = record { core = caller_keeps writes leg old.caller new.caller f same r.core; on_leg = leg_keeps leg old.leg new.leg g r.on_leg }
+
+-- a call begins
+caller_starts : (writes : Writing) (leg : Option CalledLeg) (old new : call.Kept) (job : JobValue) (format : Format) (pages now : ℕ) →
+    ((writes others : Writing) (job other : JobValue) (heard : List Slot) (core : Calling) → call.IsReached others other heard core old → call.IsReached writes job [] (started core format pages now) new)
+    → IsCaller writes leg old → call.IsReached writes job [] (started (core_left writes leg) format pages now) new
+caller_starts writes None old new job format pages now f r = f writes writes job job [] (new_calling old.procedure.format) (r job)
+caller_starts writes (Some l) old new job format pages now f r = f writes writes job l.job (newest_slots l.arrived) (core_of writes l) r
+
+pub side_starts : (writes : Writing) (leg : Option CalledLeg) (old new : CalledSide) (job : JobValue) (format : Format) (pages now : ℕ) → format ≡ job.format → pages ≡ length job.pages →
+    ((writes others : Writing) (job other : JobValue) (heard : List Slot) (core : Calling) → call.IsReached others other heard core old.caller → call.IsReached writes job [] (started core format pages now) new.caller)
+    → IsLeg [] [] new.leg → IsCalled writes leg old → IsCalled writes (Some (begun_leg job (core_left writes leg) now)) new
+unfolding newest_slots slots
+side_starts writes leg old new job format pages now same count f fresh r =
+    let k = caller_starts writes leg old.caller new.caller job format pages now f r.core in
+    record {
+      core =
+          subst (λ (x : Format). call.IsReached writes job [] (started (core_left writes leg) x (length job.pages) now) new.caller) same
+          (subst (λ (n : ℕ). call.IsReached writes job [] (started (core_left writes leg) format n now) new.caller) count k);
+      on_leg = fresh;
+    }
+
+-- time goes on in a call
+pub side_ticks_on : (writes : Writing) (l : CalledLeg) (now : ℕ) (job : JobValue) (old new : CalledSide) (packet datagram : Option (List ℕ)) → l.job ≡ job →
+    ((heard : List Slot) (core : Calling) → call.IsReached writes job heard core old.caller → call.IsReached writes job heard (ticked writes job core now).core new.caller × call.IsGiven (ticked writes job core now) packet)
+    → Gives packet old.leg new.leg datagram → IsCalled writes (Some l) old → TicksOn writes l now datagram new
+side_ticks_on writes l now job old new packet datagram same f g r =
+    let t : Ticked = calls writes l now in
+    let of_job = subst (λ (j : JobValue). (heard : List Slot) (core : Calling) → call.IsReached writes j heard core old.caller → call.IsReached writes j heard (ticked writes j core now).core new.caller × call.IsGiven (ticked writes j core now) packet) (sym same) f in
+    let k = of_job (newest_slots l.arrived) (core_of writes l) r.core in
+    let leg = g l.arrived l.given r.on_leg in
+    record {
+      called = record {
+        core = k.0;
+        on_leg = subst (λ (given : List (List ℕ)). IsLeg l.arrived given new.leg) (ap (λ (p : Option (List ℕ)). given_with p l.given) k.1 ∙ packet_given t.given l.given) leg.1;
+      };
+      told = leg.0 ∙ ap (sent_if l.given) k.1 ∙ packet_told t.given l.given;
+    }

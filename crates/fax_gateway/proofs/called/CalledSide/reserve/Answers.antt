@@ -1,0 +1,10 @@
+use Rattle.std.proofs.Common.{◌≡◌, ap}
+use Rattle.fax_call.specs.Reached as call
+use Rattle.fax_gateway.specs.declared.called.CalledSide.{CalledSide}
+use Rattle.fax_gateway.proofs.Serving.{side_keeps}
+use Rattle.fax_gateway.proofs.called.CalledSide.reserve.Goals as goal
+
+pub returns-clause-reached : goal.returns-clause-reached
+returns-clause-reached c writes leg r =
+    let new : CalledSide = record { caller = c.reserve.new.self; leg = c.reserve-2.new.self } in
+    side_keeps writes leg c.args.self.now new c.reserve.ensures.reached (ap (λ (k : call.Kept). k.procedure.format) c.reserve.ensures.same) c.reserve-2.ensures.reached r
