@@ -96,12 +96,6 @@ fn paint_pair(rt: &impl Abort, builder: &mut RowBuilder, white: u16, black: u16)
     builder.paint_pair(white, black);
 }
 
-/// Puts the runs of the row so far at the start of a slice.
-fn put_built(rt: &impl Abort, builder: &RowBuilder, runs: &mut [u16]) -> Option<usize> {
-    assert!(rt; is_width(builder.len()));
-    builder.lend().put_runs(runs)
-}
-
 /// The row so far.
 fn row_of(rt: &impl Abort, builder: &RowBuilder) -> Result<Row, NoMemory> {
     assert!(rt; is_width(builder.len()));
@@ -196,7 +190,8 @@ fn paints_pairs_and_puts_runs(rt: HostRuntime) -> Result<(), Fail> {
     assert_eq!(rt; runs, [2432, 3, 5, 1, 2, 10, 1700, 7]);
     builder.clear();
     paint_pair(&rt, &mut builder, 2, 2046);
-    assert_eq!(rt; put_built(&rt, &builder, &mut runs), Some(2));
+    let row = row_of(&rt, &builder)?;
+    assert_eq!(rt; row.lend().put_runs(&mut runs), Some(2));
     assert_eq!(rt; runs, [2, 2046, 5, 1, 2, 10, 1700, 7]);
     Ok(())
 }
