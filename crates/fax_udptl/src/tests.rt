@@ -352,13 +352,14 @@ fn place_of(packet: &[u8]) -> Option<u16> {
     }
 }
 
-/// How many packets tell their places, from 0 on.
+/// How many packets there are, where each tells its place, from 0 on, and else 0.
 fn count_places(secondaries: Secondaries<'_>) -> u16 {
     let mut place = 0u16;
     for packet in secondaries {
-        if place_of(packet) == Some(place) {
-            place = place.wrapping_add(1);
+        if place_of(packet) != Some(place) {
+            return 0;
         }
+        place = place.wrapping_add(1);
     }
     place
 }
