@@ -109,6 +109,8 @@ enum Event {
     AwaitsMcf,
     /// The last packet was given at this moment, counted from 0.
     LastAt(u64),
+    /// The memory of the next call's first packet is reserved.
+    Reserves,
 }
 
 /// A call begins with CNG.
@@ -257,7 +259,14 @@ impl Leg {
             Event::In(state) => Ok(self.caller.state() == state),
             Event::AwaitsMcf => Ok(self.awaits_mcf()),
             Event::LastAt(moment) => Ok(self.given == moment),
+            Event::Reserves => self.reserve(),
         }
+    }
+
+    /// The memory of the next call's first packet is reserved.
+    fn reserve(&mut self) -> Result<bool, NoMemory> {
+        self.caller.reserve()?;
+        Ok(true)
     }
 
     /// The call of the job begins, with a receiver to which nothing came.

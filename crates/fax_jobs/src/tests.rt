@@ -191,20 +191,28 @@ fn a_job_goes_through_the_book(rt: HostRuntime) -> Result<(), Fail> {
 fn pages_come_into_room_that_is_there(rt: HostRuntime) -> Result<(), Fail> {
     let mut jobs = Jobs::new(rt.alloc())?;
     // one that opens a job, two that join it, and one of another format
-    for (rows, fine) in [(1, false), (2, false), (3, false), (4, true)] {
-        let page = page_of(rt.alloc(), rows, fine)?;
+    for (octets, format) in [
+        (ONE_ROW, STANDARD),
+        (TWO_ROWS, STANDARD),
+        (THREE_ROWS, STANDARD),
+        (ONE_ROW, FINE),
+    ] {
+        let page = page_of(rt.alloc(), octets, format)?;
         jobs.reserve()?;
         taken(jobs.confirm(7, page, false))?;
     }
-    assert_eq!(rt; shown(&jobs), (1, Some((7, 1))));
+    assert!(rt; shown(&jobs) == (1, Some((7, 1))));
+    assert!(rt; jobs.sending().is_none());
     jobs.next();
     let Some(job) = jobs.sending() else {
         rt.abort()
     };
-    assert_eq!(rt; job.page_count(), 3);
-    for (page, rows) in job.pages().as_slice().iter().zip([1u32, 2, 3]) {
-        assert_eq!(rt; page.rows().len(), rows);
-    }
+    let [first, second, third] = job.pages().as_slice() else {
+        rt.abort()
+    };
+    assert!(rt; first.rows().len() == 1);
+    assert!(rt; second.rows().len() == 2);
+    assert!(rt; third.rows().len() == 3);
     Ok(())
 }
 

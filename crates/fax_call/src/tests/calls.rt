@@ -158,7 +158,7 @@ const EARLY: &[Event] = &[
 /// The second of two slots, and behind it the first: both confirm the page.
 const TWICE: &str = "000309c002800002ffc83140000109c002800002ffc83140";
 
-static CALLS: [Call; 12] = [
+static CALLS: [Call; 13] = [
     Call {
         name: "a call with one page",
         format: STANDARD,
@@ -175,6 +175,20 @@ static CALLS: [Call; 12] = [
                 Event::Quiet(40),
                 Event::Quiet(100_000),
             ],
+        ],
+    },
+    Call {
+        name: "a call whose first packet has its memory before",
+        format: STANDARD,
+        pages: ONE,
+        scripts: &[
+            &[Event::Reserves],
+            STARTED,
+            TRAINED,
+            WHITE_PAGE,
+            EOP_GIVEN,
+            CONFIRMED,
+            &[Event::Delivered(1)],
         ],
     },
     Call {
