@@ -1,8 +1,8 @@
 //! A gateway: it answers a fax call on one leg, confirms its pages, and sends them on in a call of its own on the other leg.
 //!
-//! Moments are milliseconds. What comes and what is answered is
-//! told in `specs/Events`, the two legs in `CallingLegs` and `CalledLegs`, both over one book and the order within a tick in
-//! `Sides`, and the answers in `Traces`; what the octets of an answer say, in `Told`.
+//! Moments are milliseconds. What comes and what is answered is told in `specs/Events`, the two legs in `CallingLegs` and
+//! `CalledLegs`, both over one book and the order within a tick in `Sides`, and the answers in `Traces`; what the octets of
+//! an answer say, in `Told`; what a gateway keeps of a trace, in `Reached`.
 #![tactic(auto)]
 
 mod called;
@@ -12,6 +12,8 @@ mod gateway;
 mod given;
 pub mod laws;
 mod leg;
+#[cfg(test)]
+mod tests;
 
 pub use fault::RingFault;
 pub use gateway::Gateway;
