@@ -25,7 +25,9 @@ impl Model for Room {
 
 impl Room {
     /// No room. It takes no memory.
-    pub fn none(alloc: Global) -> Self {
+    pub fn none(alloc: Global) -> Self
+        ensures { result ≡ 0 }
+    {
         Room {
             octets: Vec::new(alloc),
         }
