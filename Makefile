@@ -14,7 +14,7 @@ test:
 	$(RT) ci
 
 # Refuses each allocation of a run in turn, both ways and in both codings, and each of a whole call of the answering
-# and of the calling side. It wants a C compiler, and a minute at most behind the proofs of the crates.
+# and of the calling side, and of one through the gateway. It wants a C compiler, and a minute at most behind the proofs of the crates.
 memory: all
 	tools/refuse-memory $(PROGRAM) samples/hello.hex page
 	tools/refuse-memory $(PROGRAM) samples/hello.runs page --back
@@ -24,6 +24,8 @@ memory: all
 	tools/refuse-test-memory crates/fax_answer/out/fax_answer_tests tests::memory::a_call_that_is_refused_memory
 	cd crates/fax_call && $(RT) test > /dev/null
 	tools/refuse-test-memory crates/fax_call/out/fax_call_tests tests::memory::a_call_that_is_refused_memory
+	cd crates/fax_gateway && $(RT) test > /dev/null
+	tools/refuse-test-memory crates/fax_gateway/out/fax_gateway_tests tests::a_page_goes_through_the_gateway
 
 # Times the codec beside libtiff and spandsp: see bench/README.md. It wants a C compiler and both libraries.
 KIT_C = $(dir $(shell $(RT) doc))c

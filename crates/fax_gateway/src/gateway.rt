@@ -1,5 +1,5 @@
 //! The gateway.
-ghost use Rattle.std.specs.Prelude.{◌≡◌, ◌<◌, ◌≤◌, ◌↔◌, ℕ, true, false, not, ◌&&◌, List, [], ◌∷◌, Option, None, Ok, Err, IsSome, IfOk, OnOk, OnErr, slice_get, length};
+ghost use Rattle.std.specs.Prelude.{◌≡◌, ◌<◌, ◌≤◌, ◌↔◌, ℕ, true, false, not, ◌&&◌, List, [], ◌∷◌, Option, None, Ok, Err, IsSome, IfOk, IfErr, OnOk, OnErr, slice_get, length};
 ghost use Rattle.fax_jobs.specs.Books.{confirmed, report_of};
 ghost use Rattle.fax_answer.specs.Shown.{confirmed_shown};
 ghost use Rattle.fax_call.specs.Writings.{IsWriting, Writing};
@@ -78,9 +78,7 @@ impl<S: RowStore> Gateway<S> {
         if !self.calling.is_idle() {
             return Err(RingFault::Busy);
         }
-        let Ok(number) = u32::try_from(self.rings) else {
-            return Err(RingFault::NoNumber);
-        };
+        let number = next_number(self.rings)?;
         let mut clock = self.clock;
         self.calling.ring(number, clock.read(now))?;
         self.clock = clock;
@@ -216,6 +214,14 @@ impl<S: RowStore> Gateway<S> {
     {
         self.jobs.report(i)
     }
+}
+
+/// The number of the call that begins behind so many: they are counted from 0, and the last is 4,294,967,295.
+pub(crate) fn next_number(rings: u64) -> Result<u32, RingFault>
+    ensures number { IfOk result (λ number. number ≡ rings) }
+    ensures err { IfErr result (λ fault. (fault ≡ RingFault.NoNumber) × (4294967296 ≤ rings)) }
+{
+    u32::try_from(rings).map_err(|_| RingFault::NoNumber)
 }
 
 /// Whether a call that was on has ended.

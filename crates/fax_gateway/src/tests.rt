@@ -1,4 +1,6 @@
-//! A whole call on both legs, and what is refused.
+//! A whole call on both legs, and what is refused. Memory is refused from outside: `tools/refuse-test-memory` refuses each
+//! allocation in turn, and reads what the test of the whole call prints.
+use crate::gateway::next_number;
 use crate::{Gateway, Given, RingFault};
 use fax_bits::{NoMemory, Octets};
 use fax_jobs::{Outcome, Report};
@@ -113,13 +115,18 @@ const DELIVERED: Report = Report {
 
 #[test]
 fn a_page_goes_through_the_gateway(rt: HostRuntime) -> Result<(), Fail> {
-    play(&rt, rt.alloc(), &[COMES, BEGINS, GOES])?;
+    // where memory is refused, what is refused is asked for again at once, and nothing else differs
+    let mut playing = Playing::new(rt.alloc())?;
+    playing.play(&rt, &[COMES, BEGINS, GOES])?;
+    let refused = refused(&rt, &playing);
+    println!(rt; "refused: {refused}")?;
     Ok(())
 }
 
 #[test]
 fn datagrams_that_decide_nothing(rt: HostRuntime) -> Result<(), Fail> {
-    play(&rt, rt.alloc(), &[DECIDE_NOTHING])?;
+    let mut playing = Playing::new(rt.alloc())?;
+    playing.play(&rt, &[DECIDE_NOTHING])?;
     Ok(())
 }
 
@@ -130,89 +137,147 @@ fn faults_have_numbers(rt: HostRuntime) {
     assert!(rt; RingFault::NoMemory.number() == 3);
 }
 
-/// Plays scripts on a new gateway. It fails unless all comes as they tell.
-fn play(rt: &impl Abort, alloc: Global, scripts: &[&[Event]]) -> Result<(), NoMemory> {
-    let mut gateway = Gateway::new(alloc)?;
-    for script in scripts {
-        for event in *script {
-            let comes = happens(alloc, &mut gateway, *event)?;
-            assert!(rt; comes);
+#[test]
+fn numbers_come_to_an_end(rt: HostRuntime) {
+    assert!(rt; next_number(0) == Ok(0));
+    assert!(rt; next_number(4_294_967_295) == Ok(4_294_967_295));
+    assert!(rt; next_number(4_294_967_296) == Err(RingFault::NoNumber));
+}
+
+/// What was refused in a call, once at most.
+fn refused(rt: &impl Abort, playing: &Playing) -> &'static str {
+    match (playing.refused_calls, playing.refused_texts) {
+        (0, 0) => "nothing",
+        (1, 0) => "a call",
+        (0, 1) => "a text",
+        _ => rt.abort(),
+    }
+}
+
+/// A gateway on which events are played. What is refused memory is asked for again once.
+#[derive(Drop)]
+struct Playing {
+    alloc: Global,
+    gateway: Gateway<PlainRows>,
+    /// How many calls of the gateway were refused memory, and how many texts of the test's own.
+    refused_calls: u32,
+    refused_texts: u32,
+}
+
+impl Playing {
+    fn new(alloc: Global) -> Result<Self, NoMemory> {
+        let (gateway, refused_calls) = match Gateway::new(alloc) {
+            Ok(gateway) => (gateway, 0),
+            Err(NoMemory) => (Gateway::new(alloc)?, 1),
+        };
+        Ok(Playing {
+            alloc,
+            gateway,
+            refused_calls,
+            refused_texts: 0,
+        })
+    }
+
+    /// Plays scripts. It fails unless all comes as they tell.
+    fn play(&mut self, rt: &impl Abort, scripts: &[&[Event]]) -> Result<(), NoMemory> {
+        for script in scripts {
+            for event in *script {
+                let comes = self.happens(*event)?;
+                assert!(rt; comes);
+            }
+        }
+        Ok(())
+    }
+
+    /// Whether an event comes out as it tells.
+    fn happens(&mut self, event: Event) -> Result<bool, NoMemory> {
+        match event {
+            Event::Rings(number) => Ok(self.ring() == Ok(number)),
+            Event::IsBusy => Ok(self.ring() == Err(RingFault::Busy)),
+            Event::Calling(text) => self.calls(text, 0, ""),
+            Event::CallingZeros(head, zeros, tail) => self.calls(head, zeros, tail),
+            Event::Called(text) => self.answers(text),
+            Event::Nothing(text) => Ok(!self.calls(text, 0, "")? && !self.answers(text)?),
+            Event::Tick(moment, calling, called) => self.gives(moment, calling, called),
+            Event::Ticks(moment, count) => self.all_give(moment, count),
+            Event::Delivers(moment) => self.delivers(moment),
+            Event::Waiting(count) => Ok(self.gateway.waiting() == count),
         }
     }
-    Ok(())
-}
 
-/// Whether an event comes out as it tells.
-fn happens(
-    alloc: Global,
-    gateway: &mut Gateway<PlainRows>,
-    event: Event,
-) -> Result<bool, NoMemory> {
-    match event {
-        Event::Rings(number) => Ok(gateway.ring(0) == Ok(number)),
-        Event::IsBusy => Ok(gateway.ring(0) == Err(RingFault::Busy)),
-        Event::Calling(text) => calls(alloc, gateway, text, 0, ""),
-        Event::CallingZeros(head, zeros, tail) => calls(alloc, gateway, head, zeros, tail),
-        Event::Called(text) => answers(alloc, gateway, text),
-        Event::Nothing(text) => {
-            Ok(!calls(alloc, gateway, text, 0, "")? && !answers(alloc, gateway, text)?)
+    fn ring(&mut self) -> Result<u32, RingFault> {
+        match self.gateway.ring(0) {
+            Err(RingFault::NoMemory) => {
+                self.refused_calls = self.refused_calls.saturating_add(1);
+                self.gateway.ring(0)
+            }
+            rung => rung,
         }
-        Event::Tick(moment, calling, called) => gives(alloc, gateway, moment, calling, called),
-        Event::Ticks(moment, count) => all_give(gateway, moment, count),
-        Event::Delivers(moment) => delivers(gateway, moment),
-        Event::Waiting(count) => Ok(gateway.waiting() == count),
     }
-}
 
-/// Whether a datagram of the calling leg decides a slot.
-fn calls(
-    alloc: Global,
-    gateway: &mut Gateway<PlainRows>,
-    head: &str,
-    zeros: u16,
-    tail: &str,
-) -> Result<bool, NoMemory> {
-    let datagram = zeros_between(alloc, head, zeros, tail)?;
-    gateway.from_calling(datagram.as_slice(), 0)
-}
-
-/// Whether a datagram of the called leg decides a slot.
-fn answers(alloc: Global, gateway: &mut Gateway<PlainRows>, text: &str) -> Result<bool, NoMemory> {
-    let datagram = zeros_between(alloc, text, 0, "")?;
-    gateway.from_called(datagram.as_slice(), 0)
-}
-
-/// Whether a tick gives datagrams that begin so, and ends no job.
-fn gives(
-    alloc: Global,
-    gateway: &mut Gateway<PlainRows>,
-    moment: u64,
-    calling: &str,
-    called: &str,
-) -> Result<bool, NoMemory> {
-    let calling = zeros_between(alloc, calling, 0, "")?;
-    let called = zeros_between(alloc, called, 0, "")?;
-    let given = gateway.tick(moment)?;
-    let both = begins(&given.calling, calling.as_slice())
-        && begins(&given.called, called.as_slice());
-    Ok(both && !given.ended())
-}
-
-/// Whether so many ticks each give a datagram on the called leg alone.
-fn all_give(gateway: &mut Gateway<PlainRows>, moment: u64, count: u64) -> Result<bool, NoMemory> {
-    let mut all = true;
-    for i in 0..count {
-        let given = gateway.tick(moment.saturating_add(i.saturating_mul(40)))?;
-        all = all && given.calling.is_none() && given.called.is_some();
+    fn tick(&mut self, moment: u64) -> Result<Given, NoMemory> {
+        if let Ok(given) = self.gateway.tick(moment) {
+            return Ok(given);
+        }
+        self.refused_calls = self.refused_calls.saturating_add(1);
+        self.gateway.tick(moment)
     }
-    Ok(all)
-}
 
-/// Whether a tick ends the job, which is told then and afterwards.
-fn delivers(gateway: &mut Gateway<PlainRows>, moment: u64) -> Result<bool, NoMemory> {
-    let before = gateway.report(0);
-    let Given { report, .. } = gateway.tick(moment)?;
-    Ok(before.is_none() && report == Some(DELIVERED) && gateway.report(0) == report)
+    /// Whether a datagram of the calling leg decides a slot.
+    fn calls(&mut self, head: &str, zeros: u16, tail: &str) -> Result<bool, NoMemory> {
+        let datagram = self.zeros_between(head, zeros, tail)?;
+        if let Ok(decided) = self.gateway.from_calling(datagram.as_slice(), 0) {
+            return Ok(decided);
+        }
+        self.refused_calls = self.refused_calls.saturating_add(1);
+        self.gateway.from_calling(datagram.as_slice(), 0)
+    }
+
+    /// Whether a datagram of the called leg decides a slot.
+    fn answers(&mut self, text: &str) -> Result<bool, NoMemory> {
+        let datagram = self.zeros_between(text, 0, "")?;
+        if let Ok(decided) = self.gateway.from_called(datagram.as_slice(), 0) {
+            return Ok(decided);
+        }
+        self.refused_calls = self.refused_calls.saturating_add(1);
+        self.gateway.from_called(datagram.as_slice(), 0)
+    }
+
+    /// Whether a tick gives datagrams that begin so, and ends no job.
+    fn gives(&mut self, moment: u64, calling: &str, called: &str) -> Result<bool, NoMemory> {
+        let calling = self.zeros_between(calling, 0, "")?;
+        let called = self.zeros_between(called, 0, "")?;
+        let given = self.tick(moment)?;
+        let both = begins(&given.calling, calling.as_slice())
+            && begins(&given.called, called.as_slice());
+        Ok(both && !given.ended())
+    }
+
+    /// Whether so many ticks each give a datagram on the called leg alone.
+    fn all_give(&mut self, moment: u64, count: u64) -> Result<bool, NoMemory> {
+        let mut all = true;
+        for i in 0..count {
+            let given = self.tick(moment.saturating_add(i.saturating_mul(40)))?;
+            all = all && given.calling.is_none() && given.called.is_some();
+        }
+        Ok(all)
+    }
+
+    /// Whether a tick ends the job, which is told then and afterwards.
+    fn delivers(&mut self, moment: u64) -> Result<bool, NoMemory> {
+        let before = self.gateway.report(0);
+        let Given { report, .. } = self.tick(moment)?;
+        Ok(before.is_none() && report == Some(DELIVERED) && self.gateway.report(0) == report)
+    }
+
+    /// So many zero octets between those of two hex texts.
+    fn zeros_between(&mut self, head: &str, zeros: u16, tail: &str) -> Result<Vec<u8>, AllocError> {
+        if let Ok(octets) = zeros_between(self.alloc, head, zeros, tail) {
+            return Ok(octets);
+        }
+        self.refused_texts = self.refused_texts.saturating_add(1);
+        zeros_between(self.alloc, head, zeros, tail)
+    }
 }
 
 /// Whether a datagram begins with these octets, or there is none where there are none of them.
