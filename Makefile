@@ -2,7 +2,7 @@
 RT ?= rt
 PROGRAM = crates/faxgate/out/faxgate
 
-.PHONY: all test memory bench
+.PHONY: all test memory bench tables
 
 # Proves and builds the program, and says where it lies.
 all:
@@ -26,6 +26,11 @@ memory: all
 	tools/refuse-test-memory crates/fax_call/out/fax_call_tests tests::memory::a_call_that_is_refused_memory
 	cd crates/fax_gateway && $(RT) test > /dev/null
 	tools/refuse-test-memory crates/fax_gateway/out/fax_gateway_tests tests::a_page_goes_through_the_gateway
+
+# Checks that the tables of code words are those that tools/code-tables makes of the words of ITU-T T.4. It wants
+# Python 3 and no `rt`.
+tables:
+	tools/code-tables check
 
 # Times the codec beside libtiff and spandsp: see bench/README.md. It wants a C compiler and both libraries.
 KIT_C = $(dir $(shell $(RT) doc))c
