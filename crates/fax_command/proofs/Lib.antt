@@ -1,3 +1,6 @@
 pub mod AnswerLemmas
+pub mod LineTexts
+pub mod PictureLemmas
+pub mod PutLemmas
 pub mod RowLineLemmas
 pub mod TellLemmas

@@ -1,8 +1,7 @@
 -- Lines of a text, and lines of numbers.
-use Rattle.std.proofs.Common.{◌≡◌, ◌≢◌, ℕ, zero, suc, ◌+◌, ◌<◌, ◌≤◌, ◌^◌, false, cond, List, [], ◌∷◌, ◌++◌, length, take, drop, get_or, map, sum, refl, sym, ◌∙◌, ap, ap₂, subst, arith, append_assoc, eq-eqb}
+use Rattle.std.proofs.Common.{◌≡◌, ◌≢◌, ℕ, zero, suc, ◌+◌, ◌<◌, ◌^◌, false, cond, List, [], ◌∷◌, length, take, drop, get_or, map, sum, refl, sym, ◌∙◌, ap, ap₂, subst, arith, eq-eqb}
 use Rattle.std.proofs.Math.Dec.{eqb}
 use Rattle.std.proofs.lemmas.Bool.{ne_eqb}
-use Rattle.std.proofs.lemmas.List.{take_more, length-take-le}
 use Rattle.std.proofs.lemmas.List.Elements.{All-from_recursion}
 use Rattle.std.proofs.lemmas.List.Splits.{slice_split_none, slice_split_at, join_with_byte-slice_split}
 use Rattle.std.proofs.lemmas.List.Sums.{sum_by-cons}
@@ -37,28 +36,6 @@ lines_of_whole (octet ∷ next ∷ text) some none =
     ∙ ap (onto_first octet) (lines_of_whole (next ∷ text) (omega arith) (λ k h. none (suc k) (omega arith)))
 
 -- ---- lines of numbers
-
--- one more number
-pub line_of-push : (numbers : List ℕ) (n : ℕ) → 0 < length numbers → line_of (numbers ++ n ∷ []) ≡ line_of numbers ++ (32 ∷ decimal n)
-line_of-push [] n some = absurd (omega arith)
-line_of-push (m ∷ []) n some = refl
-line_of-push (m ∷ k ∷ numbers) n some =
-    ap (λ text. decimal m ++ (32 ∷ text)) (line_of-push (k ∷ numbers) n (omega arith))
-    ∙ sym (append_assoc (decimal m) (32 ∷ line_of (k ∷ numbers)) (32 ∷ decimal n))
-
--- the same of the numbers before a place
-pub line_of-take_more : (numbers : List ℕ) (i : ℕ) → 0 < i → i < length numbers
-    → line_of (take (i + 1) numbers) ≡ line_of (take i numbers) ++ (32 ∷ decimal (get_or numbers i 0))
-line_of-take_more numbers i some within =
-    let few : length (take i numbers) ≡ i = length-take-le i numbers (omega arith) in
-    ap line_of (take_more numbers i 0 within) ∙ line_of-push (take i numbers) (get_or numbers i 0) (omega (arith, few))
-
--- and where it is the first
-pub line_of-take_first : (numbers : List ℕ) (i : ℕ) → i ≤ 0 → i < length numbers
-    → (line_of (take i numbers) ≡ []) × (line_of (take (i + 1) numbers) ≡ decimal (get_or numbers i 0))
-line_of-take_first [] i first within = absurd (omega arith)
-line_of-take_first (n ∷ numbers) zero first within = (refl, refl)
-line_of-take_first (n ∷ numbers) (suc i) first within = absurd (omega arith)
 
 -- numbers of 16 bits
 abbrev pub AreShort : List ℕ → Type 0

@@ -1,5 +1,5 @@
 -- Lines that tell rows, one after another.
-use Rattle.std.proofs.Common.{◌≡◌, ℕ, suc, ◌+◌, List, [], ◌∷◌, ◌++◌, length, replicate, sum, take, zero, Some, slice_get, add-one, refl, sym, ◌∙◌, ap, ap₂, subst, ◌<◌, ◌^◌, arith, append_assoc, append-nil, length-append}
+use Rattle.std.proofs.Common.{◌≡◌, ℕ, suc, ◌+◌, List, [], ◌∷◌, ◌++◌, length, replicate, sum, take, zero, Some, slice_get, add-one, refl, sym, ◌∙◌, ap, ap₂, subst, ◌<◌, ◌^◌, arith, append-nil, length-append}
 use Rattle.std.proofs.lemmas.Grind.{flat_map-append}
 use Rattle.std.proofs.lemmas.List.Elements.{recursion_from_All, All-from_recursion}
 use Rattle.std.specs.List.{All, AllByRecursion}
@@ -84,16 +84,9 @@ TellRows-empty (line ∷ lines) (row ∷ rows) told none = absurd (omega arith)
 
 -- ---- their text
 
-text_of_lines-push : (lines : List (List ℕ)) (line : List ℕ) → text_of_lines (lines ++ line ∷ []) ≡ text_of_lines lines ++ (line ++ 10 ∷ [])
+pub text_of_lines-push : (lines : List (List ℕ)) (line : List ℕ) → text_of_lines (lines ++ line ∷ []) ≡ text_of_lines lines ++ (line ++ 10 ∷ [])
 text_of_lines-push lines line =
     flat_map-append (λ l. l ++ 10 ∷ []) lines (line ∷ []) ∙ ap (λ text. text_of_lines lines ++ text) (append-nil (line ++ 10 ∷ []))
-
--- a line and its line feed
-pub text_of_lines-more : (lines : List (List ℕ)) (line old mid new : List ℕ) → old ≡ text_of_lines lines → mid ≡ old ++ line → new ≡ mid ++ 10 ∷ []
-    → new ≡ text_of_lines (lines ++ line ∷ [])
-text_of_lines-more lines line old mid new before told ended =
-    ended ∙ ap (λ text. text ++ 10 ∷ []) (told ∙ ap (λ text. text ++ line) before)
-    ∙ append_assoc (text_of_lines lines) line (10 ∷ []) ∙ sym (text_of_lines-push lines line)
 
 -- the rows before a place, and the one there
 pub take_more_at : (rows : List Elements) (i : ℕ) (row : Elements) → slice_get rows i ≡ Some row → take (i + 1) rows ≡ take i rows ++ row ∷ []

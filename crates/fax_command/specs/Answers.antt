@@ -1,5 +1,5 @@
 -- What `faxgate page` answers to an input (this project's profile).
-use Rattle.std.specs.Prelude.{◌≡◌, ℕ, ◌<◌, ◌⊎◌, Bool, true, false, not, List, [], ◌∷◌, ◌++◌, length, filter, All, codes, decimal, Result, Ok, Err}
+use Rattle.std.specs.Prelude.{◌≡◌, ℕ, ◌<◌, ◌⊎◌, Bool, not, List, [], ◌∷◌, ◌++◌, length, filter, All, codes, decimal, Result, Ok, Err}
 use Rattle.std.specs.Char.{is_ascii_whitespace}
 use Rattle.fax_bits.specs.Laws.{AreOctets}
 use Rattle.fax_bits.specs.Writing.{IsPadded}
@@ -9,13 +9,16 @@ use Rattle.hex.specs.Hex.{decode_of, encode_lower}
 use Rattle.hex.specs.declared.error.FromHexError.{FromHexError}
 use Rattle.fax_pagestore.specs.declared.fault.PageFault.{PageFault}
 use Rattle.fax_pagestore.specs.declared.fault.PageFault.TheVariants as page
-use Rattle.fax_command.specs.declared.answer.PageOptions.{PageOptions}
+use Rattle.fax_command.specs.declared.options.Output.{Output}
+use Rattle.fax_command.specs.declared.options.Output.TheVariants.{Runs, Picture, Octets}
+use Rattle.fax_command.specs.declared.options.PageOptions.{PageOptions}
 use Rattle.fax_command.specs.declared.input_fault.InputFault.{InputFault}
 use Rattle.fax_command.specs.declared.input_fault.InputFault.TheVariants.{Hex, Page, Row, NoMemory}
 use Rattle.fax_pagestore.specs.PageRows.{AreRows, most_rows}
 use Rattle.fax_pagestore.specs.PageTexts.{MeansRows}
 use Rattle.fax_pagestore.specs.PageFaults.{FailsPage}
 use Rattle.fax_pagestore.specs.WrittenPages.{WritesPage}
+use Rattle.fax_command.specs.Pictures.{IsPicture}
 use Rattle.fax_command.specs.RowLines.{TellRows, IsRowLine, text_of_lines, lines_of}
 
 -- a text, or what is wrong with the input
@@ -78,6 +81,12 @@ AnswersPage options input (Ok text) = (octets : List ℕ) × (rows : List Elemen
     × IsHexOf input octets × MeansRows (row_width options) options.coding octets rows × TellRows lines rows × (text ≡ text_of_lines lines)
 AnswersPage options input (Err fault) = RefusesPage options input fault
 
+-- the outcome for hex text, with `--pbm`: the picture of the rows that its octets mean, or what is wrong
+abbrev pub AnswersPicture : PageOptions → List ℕ → Outcome → Type 0
+AnswersPicture options input (Ok text) = (octets : List ℕ) × (rows : List Elements)
+    × IsHexOf input octets × MeansRows (row_width options) options.coding octets rows × IsPicture (row_width options) rows text
+AnswersPicture options input (Err fault) = RefusesPage options input fault
+
 -- ---- from rows to their page
 
 -- This line comes behind so many lines that tell rows of the width.
@@ -111,16 +120,17 @@ AnswersRows options input (Ok text) = (rows : List Elements) × (octets : List �
     × AreRows (row_width options) rows × TellRows (lines_of input) rows × HoldPage options octets rows × (text ≡ encode_lower octets ++ 10 ∷ [])
 AnswersRows options input (Err fault) = RefusesLines (row_width options) input fault
 
--- ---- either
+-- ---- each of them
 
--- what a run may come to, with `--back` (true) or without it
-abbrev pub AllowsWay : Bool → PageOptions → List ℕ → Outcome → Type 0
-AllowsWay false options input outcome = AnswersPage options input outcome
-AllowsWay true options input outcome = AnswersRows options input outcome
+-- what a run may come to, where this is wanted
+abbrev pub AllowsOutput : Output → PageOptions → List ℕ → Outcome → Type 0
+AllowsOutput Runs options input outcome = AnswersPage options input outcome
+AllowsOutput Picture options input outcome = AnswersPicture options input outcome
+AllowsOutput Octets options input outcome = AnswersRows options input outcome
 
 -- what a run with these options may come to
 abbrev pub Allows : PageOptions → List ℕ → Outcome → Type 0
-Allows options input outcome = AllowsWay options.back options input outcome
+Allows options input outcome = AllowsOutput options.output options input outcome
 
 -- The exit status and the text that a run may answer to an input, under its options.
 pub record Answers (options : PageOptions) (input : List ℕ) (status : ℕ) (text : List ℕ) : Type 0 where

@@ -1,5 +1,6 @@
 pub mod AnswerValues
 pub mod Answers
+pub mod Pictures
 pub mod RowLines
 pub mod Statuses
 pub mod Streams

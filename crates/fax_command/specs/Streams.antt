@@ -1,5 +1,6 @@
 -- What a read and a write leave of the streams (this project's profile).
-use Rattle.std.specs.Prelude.{ℕ, ◌+◌, ◌-◌, ◌^◌, min, Bool, true, Result, Ok, Err}
+use Rattle.std.specs.Prelude.{ℕ, ◌+◌, ◌-◌, ◌^◌, min, Bool, true, List, Option, Result, Ok, Err}
+use Rattle.std.specs.Io.KnownBytes.{Appends, append_known}
 use Rattle.fax_command.specs.declared.stream.ReadFault.{ReadFault}
 use Rattle.fax_command.specs.declared.stream.ReadFault.TheVariants.{Interrupted, Failed}
 
@@ -22,3 +23,8 @@ given_after_read given (Err fault) = given
 abbrev pub failed_after_write : {E : Type 0} → Bool → Result Unit E → Bool
 failed_after_write failed (Ok done) = failed
 failed_after_write failed (Err fault) = true
+
+-- A text was put into a sink, or behind the octets that wait to be written to it: what it holds and what waits,
+-- before and after.
+pub record Puts (old : Option (List ℕ)) (waiting : List ℕ) (new : Option (List ℕ)) (still_waiting text : List ℕ) : Type 0 where
+  pub grows : Appends (append_known old waiting) (append_known new still_waiting) text

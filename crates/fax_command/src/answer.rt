@@ -1,19 +1,27 @@
 //! What is answered to an input.
-ghost use Rattle.std.specs.Prelude.{ℕ, ◌≡◌, ◌++◌, ◌∷◌, [], List, length, IfOk, IfErr};
-ghost use Rattle.hex.specs.Hex.{encode_lower};
-ghost use Rattle.fax_bits.specs.Laws.{AreOctets};
+ghost use Rattle.std.specs.Prelude.{ℕ, ◌≡◌, Bool, List, length, Ok, Err, IfOk, IfErr, OnOk, false};
+ghost use Rattle.std.specs.Io.KnownBytes.{Appends};
+ghost use Rattle.fax_bits.specs.Writing.{IsPadded};
 ghost use Rattle.fax_pagestore.specs.PageRows.{AreRows};
+ghost use Rattle.fax_pagestore.specs.PageTexts.{MeansRows};
+ghost use Rattle.fax_pagestore.specs.WrittenPages.{WritesPage};
+ghost use Rattle.fax_runcodes.specs.Rows.{Elements};
 ghost use Rattle.fax_runcodes.specs.Widths.{elements_of};
-ghost use Rattle.fax_command.specs.RowLines.{TellRows, text_of_lines, lines_of};
-ghost use Rattle.fax_command.specs.Answers.{IsHexOf, without_white_space, RefusesPage, RefusesLines, HoldPage, AnswersPage, AnswersRows, Allows, Answers};
-ghost use Rattle.fax_command.specs.AnswerValues.{status_of_answer, text_of_answer, outcome_of};
+ghost use Rattle.fax_command.specs.RowLines.{TellRows, lines_of};
+ghost use Rattle.fax_command.specs.Answers.{IsHexOf, without_white_space, row_width, RefusesPage, RefusesLines, Allows, Answers};
+ghost use Rattle.fax_command.specs.AnswerValues.{status_of_answer, IsTextOf, IsAnswerText};
 ghost use Rattle.fax_command.specs.Statuses.{status_code};
+ghost use Rattle.fax_command.specs.Streams.{Puts, failed_after_write};
 
+use crate::gathering::{put, write_waiting};
 use crate::input_fault::InputFault;
-use crate::lines::{first_line, push_numbers, row_of_line};
+use crate::lines::{first_line, row_of_line};
+use crate::options::{Output, PageOptions};
+use crate::putting::{put_hex_line, put_lines, put_picture};
 use crate::status::Status;
-use fax_bits::NoMemory;
-use fax_pagestore::{Coding, Format, PackedRows, Page, PageFault, RowStore, read_page, write_page};
+use crate::stream::{Sink, WriteFault};
+use fax_bits::{NoMemory, Octets};
+use fax_pagestore::{PackedRows, Page, PageFault, RowStore, read_page, write_page};
 use fax_runcodes::Width;
 use hex::FromHexError;
 use std::alloc::Global;
@@ -24,40 +32,27 @@ const MOST_ROWS: u32 = 20_000;
 /// The line for want of memory, which takes none.
 const MEMORY_LINE: &[u8] = b"fault memory\n";
 
-/// What a run is told to do.
-#[derive(Clone, Copy, PartialEq, Eq, Debug)]
-pub struct PageOptions {
-    /// The width of the page's rows, and its resolution.
-    pub format: Format,
-    /// How its lines are coded.
-    pub coding: Coding,
-    /// The least number of bits that a line is written with, fill and EOL included.
-    pub least_bits: u32,
-    /// Reads rows and writes their page, in place of the other way round.
-    pub back: bool,
+/// What an input comes to where nothing is wrong with it. Its text is made while it is written.
+#[derive(Drop)]
+pub enum Product {
+    /// A page, of which the lines of run lengths are written.
+    Lines(Page<PackedRows>),
+    /// A page, of which the picture is written.
+    Picture(Page<PackedRows>),
+    /// Octets, which are written as hex text.
+    Hex(Octets),
 }
 
-/// What a run answers.
-#[derive(Debug, Drop)]
+/// What a run answers. What is wrong is known before anything is written.
+#[derive(Drop)]
 pub enum Answer {
-    /// The text of the page.
-    Done(Vec<u8>),
+    Done(Product),
     /// The line of what is wrong with the input.
     Fault(Vec<u8>),
     NoMemory,
 }
 
 impl Answer {
-    /// The text that is written. It takes no memory.
-    pub fn text(&self) -> &[u8]
-        ensures { result.now ≡ text_of_answer self.now }
-    {
-        match self {
-            Answer::Done(text) | Answer::Fault(text) => text.as_slice(),
-            Answer::NoMemory => MEMORY_LINE,
-        }
-    }
-
     /// The exit status.
     pub fn status(&self) -> Status
         ensures { status_code result ≡ status_of_answer self.now }
@@ -70,12 +65,58 @@ impl Answer {
     }
 }
 
+/// Writes the text of an answer, and hands it on.
+pub fn write_answer<O: Sink>(alloc: Global, sink: &mut O, answer: &Answer) -> Result<(), WriteFault>
+    ensures text { OnOk result ((text : List ℕ) × IsAnswerText answer.now text × Appends (O.contents sink.old) (O.contents sink.new) text) }
+    ensures failed { O.failed sink.new ≡ failed_after_write (O.failed sink.old) result }
+    ensures handed_on { OnOk result (O.held_back sink.new ≡ false) }
+{
+    let mut waiting = Vec::new(alloc);
+    put_answer(sink, &mut waiting, answer)?;
+    write_waiting(sink, &mut waiting)?;
+    sink.flush()
+}
+
+/// Puts the text of an answer.
+fn put_answer<O: Sink>(
+    sink: &mut O,
+    waiting: &mut Vec<u8>,
+    answer: &Answer,
+) -> Result<(), WriteFault>
+    ensures text { OnOk result ((text : List ℕ) × IsAnswerText answer.now text
+        × Puts (O.contents sink.old) waiting.old.items (O.contents sink.new) waiting.new.items text) }
+    ensures failed { O.failed sink.new ≡ failed_after_write (O.failed sink.old) result }
+{
+    match answer {
+        Answer::Done(product) => put_product(sink, waiting, product),
+        Answer::Fault(line) => put(sink, waiting, line.as_slice()),
+        Answer::NoMemory => put(sink, waiting, MEMORY_LINE),
+    }
+}
+
+/// Puts the text of what an input came to.
+fn put_product<O: Sink>(
+    sink: &mut O,
+    waiting: &mut Vec<u8>,
+    product: &Product,
+) -> Result<(), WriteFault>
+    ensures text { OnOk result ((text : List ℕ) × IsTextOf product.now text
+        × Puts (O.contents sink.old) waiting.old.items (O.contents sink.new) waiting.new.items text) }
+    ensures failed { O.failed sink.new ≡ failed_after_write (O.failed sink.old) result }
+{
+    match product {
+        Product::Lines(page) => put_lines(sink, waiting, page.rows()),
+        Product::Picture(page) => put_picture(sink, waiting, page),
+        Product::Hex(octets) => put_hex_line(sink, waiting, octets.as_slice()),
+    }
+}
+
 /// The answer to an input.
 pub fn answer_to(alloc: Global, input: Vec<u8>, options: PageOptions) -> Answer
-    ensures { Answers options input.items (status_of_answer result) (text_of_answer result) }
+    ensures { (text : List ℕ) → IsAnswerText result text → Answers options input.items (status_of_answer result) text }
 {
-    match outcome_for(alloc, input, options) {
-        Ok(text) => Answer::Done(text),
+    match product_of(alloc, input, options) {
+        Ok(product) => Answer::Done(product),
         Err(InputFault::NoMemory) => Answer::NoMemory,
         Err(fault) => match fault.line(alloc) {
             Ok(line) => Answer::Fault(line),
@@ -84,24 +125,31 @@ pub fn answer_to(alloc: Global, input: Vec<u8>, options: PageOptions) -> Answer
     }
 }
 
-/// The text for an input, or what is wrong with it.
-fn outcome_for(alloc: Global, input: Vec<u8>, options: PageOptions) -> Result<Vec<u8>, InputFault>
-    ensures { Allows options input.items (outcome_of result) }
+/// What an input comes to, or what is wrong with it.
+fn product_of(alloc: Global, input: Vec<u8>, options: PageOptions) -> Result<Product, InputFault>
+    ensures product { IfOk result (λ product. (text : List ℕ) → IsTextOf product text → Allows options input.items (Ok text)) }
+    ensures fault { IfErr result (λ fault. Allows options input.items (Err fault)) }
 {
-    if options.back {
-        page_of_lines(alloc, input.as_slice(), options)
-    } else {
-        lines_of_page(alloc, input, options)
+    match options.output {
+        Output::Runs => Ok(Product::Lines(page_of_hex(alloc, input, options)?)),
+        Output::Picture => Ok(Product::Picture(page_of_hex(alloc, input, options)?)),
+        Output::Octets => Ok(Product::Hex(octets_of_lines(alloc, input.as_slice(), options)?)),
     }
 }
 
-/// The lines of the rows of a page, whose octets are given as hex text.
-fn lines_of_page(alloc: Global, input: Vec<u8>, options: PageOptions) -> Result<Vec<u8>, InputFault>
-    ensures { AnswersPage options input.items (outcome_of result) }
+/// The page whose octets are given as hex text.
+fn page_of_hex(
+    alloc: Global,
+    input: Vec<u8>,
+    options: PageOptions,
+) -> Result<Page<PackedRows>, InputFault>
+    ensures page { IfOk result (λ page. (page.format ≡ options.format)
+        × (octets : List ℕ) × IsHexOf input.items octets × MeansRows (row_width options) options.coding octets page.rows) }
+    ensures fault { IfErr result (λ fault. RefusesPage options input.items fault) }
 {
     let octets = octets_of_hex(alloc, input)?;
-    let page = read_page::<PackedRows>(alloc, octets.as_slice(), options.format, options.coding)?;
-    Ok(lines_of_rows(alloc, page.rows())?)
+    let page = read_page(alloc, octets.as_slice(), options.format, options.coding)?;
+    Ok(page)
 }
 
 /// The octets of hex text, in which white space is passed over.
@@ -124,27 +172,17 @@ fn drop_white_space(text: &mut Vec<u8>)
     text.retain(|octet| !octet.is_ascii_whitespace());
 }
 
-/// The lines of rows.
-fn lines_of_rows<S: RowStore>(alloc: Global, rows: &S) -> Result<Vec<u8>, NoMemory>
-    ensures { IfOk result (λ text. (lines : List (List ℕ)) × TellRows lines (S.rows rows.now) × (text.items ≡ text_of_lines lines)) }
-{
-    let mut text = Vec::new(alloc);
-    for i in 0..rows.len() {
-        let runs = rows.row(i)?.runs()?;
-        push_numbers(&mut text, runs.as_slice())?;
-        text.push(b'\n')?;
-    }
-    Ok(text)
-}
-
-/// The hex text, with a line feed behind it, of the page of the rows that lines tell.
-fn page_of_lines(alloc: Global, input: &[u8], options: PageOptions) -> Result<Vec<u8>, InputFault>
-    ensures { AnswersRows options input.now (outcome_of result) }
+/// The octets of the page of the rows that lines tell.
+fn octets_of_lines(alloc: Global, input: &[u8], options: PageOptions) -> Result<Octets, InputFault>
+    ensures octets { IfOk result (λ octets. (rows : List Elements) × (bits : List Bool)
+        × AreRows (row_width options) rows × TellRows (lines_of input.now) rows
+        × WritesPage options.coding options.format.fine options.least_bits rows bits × IsPadded octets bits) }
+    ensures fault { IfErr result (λ fault. RefusesLines (row_width options) input.now fault) }
 {
     let rows: PackedRows = rows_of_lines(alloc, input, options.format.width)?;
     let page = Page::new(options.format, rows);
     let octets = write_page(alloc, &page, options.coding, options.least_bits)?;
-    Ok(hex_line(alloc, octets.as_slice())?)
+    Ok(octets)
 }
 
 /// The rows of a width that lines tell.
@@ -172,14 +210,4 @@ fn rows_of_lines<S: RowStore>(alloc: Global, input: &[u8], width: Width) -> Resu
         return Err(InputFault::Page(PageFault::Empty));
     }
     Ok(rows)
-}
-
-/// The hex text of octets, in lower case, with a line feed behind it.
-fn hex_line(alloc: Global, octets: &[u8]) -> Result<Vec<u8>, NoMemory>
-    ensures line { IfOk result (λ line. line.items ≡ encode_lower octets.now ++ 10 ∷ []) }
-    ensures octets { AreOctets octets.now }
-{
-    let mut line = hex::encode(alloc, octets)?.into_bytes();
-    line.push(b'\n')?;
-    Ok(line)
 }

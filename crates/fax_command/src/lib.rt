@@ -2,16 +2,19 @@
 #![tactic(auto)]
 
 mod answer;
+mod gathering;
 mod input;
 mod input_fault;
 mod lines;
+mod options;
+mod putting;
 mod run;
 mod status;
 mod stream;
 #[cfg(test)]
 mod tests;
 
-pub use answer::PageOptions;
+pub use options::{Output, PageOptions};
 pub use run::run_page;
 pub use status::Status;
 pub use stream::{

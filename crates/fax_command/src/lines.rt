@@ -34,20 +34,6 @@ fn line_feed(text: &[u8]) -> Option<usize>
     text.iter().position(|octet| *octet == b'\n')
 }
 
-/// Adds numbers in decimal, with one space between.
-pub fn push_numbers(text: &mut Vec<u8>, numbers: &[u16]) -> Result<(), NoMemory>
-    ensures { OnOk result (text.new.items ≡ text.old.items ++ line_of numbers.now) }
-{
-    let mut buffer = Buffer::new();
-    for (index, number) in numbers.iter().enumerate() {
-        if index > 0 {
-            text.push(b' ')?;
-        }
-        text.extend_from_slice(buffer.format(*number).as_bytes())?;
-    }
-    Ok(())
-}
-
 /// The number of which a text is the decimal form.
 fn number_of(text: &[u8]) -> Option<u16>
     ensures some { IfSome result (λ number. text.now ≡ decimal number) }

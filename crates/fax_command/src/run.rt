@@ -1,11 +1,11 @@
 //! A run of `faxgate page`, over any streams.
-ghost use Rattle.std.specs.Prelude.{ℕ, List, ◌≡◌, ◌≢◌, ◌+◌, ◌<◌, ◌≤◌, ◌⊎◌, true, false, length, IfSome, OnOk};
+ghost use Rattle.std.specs.Prelude.{ℕ, List, ◌≡◌, ◌≢◌, ◌+◌, ◌<◌, ◌≤◌, ◌⊎◌, true, false, length, IfSome};
 ghost use Rattle.std.specs.Io.KnownBytes.{Appends, Keeps};
 ghost use Rattle.fax_command.specs.Answers.{Answers};
-ghost use Rattle.fax_command.specs.Streams.{failed_after_write};
 
-use crate::answer::{Answer, PageOptions, answer_to};
+use crate::answer::{Answer, answer_to, write_answer};
 use crate::input::{InputError, read_input};
+use crate::options::PageOptions;
 use crate::status::Status;
 use crate::stream::{MOST_AT_ONCE, MOST_OCTETS, MOST_READS, Sink, Source, WriteFault};
 use std::alloc::Global;
@@ -46,18 +46,8 @@ pub fn run_page<I: Source, O: Sink>(
         Err(InputError::NoMemory) => Answer::NoMemory,
         Err(InputError::Failed | InputError::TooLong) => return Status::Stream.code(),
     };
-    match write_text(sink, answer.text()) {
+    match write_answer(alloc, sink, &answer) {
         Ok(()) => answer.status().code(),
         Err(WriteFault) => Status::Stream.code(),
     }
-}
-
-/// Writes a text, and hands it on.
-fn write_text<O: Sink>(sink: &mut O, text: &[u8]) -> Result<(), WriteFault>
-    ensures text { OnOk result (Appends (O.contents sink.old) (O.contents sink.new) text.now) }
-    ensures failed { O.failed sink.new ≡ failed_after_write (O.failed sink.old) result }
-    ensures handed_on { OnOk result (O.held_back sink.new ≡ false) }
-{
-    sink.write_all(text)?;
-    sink.flush()
 }

@@ -1,7 +1,7 @@
 //! Runs over streams in memory.
 mod samples;
 
-use crate::{PageOptions, StdSink, StdSource, run_page};
+use crate::{Output, PageOptions, StdSink, StdSource, run_page};
 use fax_bits::BitWriter;
 use fax_mhcode::write_line_1d;
 use fax_pagestore::{Coding, Format};
@@ -25,20 +25,29 @@ const READ: PageOptions = PageOptions {
     },
     coding: Coding::Mh,
     least_bits: 0,
-    back: false,
+    output: Output::Runs,
 };
 
 /// Writes a page, with no other option given.
-const BACK: PageOptions = PageOptions { back: true, ..READ };
+const BACK: PageOptions = PageOptions {
+    output: Output::Octets,
+    ..READ
+};
+
+/// Reads a page as a picture, with no other option given.
+const PICTURE: PageOptions = PageOptions {
+    output: Output::Picture,
+    ..READ
+};
 
 /// A page of a width and a coding, in the standard resolution.
-fn options(width: Width, coding: Coding, least_bits: u32, back: bool) -> PageOptions {
+fn options(width: Width, coding: Coding, least_bits: u32, output: Output) -> PageOptions {
     let format = Format { width, fine: false };
     PageOptions {
         format,
         coding,
         least_bits,
-        back,
+        output,
     }
 }
 
@@ -159,6 +168,58 @@ fn pages_give_rows(rt: HostRuntime) {
     ] {
         expect_run(&rt, READ, input.as_bytes(), 0, text.as_bytes());
     }
+}
+
+/// A picture of this head, of octets that are repeated.
+fn picture(alloc: Global, head: &[u8], octets: &[(u8, usize)]) -> Result<Vec<u8>, Fail> {
+    let mut text = Vec::from_slice(alloc, head)?;
+    for (octet, times) in octets {
+        for _ in 0..*times {
+            text.push(*octet)?;
+        }
+    }
+    Ok(text)
+}
+
+#[test]
+fn pages_give_pictures(rt: HostRuntime) -> Result<(), Fail> {
+    for (width, coding, page, head, octets) in [
+        (
+            Width::W1728,
+            Coding::Mh,
+            "0014d9a8008008008008008008",
+            "P4\n1728 1\n",
+            [(0, 216)].as_slice(),
+        ),
+        (
+            Width::W1728,
+            Coding::Mh,
+            "0013503286e0020020020020020020",
+            "P4\n1728 1\n",
+            [(0xff, 216)].as_slice(),
+        ),
+        (
+            Width::W1728,
+            Coding::Mr,
+            "001a6cd40044d6800c006003001800c006",
+            "P4\n1728 2\n",
+            [(0, 216), (0xe0, 1), (0, 215)].as_slice(),
+        ),
+        (
+            Width::W2432,
+            Coding::Mh,
+            "00101d35001001001001001001",
+            "P4\n2432 1\n",
+            [(0, 304)].as_slice(),
+        ),
+    ] {
+        let text = picture(rt.alloc(), head.as_bytes(), octets)?;
+        let options = options(width, coding, 0, Output::Picture);
+        expect_run(&rt, options, page.as_bytes(), 0, text.as_slice());
+    }
+    expect_run(&rt, PICTURE, b"ff", 1, b"fault 1 NoEol\n");
+    expect_run(&rt, PICTURE, b"0g", 1, b"fault hex\n");
+    Ok(())
 }
 
 #[test]
@@ -297,13 +358,13 @@ fn pages_of_each_width_and_coding(rt: HostRuntime) {
             "2432\n",
         ),
     ] {
-        let read = options(width, coding, 0, false);
+        let read = options(width, coding, 0, Output::Runs);
         expect_run(&rt, read, page.as_bytes(), 0, rows.as_bytes());
-        let back = options(width, coding, 0, true);
+        let back = options(width, coding, 0, Output::Octets);
         expect_run(&rt, back, rows.as_bytes(), 0, page.as_bytes());
     }
     let two_make_up_words = b"0014db30d4004004004004004004";
-    let wide = options(Width::W2432, Coding::Mh, 0, false);
+    let wide = options(Width::W2432, Coding::Mh, 0, Output::Runs);
     expect_run(&rt, wide, two_make_up_words, 0, b"2432\n");
     let no_black = b"0011c3760d00040040040040040040";
     expect_run(&rt, READ, no_black, 0, b"1728\n");
@@ -311,7 +372,7 @@ fn pages_of_each_width_and_coding(rt: HostRuntime) {
 
 #[test]
 fn lines_are_filled(rt: HostRuntime) {
-    let filled = options(Width::W1728, Coding::Mh, 48, true);
+    let filled = options(Width::W1728, Coding::Mh, 48, Output::Octets);
     let page = b"0014d9a80000001001001001001001\n";
     expect_run(&rt, filled, b"1728\n", 0, page);
     expect_run(&rt, READ, page, 0, b"1728\n");
@@ -319,9 +380,9 @@ fn lines_are_filled(rt: HostRuntime) {
 
 #[test]
 fn a_width_wants_its_rows(rt: HostRuntime) {
-    let wide = options(Width::W2048, Coding::Mr, 0, true);
+    let wide = options(Width::W2048, Coding::Mr, 0, Output::Octets);
     expect_run(&rt, wide, b"2048\n1728\n", 1, b"fault row 1\n");
-    let read = options(Width::W2048, Coding::Mh, 0, false);
+    let read = options(Width::W2048, Coding::Mh, 0, Output::Runs);
     expect_run(
         &rt,
         read,
@@ -360,7 +421,7 @@ fn reads_pages_of_other_encoders(rt: HostRuntime) {
             TWO_DIMENSIONAL_2432_RUNS,
         ),
     ] {
-        let read = options(width, coding, 0, false);
+        let read = options(width, coding, 0, Output::Runs);
         expect_run(&rt, read, page.as_bytes(), 0, rows.as_bytes());
     }
 }
