@@ -30,7 +30,7 @@ use std::alloc::Global;
 const MOST_ROWS: u32 = 20_000;
 
 /// The line for want of memory, which takes none.
-const MEMORY_LINE: &[u8] = b"fault memory\n";
+pub const MEMORY_LINE: &[u8] = b"fault memory\n";
 
 /// What an input comes to where nothing is wrong with it. Its text is made while it is written.
 #[derive(Drop)]

@@ -14,9 +14,13 @@ mod stream;
 #[cfg(test)]
 mod tests;
 
+pub use answer::MEMORY_LINE;
+pub use input::{InputError, read_input};
+pub use lines::first_line;
 pub use options::{Output, PageOptions};
 pub use run::run_page;
 pub use status::Status;
 pub use stream::{
     MOST_AT_ONCE, MOST_OCTETS, MOST_READS, ReadFault, Sink, Source, StdSink, StdSource, WriteFault,
+    write_text,
 };

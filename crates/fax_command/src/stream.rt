@@ -75,6 +75,16 @@ pub trait Sink {
         ensures handed_on { OnOk result (held_back self.new ≡ false) };
 }
 
+/// Writes a text, and hands it on.
+pub fn write_text<O: Sink>(sink: &mut O, text: &[u8]) -> Result<(), WriteFault>
+    ensures text { OnOk result (Appends (O.contents sink.old) (O.contents sink.new) text.now) }
+    ensures failed { O.failed sink.new ≡ failed_after_write (O.failed sink.old) result }
+    ensures handed_on { OnOk result (O.held_back sink.new ≡ false) }
+{
+    sink.write_all(text)?;
+    sink.flush()
+}
+
 /// A source of std's. Its counts stop at the greatest `u64`.
 #[derive(Drop)]
 pub struct StdSource<R> {
