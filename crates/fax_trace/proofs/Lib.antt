@@ -1,0 +1,4 @@
+pub mod AnswerLemmas
+pub mod PlayLemmas
+pub mod ScriptLemmas
+pub mod TextLemmas

@@ -1,0 +1,53 @@
+use Rattle.std.proofs.Common.{[], ◌∷◌, ◌++◌, refl, arith, sym, ◌∙◌, ap, append_assoc, length-append}
+use Rattle.fax_command.specs.RowLines.{lines_of}
+use Rattle.fax_trace.specs.Playing.{nothing_played}
+use Rattle.fax_trace.proofs.PlayLemmas.{PlaysAll-push}
+use Rattle.fax_trace.proofs.ScriptLemmas.{TellEvents-push}
+use Rattle.fax_trace.proofs.TextLemmas.{text_of_none}
+use Rattle.fax_trace.proofs.answer.play_lines.Goals as goal
+
+pub loop-line-init : goal.loop-line-init
+loop-line-init c = record {
+  before = [];
+  lines_are = refl;
+  so_many = refl;
+  short = omega arith;
+  events = [];
+  tell = tt;
+  played = λ writes written. (nothing_played, refl, c.requires writes);
+}
+
+pub loop-line-preserved : goal.loop-line-preserved
+loop-line-preserved c =
+    let so_far = c.loop-line.invariant in
+    let line = c.in-Some.line.now in
+    let event = c.in-Some-2.event in
+    let told = rw c.in-Some-2.is at c.in_ok-event.ensures.some in
+    record {
+      before = so_far.before ++ line ∷ [];
+      lines_are = so_far.lines_are ∙ ap (λ rest. so_far.before ++ rest) c.in-Some.ensures.lines ∙ sym (append_assoc so_far.before (line ∷ []) (lines_of c.in-Some.behind.now));
+      so_many = omega (arith, length-append so_far.before (line ∷ []), so_far.so_many);
+      short = omega (arith, so_far.short, c.in-Some.ensures.shorter);
+      events = so_far.events ++ event ∷ [];
+      tell = TellEvents-push so_far.before so_far.events line event so_far.tell told;
+      played = λ writes written.
+          let p = so_far.played writes written in
+          let next = c.in_ok-play.ensures.played writes p.0 written p.2 in
+          (next.new, PlaysAll-push nothing_played so_far.events event p.0 next.new p.1 next.plays, next.is_playing);
+    }
+
+pub returns : goal.returns
+unfolding lines_of
+returns c =
+    let so_far = c.loop-line.invariant in
+    record {
+      before = so_far.before;
+      others = [];
+      lines_are = so_far.lines_are ∙ ap (λ rest. so_far.before ++ rest) (ap lines_of c.in_default.ensures.none);
+      events = so_far.events;
+      tell = so_far.tell;
+      ends = refl;
+      told = λ writes written.
+          let p = so_far.played writes written in
+          record { played = p.0; is_played = p.1; is_trace = p.2.reached.is_trace; text_is = text_of_none p.0.lines _ p.2.told };
+    }

@@ -1,0 +1,21 @@
+use Rattle.std.proofs.Common.{◌≡◌, ℕ, List, ◌++◌, codes, ◌∙◌, ap}
+use Rattle.fax_trace.specs.Kept.{status_of_answer, text_of_answer}
+use Rattle.fax_trace.proofs.AnswerLemmas.{Answers-read, Answers-unread}
+use Rattle.fax_trace.proofs.run.run_trace.Goals as goal
+use Rattle.fax_trace.proofs.run.run_trace.Goals.{in-Ok, in-Err-NoMemory}
+
+pub returns-in-Ok-write-clause-answers : goal.returns-in-Ok-write-clause-answers
+returns-in-Ok-write-clause-answers g c = λ other.
+    let status : c.code-in-Ok-write.result ≡ status_of_answer c.match-read_input.answer = c.code-in-Ok-write.ensures ∙ c.status.ensures in
+    let told = g.I.Source.remaining c.args.source.now in
+    let old = g.O.Sink.contents c.args.sink.now in
+    let new = g.O.Sink.contents c.write.new.sink in
+    elim c.match-read_input.branch [
+      | in-Ok w ↦
+          let answers = rw w.as_slice.ensures.value at w.answer_to-answer.ensures in
+          Answers-read told _ _ _ _ _ old new w.in-Ok.ensures.whole answers
+          (status ∙ ap status_of_answer w.answer-is) (ap text_of_answer w.answer-is) c.in-Ok-write.ensures.text
+      | in-Err-NoMemory w ↦
+          Answers-unread told _ _ old new (status ∙ ap status_of_answer w.answer-is)
+          (ap text_of_answer w.answer-is ∙ ap (λ (text : List ℕ). text ++ codes "fault memory\n") w.new.ensures.items) c.in-Ok-write.ensures.text
+    ]

@@ -1,0 +1,54 @@
+-- What `faxgate trace` answers to an input. (This project's profile.)
+use Rattle.std.specs.Prelude.{◌≡◌, ℕ, ◌+◌, List, [], ◌∷◌, ◌++◌, length, codes, decimal, Result, Ok, Err}
+use Rattle.fax_call.specs.Writings.{IsWriting, Writing}
+use Rattle.fax_gateway.specs.Traces.{IsTrace}
+use Rattle.fax_command.specs.RowLines.{lines_of, text_of_lines}
+use Rattle.fax_trace.specs.declared.event.ScriptEvent.{ScriptEvent}
+use Rattle.fax_trace.specs.declared.script_fault.ScriptFault.{ScriptFault}
+use Rattle.fax_trace.specs.declared.script_fault.ScriptFault.TheVariants.{Line, NoMemory}
+use Rattle.fax_trace.specs.Scripts.{TellsEvent, TellEvents}
+use Rattle.fax_trace.specs.Playing.{Played, PlaysAll, nothing_played}
+
+-- how playing ends: all of a script was played, or there is a fault
+abbrev pub Outcome : Type 0
+Outcome = Result Unit ScriptFault
+
+abbrev pub status_of : Outcome → ℕ
+status_of (Ok done) = 0
+status_of (Err (Line number)) = 1
+status_of (Err NoMemory) = 3
+
+-- the line that a fault has behind the others
+abbrev pub fault_lines : Outcome → List (List ℕ)
+fault_lines (Ok done) = []
+fault_lines (Err (Line number)) = (codes "fault line " ++ decimal number) ∷ []
+fault_lines (Err NoMemory) = codes "fault memory" ∷ []
+
+-- It ends behind so many lines, before the others: where there are none; at the first that tells no event, numbered from 1;
+-- or where memory is wanted and refused.
+abbrev pub Ends : (behind : ℕ) → (others : List (List ℕ)) → Outcome → Type 0
+Ends behind others (Ok done) = others ≡ []
+Ends behind others (Err (Line number)) =
+    (number ≡ behind + 1) × (line : List ℕ) × (more : List (List ℕ)) × (others ≡ line ∷ more) × ((event : ScriptEvent) → TellsEvent line event → ⊥)
+Ends behind others (Err NoMemory) = Unit {0}
+
+-- A new gateway answers the events by a trace, where this function gives the texts of pages, and the text has the lines that
+-- are told of them, and these last ones behind.
+pub record AreTold (writes : Writing) (events : List ScriptEvent) (last : List (List ℕ)) (text : List ℕ) : Type 0 where
+  pub played : Played
+  pub is_played : PlaysAll nothing_played events played
+  pub is_trace : IsTrace writes played.trace
+  pub text_is : text ≡ text_of_lines (played.lines ++ last)
+
+-- The exit status and the text that a run may answer to an input: the events of its lines are played, up to where that
+-- ends, and told, with the line of a fault that ends it; and that is so whatever gives the texts of pages.
+pub record Answers (input : List ℕ) (status : ℕ) (text : List ℕ) : Type 0 where
+  pub before : List (List ℕ)
+  pub others : List (List ℕ)
+  pub lines_are : lines_of input ≡ before ++ others
+  pub events : List ScriptEvent
+  pub tell : TellEvents before events
+  pub outcome : Outcome
+  pub ends : Ends (length before) others outcome
+  pub status_is : status ≡ status_of outcome
+  pub told : (writes : Writing) → IsWriting writes → AreTold writes events (fault_lines outcome) text

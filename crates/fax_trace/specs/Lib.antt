@@ -1,0 +1,5 @@
+pub mod Answers
+pub mod Kept
+pub mod Playing
+pub mod Scripts
+pub mod Told

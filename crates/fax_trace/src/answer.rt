@@ -1,0 +1,100 @@
+//! What is answered to a script.
+ghost use Rattle.std.specs.Prelude.{ℕ, ◌≡◌, ◌++◌, false, List, Err, OnOk, OnErr};
+ghost use Rattle.std.specs.Io.KnownBytes.{Appends};
+ghost use Rattle.fax_command.specs.Statuses.{status_code};
+ghost use Rattle.fax_command.specs.Streams.{failed_after_write};
+ghost use Rattle.fax_command.specs.RowLines.{text_of_lines};
+ghost use Rattle.fax_trace.specs.Answers.{Answers, fault_lines};
+ghost use Rattle.fax_trace.specs.Kept.{HasPlayed, IsNew, status_of_answer, text_of_answer};
+
+use crate::event::event_of_line;
+use crate::player::Player;
+use crate::script_fault::ScriptFault;
+use crate::told::numbered_line;
+use fax_bits::NoMemory;
+use fax_command::{MEMORY_LINE, Sink, Status, WriteFault, first_line, write_text};
+use std::alloc::Global;
+
+/// What a run answers: the lines of what was played, with the line of the fault that ended it.
+#[derive(Drop)]
+pub(crate) enum Answer {
+    Done(Vec<u8>),
+    Fault(Vec<u8>),
+    /// Memory was wanted. The line that tells it is not among these: it takes none.
+    NoMemory(Vec<u8>),
+}
+
+impl Answer {
+    /// Writes the text, and hands it on. It takes no memory.
+    pub fn write<O: Sink>(&self, sink: &mut O) -> Result<(), WriteFault>
+        ensures text { OnOk result (Appends (O.contents sink.old) (O.contents sink.new) (text_of_answer self.now)) }
+        ensures failed { O.failed sink.new ≡ failed_after_write (O.failed sink.old) result }
+        ensures handed_on { OnOk result (O.held_back sink.new ≡ false) }
+    {
+        match self {
+            Answer::Done(text) | Answer::Fault(text) => write_text(sink, text.as_slice()),
+            Answer::NoMemory(text) => {
+                sink.write_all(text.as_slice())?;
+                write_text(sink, MEMORY_LINE)
+            }
+        }
+    }
+
+    /// The exit status.
+    pub fn status(&self) -> Status
+        ensures { status_code result ≡ status_of_answer self.now }
+    {
+        match self {
+            Answer::Done(_) => Status::Done,
+            Answer::Fault(_) => Status::Fault,
+            Answer::NoMemory(_) => Status::NoMemory,
+        }
+    }
+}
+
+/// The answer to a script.
+pub(crate) fn answer_to(alloc: Global, script: &[u8]) -> Answer
+    ensures { Answers script.now (status_of_answer result) (text_of_answer result) }
+{
+    let Ok(mut player) = Player::new(alloc) else {
+        return Answer::NoMemory(Vec::new(alloc));
+    };
+    let outcome = play_lines(alloc, &mut player, script);
+    let mut text = player.into_text();
+    match outcome {
+        Ok(()) => Answer::Done(text),
+        Err(ScriptFault::NoMemory) => Answer::NoMemory(text),
+        Err(ScriptFault::Line(number)) => match push_fault(alloc, &mut text, number) {
+            Ok(()) => Answer::Fault(text),
+            Err(NoMemory) => Answer::NoMemory(text),
+        },
+    }
+}
+
+/// Plays the lines of a script, up to the first that has a fault.
+fn play_lines(alloc: Global, player: &mut Player, script: &[u8]) -> Result<(), ScriptFault>
+    requires { IsNew player.old }
+    ensures { HasPlayed script.now result player.new.text.items }
+{
+    let mut rest = script;
+    let mut number = 0;
+    while let Some((line, behind)) = first_line(rest) {
+        number += 1;
+        let Some(event) = event_of_line(alloc, line)? else {
+            return Err(ScriptFault::Line(number));
+        };
+        player.play(event)?;
+        rest = behind;
+    }
+    Ok(())
+}
+
+/// Adds the line that tells a fault at the line of this number. An `Err` leaves the text as it was.
+fn push_fault(alloc: Global, text: &mut Vec<u8>, number: usize) -> Result<(), NoMemory>
+    ensures ok { OnOk result (text.new.items ≡ text.old.items ++ text_of_lines (fault_lines (Err (ScriptFault.Line number)))) }
+    ensures err { OnErr result (text.new.items ≡ text.old.items) }
+{
+    let line = numbered_line(alloc, b"fault line ", number)?;
+    text.extend_from_slice(line.as_slice())?;
+    Ok(())
+}

@@ -1,0 +1,78 @@
+//! Events of a script, each told by a line.
+ghost use Rattle.std.specs.Prelude.{ℕ, ◌≡◌, ◌≢◌, ◌++◌, ◌∷◌, List, Ok, IfOk, IfSome, IfNone};
+ghost use Rattle.hex.specs.Hex.{decode_of};
+ghost use Rattle.fax_trace.specs.Scripts.{TellsEvent, TellsMoment};
+
+use fax_bits::{NoMemory, Octets};
+use hex::FromHexError;
+use std::alloc::Global;
+
+/// What comes to a gateway.
+#[derive(Drop)]
+pub(crate) enum ScriptEvent {
+    /// `R`: it rings.
+    Ring,
+    /// `A` and hex text: the octets of a datagram that came on the calling leg.
+    FromCalling(Octets),
+    /// `B` and hex text: the octets of a datagram that came on the called leg.
+    FromCalled(Octets),
+    /// `T` and a number: time goes on to this moment, in milliseconds.
+    Tick(u64),
+}
+
+/// The event that a line tells.
+pub(crate) fn event_of_line(alloc: Global, line: &[u8]) -> Result<Option<ScriptEvent>, NoMemory>
+    ensures some { IfOk result (λ found. IfSome found (λ event. TellsEvent line.now event)) }
+    ensures none { IfOk result (λ found. IfNone found ((event : ScriptEvent) → TellsEvent line.now event → ⊥)) }
+{
+    if line == b"R".as_slice() {
+        return Ok(Some(ScriptEvent::Ring));
+    }
+    if let Some(text) = behind(line, b'A') {
+        return Ok(octets_of(alloc, text)?.map(ScriptEvent::FromCalling));
+    }
+    if let Some(text) = behind(line, b'B') {
+        return Ok(octets_of(alloc, text)?.map(ScriptEvent::FromCalled));
+    }
+    match behind(line, b'T') {
+        Some(digits) => Ok(moment_of(digits).map(ScriptEvent::Tick)),
+        None => Ok(None),
+    }
+}
+
+/// What stands behind a letter and a space, with which a line begins.
+fn behind(line: &[u8], letter: u8) -> Option<&[u8]>
+    ensures some { IfSome result (λ text. line.now ≡ letter ∷ 32 ∷ text.now) }
+    ensures none { IfNone result ((text : List ℕ) → line.now ≢ letter ∷ 32 ∷ text) }
+{
+    match line {
+        [first, b' ', text @ ..] if *first == letter => Some(text),
+        _ => None,
+    }
+}
+
+/// The octets of hex text, in either case.
+fn octets_of(alloc: Global, text: &[u8]) -> Result<Option<Octets>, NoMemory>
+    ensures some { IfOk result (λ found. IfSome found (λ octets. decode_of text.now ≡ Ok octets)) }
+    ensures none { IfOk result (λ found. IfNone found ((octets : List ℕ) → decode_of text.now ≢ Ok octets)) }
+{
+    match hex::decode(alloc, text) {
+        Ok(octets) => Ok(Some(Octets::from_vec(octets))),
+        Err(FromHexError::OutOfMemory) => Err(NoMemory),
+        Err(_) => Ok(None),
+    }
+}
+
+/// The moment that one or more decimal digits tell.
+fn moment_of(digits: &[u8]) -> Option<u64>
+    ensures some { IfSome result (λ moment. TellsMoment digits.now moment) }
+    ensures none { IfNone result ((moment : ℕ) → TellsMoment digits.now moment → ⊥) }
+{
+    let Ok(text) = std::str::from_utf8(digits) else {
+        return None;
+    };
+    if text.starts_with('+') {
+        return None;
+    }
+    text.parse::<u64>().ok()
+}

@@ -1,0 +1,83 @@
+//! Lines that tell what a gateway answers.
+ghost use Rattle.std.specs.Prelude.{ℕ, ◌≡◌, ◌++◌, ◌∷◌, [], List, codes, decimal, IfOk, OnOk, string_bytes};
+ghost use Rattle.fax_command.specs.RowLines.{text_of_lines};
+ghost use Rattle.fax_gateway.specs.Reached.{given_shown};
+ghost use Rattle.fax_trace.specs.Told.{datagram_lines, given_lines, job_line, job_lines, resolution_name};
+
+use fax_bits::{NoMemory, Octets};
+use fax_gateway::Given;
+use fax_jobs::Report;
+use itoa::{Buffer, Integer};
+use std::alloc::{AllocError, Global};
+
+/// A line of words and a number.
+pub(crate) fn numbered_line<I: Integer>(
+    alloc: Global,
+    words: &[u8],
+    number: I,
+) -> Result<Vec<u8>, NoMemory>
+    ensures { IfOk result (λ text. text.items ≡ words.now ++ (I.text number ++ 10 ∷ [])) }
+{
+    let mut buffer = Buffer::new();
+    let mut text = Vec::from_slice(alloc, words)?;
+    text.extend_from_slice(buffer.format(number).as_bytes())?;
+    text.push(b'\n')?;
+    Ok(text)
+}
+
+/// The lines of what a tick gives.
+pub(crate) fn lines_of_given(alloc: Global, given: &Given) -> Result<Vec<u8>, NoMemory>
+    ensures { IfOk result (λ text. text.items ≡ text_of_lines (given_lines (given_shown given.now))) }
+{
+    let mut text = Vec::new(alloc);
+    push_datagram(alloc, &mut text, b"a ", &given.calling)?;
+    push_datagram(alloc, &mut text, b"b ", &given.called)?;
+    push_job(alloc, &mut text, &given.report)?;
+    Ok(text)
+}
+
+/// Adds the line of a datagram, where there is one: a letter and a space, and its octets as hex text, in lower case.
+fn push_datagram(
+    alloc: Global,
+    text: &mut Vec<u8>,
+    letter: &[u8],
+    datagram: &Option<Octets>,
+) -> Result<(), NoMemory>
+    ensures { OnOk result (text.new.items ≡ text.old.items ++ text_of_lines (datagram_lines letter.now datagram.now)) }
+{
+    if let Some(octets) = datagram {
+        let digits = hex::encode(alloc, octets.as_slice())?;
+        text.extend_from_slice(letter)?;
+        text.extend_from_slice(digits.as_bytes())?;
+        text.push(b'\n')?;
+    }
+    Ok(())
+}
+
+/// Adds the line of a job that ended, where one did.
+fn push_job(alloc: Global, text: &mut Vec<u8>, report: &Option<Report>) -> Result<(), NoMemory>
+    ensures { OnOk result (text.new.items ≡ text.old.items ++ text_of_lines (job_lines report.now)) }
+{
+    if let Some(report) = report {
+        let line = line_of_job(alloc, report)?;
+        text.extend_from_slice(line.as_bytes())?;
+        text.push(b'\n')?;
+    }
+    Ok(())
+}
+
+/// The line of a job that ended, without its line feed.
+fn line_of_job(alloc: Global, report: &Report) -> Result<String, AllocError>
+    ensures { IfOk result (λ line. string_bytes line ≡ job_line report.now) }
+{
+    let Report {
+        call,
+        format,
+        pages,
+        delivered,
+        outcome,
+    } = *report;
+    let width = format.width.elements();
+    let resolution = if format.fine { "fine" } else { "standard" };
+    format!(in alloc; "job {call} {width} {resolution} {pages} {delivered} {outcome}")
+}
