@@ -7,33 +7,43 @@ use fax_runcodes::Width;
 use std::alloc::{AllocError, Global};
 use std::convert::AsStr;
 
+/// What is asked for.
+#[derive(Clone, Copy, PartialEq, Eq, Debug)]
+pub enum Request {
+    /// The rows of a page, or the page of rows.
+    Page(PageOptions),
+    /// What a gateway answers to a script.
+    Trace,
+}
+
 /// What the words of a command line ask for, of which the first is the program's name. An `Err` is the
 /// help that was asked for, or what is wrong.
-pub fn page_options<'a, S: AsStr>(alloc: Global, words: &'a [S]) -> Result<PageOptions, Error> {
+pub fn request_of<'a, S: AsStr>(alloc: Global, words: &'a [S]) -> Result<Request, Error> {
     let matches = faxgate_command(alloc)?.try_get_matches_from(words)?;
-    Ok(options_of(matches.subcommand_matches("page")))
+    match matches.subcommand_matches("page") {
+        Some(page) => Ok(Request::Page(options_of(page))),
+        None => Ok(Request::Trace),
+    }
 }
 
 /// The options that were given to `faxgate page`, and the defaults of those that were not.
-fn options_of(page: Option<&ArgMatches<'_>>) -> PageOptions {
+fn options_of(page: &ArgMatches<'_>) -> PageOptions {
     let format = Format {
-        width: match page.and_then(|page| page.get_one::<u16>("width")) {
+        width: match page.get_one::<u16>("width") {
             Some(2432) => Width::W2432,
             Some(2048) => Width::W2048,
             _ => Width::W1728,
         },
-        fine: page.is_some_and(|page| page.get_flag("fine")),
+        fine: page.get_flag("fine"),
     };
     PageOptions {
         format,
-        coding: match page.and_then(|page| page.get_str("coding")) {
+        coding: match page.get_str("coding") {
             Some("mr") => Coding::Mr,
             _ => Coding::Mh,
         },
-        least_bits: page
-            .and_then(|page| page.get_one::<u32>("least"))
-            .unwrap_or(0),
-        back: page.is_some_and(|page| page.get_flag("back")),
+        least_bits: page.get_one::<u32>("least").unwrap_or(0),
+        back: page.get_flag("back"),
     }
 }
 
@@ -41,9 +51,17 @@ fn options_of(page: Option<&ArgMatches<'_>>) -> PageOptions {
 fn faxgate_command<'a>(alloc: Global) -> Result<Command<'a>, AllocError> {
     Command::new(alloc, "faxgate")
         .bin_name("faxgate")?
-        .about("Reads and writes the pages of a fax gateway")
+        .about("Reads and writes the pages of a fax gateway, and plays what came to one")
         .subcommand_required(true)
-        .subcommand(page_command(alloc)?)
+        .subcommand(page_command(alloc)?)?
+        .subcommand(trace_command(alloc))
+}
+
+/// The command line of `faxgate trace`.
+fn trace_command<'a>(alloc: Global) -> Command<'a> {
+    Command::new(alloc, "trace").about(
+        "Play a script on a new gateway, and print what it answers. Lines of a script: R (it rings), A HEX and B HEX (a datagram came on the calling or on the called leg), T MS (time goes on to a moment)",
+    )
 }
 
 /// The command line of `faxgate page`.

@@ -1,4 +1,5 @@
-//! `faxgate page` prints the rows of a page (ITU-T T.4), or the page of rows.
+//! `faxgate page` prints the rows of a page (ITU-T T.4), or the page of rows; `faxgate trace` prints what a gateway
+//! answers to a script of what came to it.
 #![tactic(auto)]
 
 mod command_line;
@@ -6,8 +7,9 @@ mod command_line;
 mod tests;
 
 use clap::error::ErrorKind;
-use command_line::page_options;
+use command_line::{Request, request_of};
 use fax_command::{Status, StdSink, StdSource, run_page};
+use fax_trace::run_trace;
 use std::process::ExitCode;
 use std::rt::Env;
 use std::{env, io};
@@ -22,13 +24,15 @@ fn run_words<R: Print + Eprint + Input + Env + AllocGlobal>(rt: &R) -> u8 {
         Ok(words) => words,
         Err(error) => return tell_unread_words(rt, error).code(),
     };
-    match page_options(rt.alloc(), words.as_slice()) {
-        Ok(options) => {
-            let mut source = StdSource::new(rt.reader());
-            let mut sink = StdSink::new(io::writer(rt));
-            run_page(rt.alloc(), &mut source, &mut sink, options)
-        }
-        Err(error) => tell_refusal(rt, &error).code(),
+    let request = match request_of(rt.alloc(), words.as_slice()) {
+        Ok(request) => request,
+        Err(error) => return tell_refusal(rt, &error).code(),
+    };
+    let mut source = StdSource::new(rt.reader());
+    let mut sink = StdSink::new(io::writer(rt));
+    match request {
+        Request::Page(options) => run_page(rt.alloc(), &mut source, &mut sink, options),
+        Request::Trace => run_trace(rt.alloc(), &mut source, &mut sink),
     }
 }
 

@@ -1,5 +1,5 @@
 //! The words of the command line.
-use crate::command_line::page_options;
+use crate::command_line::{Request, request_of};
 use clap::error::ErrorKind;
 use fax_command::PageOptions;
 use fax_pagestore::{Coding, Format};
@@ -56,13 +56,17 @@ fn words_are_read(rt: HostRuntime) {
             READ,
         ),
     ] {
-        match page_options(rt.alloc(), words) {
-            Ok(found) => assert_eq!(rt; found, wanted, "at {words:?}"),
+        match request_of(rt.alloc(), words) {
+            Ok(found) => assert_eq!(rt; found, Request::Page(wanted), "at {words:?}"),
             Err(_) => assert!(rt; false, "at {words:?}"),
         }
     }
-    match page_options(rt.alloc(), &["faxgate", "page", "--fine"]) {
-        Ok(found) => assert!(rt; found.format.fine),
+    match request_of(rt.alloc(), &["faxgate", "page", "--fine"]) {
+        Ok(Request::Page(found)) => assert!(rt; found.format.fine),
+        _ => assert!(rt; false),
+    }
+    match request_of(rt.alloc(), &["faxgate", "trace"]) {
+        Ok(found) => assert_eq!(rt; found, Request::Trace),
         Err(_) => assert!(rt; false),
     }
 }
@@ -76,6 +80,14 @@ fn wrong_words_are_refused(rt: HostRuntime) {
         ),
         (
             ["faxgate", "page", "--forth"].as_slice(),
+            ErrorKind::UnknownArgument,
+        ),
+        (
+            ["faxgate", "trace", "--help"].as_slice(),
+            ErrorKind::DisplayHelp,
+        ),
+        (
+            ["faxgate", "trace", "--fine"].as_slice(),
             ErrorKind::UnknownArgument,
         ),
         (
@@ -95,7 +107,7 @@ fn wrong_words_are_refused(rt: HostRuntime) {
             ErrorKind::ValueValidation,
         ),
     ] {
-        match page_options(rt.alloc(), words) {
+        match request_of(rt.alloc(), words) {
             Ok(_) => assert!(rt; false, "at {words:?}"),
             Err(error) => assert_eq!(rt; error.kind(), kind, "at {words:?}"),
         }
