@@ -1,7 +1,7 @@
 //! The command line.
 use clap::builder::ValueParser;
 use clap::{Arg, ArgAction, ArgMatches, Command, Error};
-use fax_command::PageOptions;
+use fax_command::{Output, PageOptions};
 use fax_pagestore::{Coding, Format};
 use fax_runcodes::Width;
 use std::alloc::{AllocError, Global};
@@ -43,7 +43,18 @@ fn options_of(page: &ArgMatches<'_>) -> PageOptions {
             _ => Coding::Mh,
         },
         least_bits: page.get_one::<u32>("least").unwrap_or(0),
-        back: page.get_flag("back"),
+        output: output_of(page),
+    }
+}
+
+/// What is to be made of the input.
+fn output_of(page: &ArgMatches<'_>) -> Output {
+    if page.get_flag("back") {
+        Output::Octets
+    } else if page.get_flag("pbm") {
+        Output::Picture
+    } else {
+        Output::Runs
     }
 }
 
@@ -92,6 +103,11 @@ fn page_command<'a>(alloc: Global) -> Result<Command<'a>, AllocError> {
         .long("back")
         .action(ArgAction::SetTrue)
         .help("Read such lines, and print the octets of their page as hex text");
+    let pbm = Arg::new(alloc, "pbm")
+        .long("pbm")
+        .action(ArgAction::SetTrue)
+        .conflicts_with("back")?
+        .help("Write the page as a picture, a PBM");
     Command::new(alloc, "page")
         .about(
             "Read the octets of a page as hex text, and print each row as a line of run lengths, white first",
@@ -100,5 +116,6 @@ fn page_command<'a>(alloc: Global) -> Result<Command<'a>, AllocError> {
         .arg(coding)?
         .arg(fine)?
         .arg(least)?
-        .arg(back)
+        .arg(back)?
+        .arg(pbm)
 }

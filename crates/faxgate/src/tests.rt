@@ -1,7 +1,7 @@
 //! The words of the command line.
 use crate::command_line::{Request, request_of};
 use clap::error::ErrorKind;
-use fax_command::PageOptions;
+use fax_command::{Output, PageOptions};
 use fax_pagestore::{Coding, Format};
 use fax_runcodes::Width;
 
@@ -13,20 +13,29 @@ const READ: PageOptions = PageOptions {
     },
     coding: Coding::Mh,
     least_bits: 0,
-    back: false,
+    output: Output::Runs,
 };
 
 /// Writes a page, with no other option given.
-const BACK: PageOptions = PageOptions { back: true, ..READ };
+const BACK: PageOptions = PageOptions {
+    output: Output::Octets,
+    ..READ
+};
+
+/// Reads a page as a picture, with no other option given.
+const PICTURE: PageOptions = PageOptions {
+    output: Output::Picture,
+    ..READ
+};
 
 /// A page of a width and a coding, in the standard resolution.
-fn options(width: Width, coding: Coding, least_bits: u32, back: bool) -> PageOptions {
+fn options(width: Width, coding: Coding, least_bits: u32, output: Output) -> PageOptions {
     let format = Format { width, fine: false };
     PageOptions {
         format,
         coding,
         least_bits,
-        back,
+        output,
     }
 }
 
@@ -35,9 +44,10 @@ fn words_are_read(rt: HostRuntime) {
     for (words, wanted) in [
         (["faxgate", "page"].as_slice(), READ),
         (["faxgate", "page", "--back"].as_slice(), BACK),
+        (["faxgate", "page", "--pbm"].as_slice(), PICTURE),
         (
             ["faxgate", "page", "--width", "2048", "--coding", "mr"].as_slice(),
-            options(Width::W2048, Coding::Mr, 0, false),
+            options(Width::W2048, Coding::Mr, 0, Output::Runs),
         ),
         (
             [
@@ -49,7 +59,7 @@ fn words_are_read(rt: HostRuntime) {
                 "--back",
             ]
             .as_slice(),
-            options(Width::W2432, Coding::Mh, 65_535, true),
+            options(Width::W2432, Coding::Mh, 65_535, Output::Octets),
         ),
         (
             ["faxgate", "page", "--width", "1728", "--least", "0"].as_slice(),
@@ -89,6 +99,10 @@ fn wrong_words_are_refused(rt: HostRuntime) {
         (
             ["faxgate", "trace", "--fine"].as_slice(),
             ErrorKind::UnknownArgument,
+        ),
+        (
+            ["faxgate", "page", "--pbm", "--back"].as_slice(),
+            ErrorKind::ArgumentConflict,
         ),
         (
             ["faxgate", "pages"].as_slice(),
