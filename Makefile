@@ -18,6 +18,7 @@ test:
 # proofs of the crates.
 memory: all
 	tools/refuse-memory $(PROGRAM) samples/hello.hex page
+	tools/refuse-memory $(PROGRAM) samples/hello.hex page --pbm
 	tools/refuse-memory $(PROGRAM) samples/hello.runs page --back
 	tools/refuse-memory $(PROGRAM) samples/text-mr.hex page --coding mr
 	tools/refuse-memory $(PROGRAM) samples/text-mr.runs page --back --coding mr --fine --least 96
