@@ -1,4 +1,5 @@
 //! The word of vertical mode that begins bits, by a table (ITU-T T.4, table 4/T.4).
+//! The table and the constants at the end are made by `tools/code-tables`.
 ghost use Rattle.std.specs.Prelude.{List, Bool, slice_index_or, length, ◌<◌, ◌≤◌, ◌≡◌, ◌++◌, ◌^◌};
 ghost use Rattle.fax_bits.specs.Bits.{word_bits};
 ghost use Rattle.fax_mrcode.specs.declared.mode.Mode.{Mode};

@@ -1,4 +1,5 @@
 //! The mode whose word begins bits, by a table (ITU-T T.4, table 4/T.4).
+//! The table and the constants at the end are made by `tools/code-tables`.
 ghost use Rattle.std.specs.Prelude.{List, Bool, None, slice_index_or, ◌<◌, ◌≡◌, ◌++◌, ◌^◌, IfOk, IfErr};
 ghost use Rattle.fax_bits.specs.Reading.{Passes};
 ghost use Rattle.fax_bits.specs.Bits.{word_bits};

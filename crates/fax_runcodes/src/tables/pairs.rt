@@ -1,4 +1,5 @@
 //! Short white words with the short black ones behind them.
+//! The table at the end is made by `tools/code-tables`.
 ghost use Rattle.std.specs.Prelude.{slice_index_or, ◌<◌, ◌≡◌};
 
 use super::WordPair;

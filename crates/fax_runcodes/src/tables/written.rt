@@ -1,4 +1,5 @@
 //! The words in which runs are written.
+//! The tables at the end are made by `tools/code-tables`.
 ghost use Rattle.std.specs.Prelude.{slice_index_or, ◌≡◌, ◌*◌, ◌<◌, ◌≤◌};
 ghost use Rattle.fax_runcodes.specs.CodeTables.{make_up_words, terminating_words};
 ghost use Rattle.fax_runcodes.specs.Spelling.{word_for};
