@@ -1,6 +1,7 @@
 mod Allowed
 mod Confirmed
 mod Cutting
+mod DrivingLemmas
 mod Examples
 mod Fitting
 mod Forwarding

@@ -3,6 +3,7 @@ pub mod Answers
 pub mod CalledLegs
 pub mod CallingLegs
 pub mod Cuts
+pub mod Driving
 pub mod Events
 pub mod Forwards
 pub mod GoesOn
@@ -16,3 +17,4 @@ pub mod ReportsTold
 pub mod Sides
 pub mod Told
 pub mod Traces
+pub mod Wires

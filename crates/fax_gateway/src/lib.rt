@@ -7,14 +7,24 @@
 
 mod called;
 mod calling;
+mod driven;
+mod driver;
 mod fault;
 mod gateway;
 mod given;
 pub mod laws;
 mod leg;
+mod run;
+mod side;
 #[cfg(test)]
 mod tests;
+mod wire;
 
+pub use driven::Driven;
+pub use driver::Driver;
 pub use fault::RingFault;
 pub use gateway::Gateway;
 pub use given::Given;
+pub use run::drive;
+pub use side::Side;
+pub use wire::{Wire, WireFault};

@@ -1,0 +1,479 @@
+-- Logs that follow one another.
+use Rattle.std.proofs.Common.{◌≡◌, ℕ, ◌+◌, ◌*◌, ◌^◌, ◌<◌, ◌≤◌, ◌↔◌, min, take, IsTrue, suc, inl, inr, nat_eq, Bool, true, false, cond, List, [], ◌∷◌, ◌++◌, Option, Some, None, Result, Ok, Err, IfOk, OnErr, refl, sym, ◌∙◌, ap, subst, length, length-append, append_assoc, zero-add, arith}
+use Rattle.std.specs.Result.{is_ok, is_err}
+use Rattle.std.specs.List.{All, count_by, flat_map, list_any}
+use Rattle.std.proofs.lemmas.List.Elements.{All-head, All-tail}
+use mir.Val.{bool_byte}
+use Rattle.std.proofs.lemmas.Bool.{false≢true}
+use Rattle.std.proofs.Math.Nat.{lt_of_not-le}
+use Rattle.fax_gateway.specs.declared.driven.Driven.{Driven}
+use Rattle.std.proofs.lemmas.List.Sums.{sum_by-append, sum_by-cons, count_by-le-length}
+use Rattle.std.proofs.lemmas.Grind.{flat_map-append}
+use Rattle.std.proofs.Math.Seq.{take-append_seam}
+use Rattle.fax_bits.specs.declared.memory.NoMemory.{NoMemory}
+use Rattle.fax_gateway.specs.declared.side.Side.{Side}
+use Rattle.fax_gateway.specs.declared.side.Side.TheVariants as side
+use Rattle.fax_gateway.specs.declared.wire.WireFault.{WireFault}
+use Rattle.fax_gateway.specs.declared.fault.RingFault.{RingFault}
+use Rattle.fax_gateway.specs.Events.{Event, Ring, FromCalling, FromCalled, Tick}
+use Rattle.fax_call.specs.Writings.{Writing}
+use Rattle.fax_gateway.specs.Reached.{GatewayValue}
+use Rattle.fax_gateway.specs.Reached.{HearsFrom, IsReachedBy}
+use Rattle.fax_gateway.specs.Wires.{Known, Came, Grows, greatest_count, failures_after, receipt_of}
+use Rattle.fax_gateway.specs.Driving.{Entry, Accepts, BringsNone, moment_of, AreReceives, AreRounds, HasFailed, IsRing, IsRingIf, IsRound, IsTick, IsTurn, RefusesRing, Tells, log_of, is_refused_ring, RefusesDatagram, RefusesTick, ReceivesNothing, FailsToReceive, Sends, DriverValue, Carries, Happens, HasMade, Steps, Comes, IsHanded, IsSent, counted, events, events_in, failed_in_a_row, most_failed, receipts, receipts_in, sent, sent_in, is_failed_receive, is_failed_send, is_refused_event}
+
+pub grows_more : {A : Type 0} (older newer : List A) (a b c : Option (List A)) → Grows older a b → Grows newer b c → Grows (newer ++ older) a c
+grows_more older newer a b None first second = tt
+grows_more {A} older newer a b (Some told) first (mid, is, same) =
+    let f : Grows older a (Some mid) = subst (λ (x : Option (List A)). Grows older a x) is first in
+    (f.0, f.1, same ∙ ap (λ (l : List A). newer ++ l) f.2 ∙ sym (append_assoc newer older f.0))
+
+pub grows_none : {A : Type 0} (a : Option (List A)) → Grows [] a a
+grows_none None = tt
+grows_none (Some told) = (told, refl, refl)
+
+pub grows_as : {A : Type 0} (l k : List A) (a b : Option (List A)) → l ≡ k → Grows l a b → Grows k a b
+grows_as {A} l k a b is g = subst (λ (x : List A). Grows x a b) is g
+
+pub count_by-append : {X : Type 0} (p : X → Bool) (xs ys : List X) → count_by p (xs ++ ys) ≡ count_by p xs + count_by p ys
+count_by-append p xs ys = sum_by-append (λ x. cond (p x) 1 0) xs ys
+
+pub count_none : {X : Type 0} (p : X → Bool) (x : X) (xs : List X) → p x ≡ false → count_by p (x ∷ xs) ≡ count_by p xs
+count_none p x xs h = sum_by-cons (λ y. cond (p y) 1 0) x xs ∙ ap (λ b. cond b 1 0 + count_by p xs) h ∙ zero-add (count_by p xs)
+
+pub count_one : {X : Type 0} (p : X → Bool) (x : X) (xs : List X) → p x ≡ true → count_by p (x ∷ xs) ≡ count_by p xs + 1
+count_one p x xs h =
+    let e = sum_by-cons (λ y. cond (p y) 1 0) x xs ∙ ap (λ b. cond b 1 0 + count_by p xs) h in
+    omega arith
+
+-- one more, where a count may have stopped
+pub counts_on : (g m n k : ℕ) → m ≡ min n g → k ≡ n + 1 → min (m + 1) g ≡ min k g
+counts_on g m n k = omega arith
+
+-- the failures of both, where the count did not stop
+pub rises : (g a b c m n : ℕ) → (b < g → b ≡ a + m) → (c < g → c ≡ b + n) → c < g → c ≡ a + (n + m)
+rises g a b c m n first second low =
+    let e = second low in
+    let f = first (omega arith) in
+    omega arith
+
+pub carries_more : (older newer : List Entry) (a b c : Known) → Carries older a b → Carries newer b c → Carries (newer ++ older) a c
+carries_more older newer a b c first second = record {
+  received = grows_as (receipts newer ++ receipts older) (receipts (newer ++ older)) a.received c.received (sym (flat_map-append receipts_in newer older)) (grows_more (receipts older) (receipts newer) a.received b.received c.received first.received second.received);
+  sent = grows_as (sent newer ++ sent older) (sent (newer ++ older)) a.sent c.sent (sym (flat_map-append sent_in newer older)) (grows_more (sent older) (sent newer) a.sent b.sent c.sent first.sent second.sent);
+  failures = λ low.
+      let e = rises greatest_count a.failures b.failures c.failures _ _ first.failures second.failures low in
+      let r = count_by-append is_failed_receive newer older in
+      let s = count_by-append is_failed_send newer older in
+      omega arith;
+}
+
+pub reached_more : (writes : Writing) (older newer : List Entry) (trace : List Event) (g : GatewayValue) → IsReachedBy writes (events newer ++ (events older ++ trace)) g → IsReachedBy writes (events (newer ++ older) ++ trace) g
+reached_more writes older newer trace g r =
+    subst (λ (t : List Event). IsReachedBy writes t g) (sym (append_assoc (events newer) (events older) trace) ∙ ap (λ (l : List Event). l ++ trace) (sym (flat_map-append events_in newer older))) r
+
+pub happens_more :
+    (writes : Writing) (older newer : List Entry) (trace : List Event) (g h : GatewayValue) (a b c : Known)
+    → Happens writes older trace g a b → Happens writes newer (events older ++ trace) h b c → Happens writes (newer ++ older) trace h a c
+happens_more writes older newer trace g h a b c first second = record {
+  reached = reached_more writes older newer trace h second.reached;
+  carried = carries_more older newer a b c first.carried second.carried;
+}
+
+pub steps_more :
+    (writes : Writing) (older newer : List Entry) (trace : List Event) (earlier : List Entry) (g h : GatewayValue) (a b c : Known) (d e : DriverValue)
+    → Steps writes older trace earlier g a b d → Steps writes newer (events older ++ trace) (older ++ earlier) h b c e
+    → Steps writes (newer ++ older) trace earlier h a c e
+steps_more writes older newer trace earlier g h a b c d e first second = record {
+  happens = happens_more writes older newer trace g h a b c first.happens second.happens;
+  made = subst (λ (l : List Entry). HasMade l e) (sym (append_assoc newer older earlier)) second.made;
+}
+
+-- ---- one entry
+
+pub carries_none : (a : Known) → Carries [] a a
+carries_none a = record { received = grows_none a.received; sent = grows_none a.sent; failures = λ _. omega arith }
+
+pub steps_none : (writes : Writing) (trace : List Event) (earlier : List Entry) (g : GatewayValue) (a : Known) (d : DriverValue)
+    → IsReachedBy writes trace g → HasMade earlier d → Steps writes [] trace earlier g a a d
+steps_none writes trace earlier g a d reached made = record { happens = record { reached = reached; carried = carries_none a }; made = made }
+
+-- an entry that the wire does not see
+pub carries_unseen : (e : Entry) (a : Known) → receipts_in e ≡ [] → sent_in e ≡ [] → is_failed_receive e ≡ false → is_failed_send e ≡ false → Carries (e ∷ []) a a
+carries_unseen e a r s f n = record {
+  received = grows_as [] (receipts (e ∷ [])) a.received a.received (ap (λ l. l ++ []) (sym r)) (grows_none a.received);
+  sent = grows_as [] (sent (e ∷ [])) a.sent a.sent (ap (λ l. l ++ []) (sym s)) (grows_none a.sent);
+  failures = λ _. let x = count_none is_failed_receive e [] f in let y = count_none is_failed_send e [] n in omega arith;
+}
+
+-- a receive, by what it answered
+pub carries_datagram :
+    (at : Side) (buffer octets : List ℕ) (count : ℕ) (e : Entry) (a b : Known) (r : Result (Option ℕ) WireFault)
+    → r ≡ Ok (Some count) → octets ≡ take count buffer → (accepted : Bool) → IsHanded accepted at octets e
+    → b.failures ≡ failures_after a.failures r → Grows (receipt_of at buffer r ∷ []) a.received b.received → Grows [] a.sent b.sent → Carries (e ∷ []) a b
+carries_datagram at buffer octets count e a b r is same accepted h failures received sent_on = record {
+  received = grows_as (receipt_of at buffer r ∷ []) (receipts (e ∷ [])) a.received b.received (ap (λ x. receipt_of at buffer x ∷ []) is ∙ ap (λ o. Came at o ∷ []) (sym same) ∙ ap (λ l. l ++ []) (sym h.receipt)) received;
+  sent = grows_as [] (sent (e ∷ [])) a.sent b.sent (ap (λ l. l ++ []) (sym h.none_sent)) sent_on;
+  failures = λ _.
+      let x = count_none is_failed_receive e [] h.received in
+      let y = count_none is_failed_send e [] h.sends_none in
+      let z = failures ∙ ap (failures_after a.failures) is in
+      omega arith;
+}
+
+pub carries_nothing :
+    (at : Side) (buffer : List ℕ) (a b : Known) (r : Result (Option ℕ) WireFault) → r ≡ Ok None
+    → b.failures ≡ failures_after a.failures r → Grows (receipt_of at buffer r ∷ []) a.received b.received → Grows [] a.sent b.sent → Carries (ReceivesNothing at ∷ []) a b
+carries_nothing at buffer a b r is failures received sent = record {
+  received = subst (λ (x : Result (Option ℕ) WireFault). Grows (receipt_of at buffer x ∷ []) a.received b.received) is received;
+  sent = sent;
+  failures = λ _. let z = failures ∙ ap (failures_after a.failures) is in omega arith;
+}
+
+pub rises_by_one : (g a b : ℕ) → b ≡ min (a + 1) g → b < g → b ≡ a + 1
+rises_by_one g a b = omega arith
+
+pub carries_failure :
+    (at : Side) (buffer : List ℕ) (a b : Known) (r : Result (Option ℕ) WireFault) (fault : WireFault) → r ≡ Err fault
+    → b.failures ≡ failures_after a.failures r → Grows (receipt_of at buffer r ∷ []) a.received b.received → Grows [] a.sent b.sent → Carries (FailsToReceive at ∷ []) a b
+carries_failure at buffer a b r fault is failures received sent = record {
+  received = subst (λ (x : Result (Option ℕ) WireFault). Grows (receipt_of at buffer x ∷ []) a.received b.received) is received;
+  sent = sent;
+  failures = λ low. rises_by_one greatest_count a.failures b.failures (failures ∙ ap (failures_after a.failures) is) low;
+}
+
+-- a send, by whether it failed
+pub carries_send :
+    (at : Side) (octets : List ℕ) (a b : Known) (fails : Bool)
+    → b.failures ≡ cond fails (min (a.failures + 1) greatest_count) a.failures → Grows [] a.received b.received → Grows (record { side = at; octets = octets } ∷ []) a.sent b.sent
+    → Carries (Sends at octets fails ∷ []) a b
+carries_send at octets a b true failures received sent = record {
+  received = received;
+  sent = sent;
+  failures = λ low. rises_by_one greatest_count a.failures b.failures failures low;
+}
+carries_send at octets a b false failures received sent = record {
+  received = received;
+  sent = sent;
+  failures = λ _. omega arith;
+}
+
+-- ---- what a driver keeps of an entry
+
+pub made_nothing : (log : List Entry) (at : Side) (d : DriverValue) → HasMade log d
+    → HasMade (ReceivesNothing at ∷ log) (record { failed_in_a_row = 0; events_refused = d.events_refused; receives_failed = d.receives_failed; sends_failed = d.sends_failed })
+made_nothing log at d made = record {
+  row = refl;
+  events_refused = made.events_refused ∙ ap counted (sym (count_none is_refused_event (ReceivesNothing at) log refl));
+  receives_failed = made.receives_failed ∙ ap counted (sym (count_none is_failed_receive (ReceivesNothing at) log refl));
+  sends_failed = made.sends_failed ∙ ap counted (sym (count_none is_failed_send (ReceivesNothing at) log refl));
+}
+
+-- an entry that it does not count
+pub made_unseen : (log : List Entry) (e : Entry) (d : DriverValue) → receipts_in e ≡ [] → is_refused_event e ≡ false → is_failed_receive e ≡ false → is_failed_send e ≡ false → HasMade log d → HasMade (e ∷ log) d
+made_unseen log e d r v f n made = record {
+  row = made.row ∙ ap (λ l. min (failed_in_a_row (l ++ receipts log)) most_failed) (sym r);
+  events_refused = made.events_refused ∙ ap counted (sym (count_none is_refused_event e log v));
+  receives_failed = made.receives_failed ∙ ap counted (sym (count_none is_failed_receive e log f));
+  sends_failed = made.sends_failed ∙ ap counted (sym (count_none is_failed_send e log n));
+}
+
+pub made_refused_tick : (log : List Entry) (d : DriverValue) (k : ℕ) → k ≡ min (d.events_refused + 1) greatest_count → HasMade log d
+    → HasMade (RefusesTick ∷ log) (record { failed_in_a_row = d.failed_in_a_row; events_refused = k; receives_failed = d.receives_failed; sends_failed = d.sends_failed })
+made_refused_tick log d k is made = record {
+  row = made.row;
+  events_refused = is ∙ counts_on greatest_count d.events_refused (count_by is_refused_event log) _ made.events_refused (count_one is_refused_event RefusesTick log refl);
+  receives_failed = made.receives_failed ∙ ap counted (sym (count_none is_failed_receive RefusesTick log refl));
+  sends_failed = made.sends_failed ∙ ap counted (sym (count_none is_failed_send RefusesTick log refl));
+}
+
+pub made_failed_send : (log : List Entry) (at : Side) (octets : List ℕ) (d : DriverValue) (k : ℕ) → k ≡ min (d.sends_failed + 1) greatest_count → HasMade log d
+    → HasMade (Sends at octets true ∷ log) (record { failed_in_a_row = d.failed_in_a_row; events_refused = d.events_refused; receives_failed = d.receives_failed; sends_failed = k })
+made_failed_send log at octets d k is made = record {
+  row = made.row;
+  events_refused = made.events_refused ∙ ap counted (sym (count_none is_refused_event (Sends at octets true) log refl));
+  receives_failed = made.receives_failed ∙ ap counted (sym (count_none is_failed_receive (Sends at octets true) log refl));
+  sends_failed = is ∙ counts_on greatest_count d.sends_failed (count_by is_failed_send log) _ made.sends_failed (count_one is_failed_send (Sends at octets true) log refl);
+}
+
+-- ---- a datagram is handed on
+
+abbrev pub HandsOn : Writing → List Event → Side → List ℕ → ℕ → Bool → GatewayValue → Type 0
+HandsOn writes trace at octets now accepted g = (e : Entry) × Comes at now e × IsHanded accepted at octets e × IsReachedBy writes (events (e ∷ []) ++ trace) g
+
+pub hands_on_calling :
+    (writes : Writing) (trace : List Event) (octets : List ℕ) (now : ℕ) (old new : GatewayValue) (r : Result Bool NoMemory)
+    → IfOk r (λ decided. (writes : Writing) (trace : List Event) → IsReachedBy writes trace old → HearsFrom writes trace octets now decided new)
+    → OnErr r (new ≡ old) → IsReachedBy writes trace old → HandsOn writes trace side.Calling octets now (is_ok r) new
+hands_on_calling writes trace octets now old new (Ok decided) heard err reached =
+    let h = heard writes trace reached in
+    (Accepts (FromCalling octets now decided h.read), (refl, refl), record { receipt = refl; refused = refl; none_sent = refl; received = refl; sends_none = refl }, h.reached)
+hands_on_calling writes trace octets now old new (Err fault) heard err reached =
+    (RefusesDatagram side.Calling octets, refl, record { receipt = refl; refused = refl; none_sent = refl; received = refl; sends_none = refl }, subst (λ (g : GatewayValue). IsReachedBy writes trace g) (sym err) reached)
+
+pub hands_on_called :
+    (writes : Writing) (trace : List Event) (octets : List ℕ) (now : ℕ) (old new : GatewayValue) (r : Result Bool NoMemory)
+    → IfOk r (λ decided. (writes : Writing) (trace : List Event) → IsReachedBy writes trace old → IsReachedBy writes (FromCalled octets now decided ∷ trace) new)
+    → OnErr r (new ≡ old) → IsReachedBy writes trace old → HandsOn writes trace side.Called octets now (is_ok r) new
+hands_on_called writes trace octets now old new (Ok decided) heard err reached =
+    (Accepts (FromCalled octets now decided), (refl, refl), record { receipt = refl; refused = refl; none_sent = refl; received = refl; sends_none = refl }, heard writes trace reached)
+hands_on_called writes trace octets now old new (Err fault) heard err reached =
+    (RefusesDatagram side.Called octets, refl, record { receipt = refl; refused = refl; none_sent = refl; received = refl; sends_none = refl }, subst (λ (g : GatewayValue). IsReachedBy writes trace g) (sym err) reached)
+
+-- ---- sends
+
+-- sends are no events
+pub sends_no_event : (at : Side) (given : Option (List ℕ)) (log : List Entry) → IsSent at given log → events log ≡ []
+sends_no_event at None log is = ap events is
+sends_no_event at (Some octets) log (fails, is) = ap events is
+
+pub is_sent : (at : Side) (given : Option (List ℕ)) (o octets : List ℕ) (fails : Bool) → given ≡ Some o → octets ≡ o → IsSent at given (Sends at octets fails ∷ [])
+is_sent at given o octets fails is same =
+    subst (λ (x : Option (List ℕ)). IsSent at x (Sends at octets fails ∷ [])) (sym is) (fails, ap (λ (y : List ℕ). Sends at y fails ∷ []) same)
+
+pub steps_send :
+    (writes : Writing) (at : Side) (given : Option (List ℕ)) (log : List Entry) (trace : List Event) (earlier : List Entry) (g : GatewayValue) (a b : Known) (d : DriverValue)
+    → IsSent at given log → Carries log a b → HasMade (log ++ earlier) d → IsReachedBy writes trace g → Steps writes log trace earlier g a b d
+steps_send writes at given log trace earlier g a b d is carried made reached = record {
+  happens = record {
+    reached = subst (λ (l : List Event). IsReachedBy writes (l ++ trace) g) (sym (sends_no_event at given log is)) reached;
+    carried = carried;
+  };
+  made = made;
+}
+
+-- what a buffer has in front, where the rest of its memory lies behind it
+pub take_front : (count len : ℕ) (front rest : List ℕ) → length front ≡ len → take count (take len (front ++ rest)) ≡ take count front
+take_front count len front rest is = ap (λ (n : ℕ). take count (take n (front ++ rest))) (sym is) ∙ ap (take count) (take-append_seam front rest)
+
+-- ---- a run
+
+pub receives_are_few : (at : Side) (now : ℕ) (log : List Entry) → AreReceives at now log → length log ≤ 16
+receives_are_few at now log (inl (each, many)) = omega arith
+receives_are_few at now log (inr (came, last, is, each, low, none)) = let e = ap length is in omega arith
+
+pub sent_is_short : (at : Side) (given : Option (List ℕ)) (log : List Entry) → IsSent at given log → length log ≤ 1
+sent_is_short at None log is = let e = ap length is in omega arith
+sent_is_short at (Some octets) log (fails, is) = let e = ap length is in omega arith
+
+pub tick_is_short : (now : ℕ) (log : List Entry) → IsTick now log → length log ≤ 3
+tick_is_short now log (inl (given, calling, called, first, second, is)) =
+    let e = ap length is ∙ length-append called (calling ++ Accepts (Tick now given) ∷ []) in
+    let f = length-append calling (Accepts (Tick now given) ∷ []) in
+    let k = sent_is_short side.Calling given.on_calling calling first in
+    let l = sent_is_short side.Called given.on_called called second in
+    omega arith
+tick_is_short now log (inr is) = let e = ap length is in omega arith
+
+pub turn_is_short : (now : ℕ) (log : List Entry) → IsTurn now log → length log ≤ 35
+turn_is_short now log t =
+    let a = receives_are_few side.Calling now t.calling t.on_calling in
+    let b = receives_are_few side.Called now t.called t.on_called in
+    let k = tick_is_short now t.tick t.ticks in
+    let e = ap length t.log_is ∙ length-append t.tick (t.called ++ t.calling) in
+    let f = length-append t.called t.calling in
+    omega arith
+
+pub ring_is_short : (due : Bool) (now : ℕ) (log : List Entry) → IsRingIf due now log → length log ≤ 1
+ring_is_short false now log is = let e = ap length is in omega arith
+ring_is_short true now log (inl (number, is)) = let e = ap length is in omega arith
+ring_is_short true now log (inr is) = let e = ap length is in omega arith
+
+pub round_is_short : (now : ℕ) (due : Bool) (log : List Entry) → IsRound now due log → length log ≤ 36
+round_is_short now due log (ring, turn, is, rings, turns) =
+    let e = ap length is ∙ length-append turn ring in
+    let a = ring_is_short due now ring rings in
+    let b = turn_is_short now turn turns in
+    omega arith
+
+pub rounds_are_short : (start : ℕ) (rings : List ℕ) (rounds : List (List Entry)) → AreRounds start rings rounds → length (log_of rounds) ≤ 36 * length rounds
+rounds_are_short start rings [] all = omega arith
+rounds_are_short start rings (round ∷ earlier) (is, goes, all) =
+    let e = length-append round (log_of earlier) in
+    let a = round_is_short _ _ round is in
+    let b = rounds_are_short start rings earlier all in
+    omega arith
+
+-- no count stops in so many rounds
+pub counts_whole : (p : Entry → Bool) (start : ℕ) (rings : List ℕ) (rounds : List (List Entry)) → AreRounds start rings rounds → length rounds < 2 ^ 32 → counted (count_by p (log_of rounds)) ≡ count_by p (log_of rounds)
+counts_whole p start rings rounds all few =
+    let a = rounds_are_short start rings rounds all in
+    let b = count_by-le-length p (log_of rounds) in
+    omega arith
+
+-- a ring is not seen by the wire, nor by the driver
+pub steps_ring :
+    (writes : Writing) (due : Bool) (now : ℕ) (log : List Entry) (trace : List Event) (earlier : List Entry) (g : GatewayValue) (a : Known) (d : DriverValue)
+    → IsRingIf due now log → IsReachedBy writes (events log ++ trace) g → HasMade earlier d → Steps writes log trace earlier g a a d
+steps_ring writes false now log trace earlier g a d is reached made = record {
+  happens = record { reached = reached; carried = subst (λ (l : List Entry). Carries l a a) (sym is) (carries_none a) };
+  made = subst (λ (l : List Entry). HasMade (l ++ earlier) d) (sym is) made;
+}
+steps_ring writes true now log trace earlier g a d (inl (number, is)) reached made = record {
+  happens = record { reached = reached; carried = subst (λ (l : List Entry). Carries l a a) (sym is) (carries_unseen (Accepts (Ring now number)) a refl refl refl refl) };
+  made = subst (λ (l : List Entry). HasMade (l ++ earlier) d) (sym is) (made_unseen earlier (Accepts (Ring now number)) d refl refl refl refl made);
+}
+steps_ring writes true now log trace earlier g a d (inr is) reached made = record {
+  happens = record { reached = reached; carried = subst (λ (l : List Entry). Carries l a a) (sym is) (carries_unseen RefusesRing a refl refl refl refl) };
+  made = subst (λ (l : List Entry). HasMade (l ++ earlier) d) (sym is) (made_unseen earlier RefusesRing d refl refl refl refl made);
+}
+
+-- a ring, by its result
+pub rings_so :
+    (writes : Writing) (trace : List Event) (now : ℕ) (old new : GatewayValue) (r : Result ℕ RingFault)
+    → IfOk r (λ number. (writes : Writing) (trace : List Event) → IsReachedBy writes trace old → IsReachedBy writes (Ring now number ∷ trace) new)
+    → OnErr r (new ≡ old) → IsReachedBy writes trace old
+    → (log : List Entry) × IsRing now log × (count_by is_refused_ring log ≡ cond (is_err r) 1 0) × IsReachedBy writes (events log ++ trace) new
+rings_so writes trace now old new (Ok number) rung err reached = (Accepts (Ring now number) ∷ [], inl (number, refl), refl, rung writes trace reached)
+rings_so writes trace now old new (Err fault) rung err reached = (RefusesRing ∷ [], inr refl, refl, subst (λ (g : GatewayValue). IsReachedBy writes trace g) (sym err) reached)
+
+-- what a run tells
+pub tells :
+    (wanted : ℕ) (start : ℕ) (rings : List ℕ) (rounds : List (List Entry)) (d : DriverValue) (refused : ℕ) (stopped : Bool)
+    → AreRounds start rings rounds → HasMade (log_of rounds) d → refused ≡ count_by is_refused_ring (log_of rounds)
+    → (IsTrue stopped ↔ HasFailed (log_of rounds)) → (stopped ≡ false → length rounds ≡ wanted) → length rounds ≤ wanted → wanted < 2 ^ 32
+    → Tells wanted rounds (record { turns = length rounds; rings_refused = refused; events_refused = d.events_refused; sends_failed = d.sends_failed; receives_failed = d.receives_failed; stopped = stopped })
+tells wanted start rings rounds d refused stopped all made same stops whole most few =
+    let low : length rounds < 2 ^ 32 = omega arith in
+    record {
+      turns = refl;
+      rings_refused = same;
+      events_refused = made.events_refused ∙ counts_whole is_refused_event start rings rounds all low;
+      sends_failed = made.sends_failed ∙ counts_whole is_failed_send start rings rounds all low;
+      receives_failed = made.receives_failed ∙ counts_whole is_failed_receive start rings rounds all low;
+      stopped = stops;
+      all = whole;
+      at_most = most;
+    }
+
+-- ---- a turn rings not
+
+pub comes_no_ring : (at : Side) (now : ℕ) (e : Entry) → Comes at now e → is_refused_ring e ≡ false
+comes_no_ring at now (Accepts event) h = refl
+comes_no_ring at now RefusesRing h = absurd h
+comes_no_ring at now (RefusesDatagram on octets) h = refl
+comes_no_ring at now RefusesTick h = refl
+comes_no_ring at now (ReceivesNothing on) h = refl
+comes_no_ring at now (FailsToReceive on) h = refl
+comes_no_ring at now (Sends on octets fails) h = refl
+
+pub all_come_no_ring : (at : Side) (now : ℕ) (log : List Entry) → All (Comes at now) log → count_by is_refused_ring log ≡ 0
+all_come_no_ring at now [] all = refl
+all_come_no_ring at now (e ∷ log) all =
+    count_none is_refused_ring e log (comes_no_ring at now e (All-head (Comes at now) e log all)) ∙ all_come_no_ring at now log (All-tail (Comes at now) e log all)
+
+pub brings_no_ring : (at : Side) (e : Entry) → BringsNone at e → is_refused_ring e ≡ false
+brings_no_ring at e (inl is) = ap is_refused_ring is
+brings_no_ring at e (inr is) = ap is_refused_ring is
+
+pub receives_no_ring : (at : Side) (now : ℕ) (log : List Entry) → AreReceives at now log → count_by is_refused_ring log ≡ 0
+receives_no_ring at now log (inl (each, many)) = all_come_no_ring at now log each
+receives_no_ring at now log (inr (came, last, is, each, low, none)) =
+    ap (λ (l : List Entry). count_by is_refused_ring l) is ∙ count_none is_refused_ring last came (brings_no_ring at last none) ∙ all_come_no_ring at now came each
+
+pub sends_no_ring : (at : Side) (given : Option (List ℕ)) (log : List Entry) → IsSent at given log → count_by is_refused_ring log ≡ 0
+sends_no_ring at None log is = ap (λ (l : List Entry). count_by is_refused_ring l) is
+sends_no_ring at (Some octets) log (fails, is) = ap (λ (l : List Entry). count_by is_refused_ring l) is
+
+pub tick_no_ring : (now : ℕ) (log : List Entry) → IsTick now log → count_by is_refused_ring log ≡ 0
+tick_no_ring now log (inl (given, calling, called, first, second, is)) =
+    let tick : List Entry = Accepts (Tick now given) ∷ [] in
+    let e = ap (λ (l : List Entry). count_by is_refused_ring l) is ∙ count_by-append is_refused_ring called (calling ++ tick) in
+    let f = count_by-append is_refused_ring calling tick in
+    let a = sends_no_ring side.Calling given.on_calling calling first in
+    let b = sends_no_ring side.Called given.on_called called second in
+    let t : count_by is_refused_ring tick ≡ 0 = refl in
+    omega arith
+tick_no_ring now log (inr is) = ap (λ (l : List Entry). count_by is_refused_ring l) is
+
+pub turn_no_ring : (now : ℕ) (log : List Entry) → IsTurn now log → count_by is_refused_ring log ≡ 0
+turn_no_ring now log t =
+    let e = ap (λ (l : List Entry). count_by is_refused_ring l) t.log_is ∙ count_by-append is_refused_ring t.tick (t.called ++ t.calling) in
+    let f = count_by-append is_refused_ring t.called t.calling in
+    let a = receives_no_ring side.Calling now t.calling t.on_calling in
+    let b = receives_no_ring side.Called now t.called t.on_called in
+    let k = tick_no_ring now t.tick t.ticks in
+    omega arith
+
+pub round_counts : (now : ℕ) (ring turn log : List Entry) (n k : ℕ) → IsTurn now turn → count_by is_refused_ring ring ≡ k → n ≡ count_by is_refused_ring log → n + k ≡ count_by is_refused_ring ((turn ++ ring) ++ log)
+round_counts now ring turn log n k t r s =
+    let e = count_by-append is_refused_ring (turn ++ ring) log in
+    let f = count_by-append is_refused_ring turn ring in
+    let z = turn_no_ring now turn t in
+    omega arith
+
+pub byte_is : (b : Bool) → bool_byte b ≡ cond b 1 0
+byte_is true = refl
+byte_is false = refl
+
+-- ---- a round
+
+pub record Rounds (writes : Writing) (start : ℕ) (rings : List ℕ) (rounds : List (List Entry)) (trace : List Event) (g : GatewayValue) (a b : Known) (d : DriverValue) (refused : ℕ) : Type 0 where
+  pub are : AreRounds start rings rounds
+  pub happens : Happens writes (log_of rounds) trace g a b
+  pub made : HasMade (log_of rounds) d
+  pub refused_is : refused ≡ count_by is_refused_ring (log_of rounds)
+
+pub round_more :
+    (writes : Writing) (start turn_number now : ℕ) (rings : List ℕ) (due : Bool) (rounds : List (List Entry)) (ring turn : List Entry) (trace : List Event)
+    (g h i : GatewayValue) (a b c : Known) (d e : DriverValue) (refused k : ℕ)
+    → AreRounds start rings rounds → length rounds ≡ turn_number → failed_in_a_row (receipts (log_of rounds)) < most_failed
+    → Happens writes (log_of rounds) trace g a b → HasMade (log_of rounds) d → refused ≡ count_by is_refused_ring (log_of rounds)
+    → now ≡ moment_of start turn_number → due ≡ list_any (λ t. nat_eq t turn_number) rings
+    → IsRingIf due now ring → count_by is_refused_ring ring ≡ k → IsReachedBy writes (events ring ++ (events (log_of rounds) ++ trace)) h
+    → IsTurn now turn → Happens writes turn (events ring ++ (events (log_of rounds) ++ trace)) i b c → HasMade (turn ++ (ring ++ log_of rounds)) e
+    → Rounds writes start rings ((turn ++ ring) ∷ rounds) trace i a c e (refused + k)
+round_more writes start turn_number now rings due rounds ring turn trace g h i a b c d e refused k all many goes happens made same at_moment is_due rung counted_ring reached turned happened did =
+    let log : List Entry = log_of rounds in
+    let first = (steps_ring writes due now ring (events log ++ trace) log h b d rung reached made).happens in
+    let round = happens_more writes ring turn (events log ++ trace) h i b b c first happened in
+    let place : IsRound (moment_of start turn_number) (list_any (λ t. nat_eq t turn_number) rings) (turn ++ ring) =
+    subst (λ (n : ℕ). IsRound n (list_any (λ t. nat_eq t turn_number) rings) (turn ++ ring)) at_moment
+    (subst (λ (x : Bool). IsRound now x (turn ++ ring)) is_due (ring, turn, refl, rung, turned)) in
+    record {
+      are = (subst (λ (n : ℕ). IsRound (moment_of start n) (list_any (λ t. nat_eq t n) rings) (turn ++ ring)) (sym many) place, goes, all);
+      happens = happens_more writes log (turn ++ ring) trace g i a b c happens round;
+      made = subst (λ (l : List Entry). HasMade l e) (sym (append_assoc turn ring log)) did;
+      refused_is = round_counts now ring turn log refused k turned counted_ring same;
+    }
+
+pub ring_made : (writes : Writing) (due : Bool) (now : ℕ) (ring log : List Entry) (trace : List Event) (g : GatewayValue) (a : Known) (d : DriverValue)
+    → IsRingIf due now ring → IsReachedBy writes (events ring ++ trace) g → HasMade log d → HasMade (ring ++ log) d
+ring_made writes due now ring log trace g a d rung reached made = (steps_ring writes due now ring trace log g a d rung reached made).made
+
+pub has_failed : (row : ℕ) → (IsTrue false ↔ (row < most_failed)) → most_failed ≤ row
+has_failed row h =
+    let k : most_failed < suc row = lt_of_not-le {n = suc row} {m = most_failed} (λ low. false≢true (h.1 low)) in
+    omega arith
+
+-- a run that stopped, and one that did not
+pub tells_stopped :
+    (wanted start : ℕ) (rings : List ℕ) (rounds : List (List Entry)) (d : DriverValue) (n refused : ℕ) (driven : Driven)
+    → driven ≡ record { turns = n; rings_refused = refused; events_refused = d.events_refused; sends_failed = d.sends_failed; receives_failed = d.receives_failed; stopped = true }
+    → length rounds ≡ n → AreRounds start rings rounds → HasMade (log_of rounds) d → refused ≡ count_by is_refused_ring (log_of rounds)
+    → HasFailed (log_of rounds) → n ≤ wanted → wanted < 2 ^ 32 → Tells wanted rounds driven
+tells_stopped wanted start rings rounds d n refused driven is many all made same failed most few =
+    let low : length rounds ≤ wanted = omega arith in
+    subst (λ (x : Driven). Tells wanted rounds x)
+    (ap (λ (m : ℕ). record { turns = m; rings_refused = refused; events_refused = d.events_refused; sends_failed = d.sends_failed; receives_failed = d.receives_failed; stopped = true }) many ∙ sym is)
+    (tells wanted start rings rounds d refused true all made same (λ _. failed, λ _. refl) (λ (e : true ≡ false). absurd (false≢true (sym e))) low few)
+
+pub tells_whole :
+    (wanted start : ℕ) (rings : List ℕ) (rounds : List (List Entry)) (d : DriverValue) (refused : ℕ) (driven : Driven)
+    → driven ≡ record { turns = wanted; rings_refused = refused; events_refused = d.events_refused; sends_failed = d.sends_failed; receives_failed = d.receives_failed; stopped = false }
+    → length rounds ≡ wanted → AreRounds start rings rounds → HasMade (log_of rounds) d → refused ≡ count_by is_refused_ring (log_of rounds)
+    → failed_in_a_row (receipts (log_of rounds)) < most_failed → wanted < 2 ^ 32 → Tells wanted rounds driven
+tells_whole wanted start rings rounds d refused driven is many all made same goes few =
+    let low : length rounds ≤ wanted = omega arith in
+    subst (λ (x : Driven). Tells wanted rounds x)
+    (ap (λ (m : ℕ). record { turns = m; rings_refused = refused; events_refused = d.events_refused; sends_failed = d.sends_failed; receives_failed = d.receives_failed; stopped = false }) many ∙ sym is)
+    (tells wanted start rings rounds d refused false all made same (λ (e : false ≡ true). absurd (false≢true e), λ (f : HasFailed (log_of rounds)). absurd (omega arith)) (λ _. many) low few)
+
+-- the failures that a run tells are those that the wire counts
+pub failures_told : (wanted : ℕ) (rounds : List (List Entry)) (driven : Driven) (a b : Known) → Carries (log_of rounds) a b → Tells wanted rounds driven
+    → b.failures < greatest_count → b.failures ≡ a.failures + (driven.sends_failed + driven.receives_failed)
+failures_told wanted rounds driven a b carried t low =
+    let e = carried.failures low in
+    let r = t.receives_failed in
+    let s = t.sends_failed in
+    omega arith

@@ -1,0 +1,63 @@
+use Rattle.std.proofs.Common.{◌≡◌, ◌<◌, ◌≤◌, ◌+◌, ℕ, List, [], ◌∷◌, ◌++◌, length, take, drop, Bool, true, false, Ok, Err, Some, None, inl, inr, refl, sym, ◌∙◌, ap, subst, arith, rules}
+use Rattle.fax_call.specs.Writings.{IsWriting, Writing}
+use Rattle.fax_gateway.specs.Events.{Event, Tick}
+use Rattle.fax_gateway.specs.Reached.{IsReachedBy, given_shown}
+use Rattle.fax_gateway.specs.declared.side.Side.{Side}
+use Rattle.fax_gateway.specs.declared.side.Side.TheVariants as side
+use Rattle.fax_gateway.specs.Wires.{Known}
+use Rattle.fax_gateway.specs.Driving.{Accepts, AreReceives, Carries, Comes, DriverValue, Entry, FailsToReceive, Happens, HasMade, IsHanded, IsReceive, IsSent, IsTick, IsTurn, ReceivesNothing, RefusesTick, Sends, Steps, events, failed_in_a_row, most_failed, receipts}
+use Rattle.fax_gateway.specs.Reached.{GatewayValue}
+use Rattle.std.specs.Result.{is_ok}
+use Rattle.std.proofs.lemmas.List.Elements.{All-cons}
+use Rattle.fax_gateway.proofs.DrivingLemmas.{carries_datagram, carries_failure, carries_none, carries_nothing, carries_send, carries_unseen, hands_on_called, hands_on_calling, made_failed_send, made_nothing, made_refused_tick, made_unseen, sends_no_event, steps_more, steps_none, steps_send, is_sent, take_front, HandsOn}
+use Rattle.fax_gateway.proofs.driver.Driver.receive.Goals as goal
+
+pub returns-in-Ok-Some : goal.returns-in-Ok-Some
+returns-in-Ok-Some g c writes trace earlier reached made =
+    let at : Side = c.args.side in
+    let h = c.hand_on-is_accepted.ensures writes trace reached in
+    let k = c.receive.ensures in
+    let buffer : List ℕ = c.receive.new.buffer in
+    let count : ℕ = c.in-Ok-Some.count in
+    let octets : List ℕ = take count c.deref.result.now in
+    let same : octets ≡ take count buffer = ap (take count) c.deref.ensures.value ∙ take_front count c.self.inside.buffer.len buffer (drop (length buffer) c.self.inside.buffer.items) (c.receive.auto.buffer ∙ c.as_mut_slice.ensures.len) in (
+      h.0,
+      h.1,
+      record {
+        happens = record {
+          reached = h.3;
+          carried = carries_datagram at buffer octets count h.0 _ _ c.receive.result (c.in-Ok-Some.is ∙ ap Ok c.in-Ok-Some.field-0-is) same c.hand_on-is_accepted.result h.2 k.failures k.received k.sent;
+        };
+        made = c.note_datagram.ensures earlier at octets h.0 h.2 (subst (λ (d : DriverValue). HasMade earlier d) (sym c.self.view_is) made);
+      },
+    )
+
+pub returns-in-Ok-None : goal.returns-in-Ok-None
+returns-in-Ok-None g c writes trace earlier reached made =
+    let at : Side = c.args.side in
+    let k = c.receive.ensures in (
+      ReceivesNothing at,
+      inl refl,
+      record {
+        happens = record {
+          reached = reached;
+          carried = carries_nothing at c.receive.new.buffer _ _ c.receive.result (c.in-Ok-None.is ∙ ap Ok c.in-Ok-None.field-0-is) k.failures k.received k.sent;
+        };
+        made = made_nothing earlier at _ (subst (λ (d : DriverValue). HasMade earlier d) (sym c.self.view_is) made);
+      },
+    )
+
+pub returns-in-Err : goal.returns-in-Err
+returns-in-Err g c writes trace earlier reached made =
+    let at : Side = c.args.side in
+    let k = c.receive.ensures in (
+      FailsToReceive at,
+      inr refl,
+      record {
+        happens = record {
+          reached = reached;
+          carried = carries_failure at c.receive.new.buffer _ _ c.receive.result c.in-Err.field-0 c.in-Err.is k.failures k.received k.sent;
+        };
+        made = c.note_failure.ensures earlier at (subst (λ (d : DriverValue). HasMade earlier d) (sym c.self.view_is) made);
+      },
+    )

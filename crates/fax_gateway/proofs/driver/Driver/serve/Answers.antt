@@ -1,0 +1,45 @@
+use Rattle.std.proofs.Common.{◌≡◌, ◌<◌, ◌≤◌, ◌+◌, ℕ, List, [], ◌∷◌, ◌++◌, length, take, Bool, true, false, Ok, Err, Some, None, inl, inr, refl, sym, ◌∙◌, ap, subst, arith, rules}
+use Rattle.fax_call.specs.Writings.{IsWriting, Writing}
+use Rattle.fax_gateway.specs.Events.{Event, Tick}
+use Rattle.fax_gateway.specs.Reached.{IsReachedBy, given_shown}
+use Rattle.fax_gateway.specs.declared.side.Side.{Side}
+use Rattle.fax_gateway.specs.declared.side.Side.TheVariants as side
+use Rattle.fax_gateway.specs.Wires.{Known}
+use Rattle.fax_gateway.specs.Driving.{Accepts, AreReceives, Carries, Comes, DriverValue, Entry, FailsToReceive, Happens, HasMade, IsHanded, IsReceive, IsSent, IsTick, IsTurn, ReceivesNothing, RefusesTick, Sends, Steps, events, failed_in_a_row, most_failed, receipts}
+use Rattle.fax_gateway.specs.Reached.{GatewayValue}
+use Rattle.std.specs.Result.{is_ok}
+use Rattle.std.proofs.lemmas.List.Elements.{All-cons}
+use Rattle.fax_gateway.proofs.DrivingLemmas.{carries_datagram, carries_failure, carries_none, carries_nothing, carries_send, carries_unseen, hands_on_called, hands_on_calling, made_failed_send, made_nothing, made_refused_tick, made_unseen, sends_no_event, steps_more, steps_none, steps_send, is_sent, take_front, HandsOn}
+use Rattle.fax_gateway.proofs.driver.Driver.serve.Goals as goal
+
+pub loop-init : goal.loop-init
+loop-init g c writes trace earlier reached made =
+    ([], λ k d low. absurd (omega arith), refl, steps_none writes trace earlier _ _ _ reached made)
+
+pub loop-preserved : goal.loop-preserved
+loop-preserved g c writes trace earlier reached made =
+    let before = c.loop.invariant writes trace earlier reached made in
+    let came : List Entry = before.0 in
+    let steps = before.3 in
+    let more = c.if-not-receive.ensures writes (events came ++ trace) (came ++ earlier) steps.happens.reached steps.made in (
+      more.0 ∷ came,
+      All-cons (Comes c.args.side c.args.now) more.0 came more.1 before.1,
+      let many : length came ≡ c.loop.counter = before.2 in omega arith,
+      steps_more writes came (more.0 ∷ []) trace earlier _ _ _ _ _ _ _ steps more.2,
+    )
+
+pub returns-then-not-receive : goal.returns-then-not-receive
+returns-then-not-receive g c writes trace earlier reached made =
+    let before = c.loop.invariant writes trace earlier reached made in
+    let came : List Entry = before.0 in
+    let many : length came ≡ c.loop.counter = before.2 in
+    let steps = before.3 in
+    let last = c.if-not-receive.ensures writes (events came ++ trace) (came ++ earlier) steps.happens.reached steps.made in
+    (last.0 ∷ came, inr (came, last.0, refl, before.1, omega arith, last.1), steps_more writes came (last.0 ∷ []) trace earlier _ _ _ _ _ _ _ steps last.2)
+
+pub returns : goal.returns
+returns g c writes trace earlier reached made =
+    let before = c.loop.invariant writes trace earlier reached made in
+    let came : List Entry = before.0 in
+    let many : length came ≡ c.loop.counter = before.2 in
+    (came, inl (before.1, omega arith), before.3)

@@ -1,0 +1,265 @@
+-- THE LOG of an engine: what it met and what it did. (This project's profile.) Logs have the newest first.
+use Rattle.std.specs.Prelude.{◌≡◌, ℕ, ◌+◌, ◌*◌, ◌<◌, ◌≤◌, ◌⊎◌, min, Bool, true, false, IsTrue, ◌↔◌, nat_eq, not, ◌-◌, ◌^◌, List, [], ◌∷◌, ◌++◌, length, Option, Some, None}
+use Rattle.std.specs.List.{All, count_by, flat_map, list_any}
+use Rattle.fax_gateway.specs.Events.{Event, Ring, FromCalling, FromCalled, Tick, Given}
+use Rattle.fax_call.specs.Writings.{Writing}
+use Rattle.fax_gateway.specs.Reached.{GatewayValue}
+use Rattle.fax_gateway.specs.Reached.{IsReachedBy}
+use Rattle.fax_gateway.specs.declared.side.Side.{Side}
+use Rattle.fax_gateway.specs.declared.driven.Driven.{Driven}
+use Rattle.fax_gateway.specs.declared.side.Side.TheVariants as side
+use Rattle.fax_gateway.specs.Wires.{Receipt, Came, Nothing, Failed, Handed, Known, Grows, greatest_count}
+
+-- A ring, a datagram that was received, and a tick are accepted by the gateway, as an event with its answer, or refused.
+-- A receive can bring no datagram. What is given is handed over, and the send may fail.
+pub data Entry : Type 0 where
+  Accepts : (event : Event) → Entry
+  RefusesRing : Entry
+  RefusesDatagram : (side : Side) → (octets : List ℕ) → Entry
+  RefusesTick : Entry
+  ReceivesNothing : (side : Side) → Entry
+  FailsToReceive : (side : Side) → Entry
+  Sends : (side : Side) → (octets : List ℕ) → (fails : Bool) → Entry
+
+-- ---- what a log tells
+
+-- of the trace: the events that were accepted
+abbrev pub events_in : Entry → List Event
+events_in (Accepts event) = event ∷ []
+events_in RefusesRing = []
+events_in (RefusesDatagram at octets) = []
+events_in RefusesTick = []
+events_in (ReceivesNothing at) = []
+events_in (FailsToReceive at) = []
+events_in (Sends at octets fails) = []
+
+abbrev pub events : List Entry → List Event
+events log = flat_map events_in log
+
+-- of the wire: what was received, and what was handed over
+abbrev pub receipt_of_event : Event → List Receipt
+receipt_of_event (Ring now number) = []
+receipt_of_event (FromCalling octets now decided read) = Came side.Calling octets ∷ []
+receipt_of_event (FromCalled octets now decided) = Came side.Called octets ∷ []
+receipt_of_event (Tick now given) = []
+
+abbrev pub receipts_in : Entry → List Receipt
+receipts_in (Accepts event) = receipt_of_event event
+receipts_in RefusesRing = []
+receipts_in (RefusesDatagram at octets) = Came at octets ∷ []
+receipts_in RefusesTick = []
+receipts_in (ReceivesNothing at) = Nothing at ∷ []
+receipts_in (FailsToReceive at) = Failed at ∷ []
+receipts_in (Sends at octets fails) = []
+
+abbrev pub receipts : List Entry → List Receipt
+receipts log = flat_map receipts_in log
+
+abbrev pub sent_in : Entry → List Handed
+sent_in (Accepts event) = []
+sent_in RefusesRing = []
+sent_in (RefusesDatagram at octets) = []
+sent_in RefusesTick = []
+sent_in (ReceivesNothing at) = []
+sent_in (FailsToReceive at) = []
+sent_in (Sends at octets fails) = record { side = at; octets = octets } ∷ []
+
+abbrev pub sent : List Entry → List Handed
+sent log = flat_map sent_in log
+
+-- of refusals and failures
+abbrev pub is_refused_ring : Entry → Bool
+is_refused_ring (Accepts event) = false
+is_refused_ring RefusesRing = true
+is_refused_ring (RefusesDatagram at octets) = false
+is_refused_ring RefusesTick = false
+is_refused_ring (ReceivesNothing at) = false
+is_refused_ring (FailsToReceive at) = false
+is_refused_ring (Sends at octets fails) = false
+
+abbrev pub is_refused_event : Entry → Bool
+is_refused_event (Accepts event) = false
+is_refused_event RefusesRing = false
+is_refused_event (RefusesDatagram at octets) = true
+is_refused_event RefusesTick = true
+is_refused_event (ReceivesNothing at) = false
+is_refused_event (FailsToReceive at) = false
+is_refused_event (Sends at octets fails) = false
+
+abbrev pub is_failed_receive : Entry → Bool
+is_failed_receive (Accepts event) = false
+is_failed_receive RefusesRing = false
+is_failed_receive (RefusesDatagram at octets) = false
+is_failed_receive RefusesTick = false
+is_failed_receive (ReceivesNothing at) = false
+is_failed_receive (FailsToReceive at) = true
+is_failed_receive (Sends at octets fails) = false
+
+abbrev pub is_failed_send : Entry → Bool
+is_failed_send (Accepts event) = false
+is_failed_send RefusesRing = false
+is_failed_send (RefusesDatagram at octets) = false
+is_failed_send RefusesTick = false
+is_failed_send (ReceivesNothing at) = false
+is_failed_send (FailsToReceive at) = false
+is_failed_send (Sends at octets fails) = fails
+
+-- how many of the last receives failed, one after the other
+abbrev pub failed_in_a_row : List Receipt → ℕ
+failed_in_a_row [] = 0
+failed_in_a_row (Came at octets ∷ earlier) = 0
+failed_in_a_row (Nothing at ∷ earlier) = 0
+failed_in_a_row (Failed at ∷ earlier) = failed_in_a_row earlier + 1
+
+abbrev pub most_failed : ℕ
+most_failed = 100
+
+-- the last 100 receives all failed
+abbrev pub HasFailed : List Entry → Type 0
+HasFailed log = most_failed ≤ failed_in_a_row (receipts log)
+
+-- ---- a turn
+
+-- A datagram came on the leg, and was handed on at this moment.
+abbrev pub IsFrom : Side → ℕ → Event → Type 0
+IsFrom at now (Ring moment number) = ⊥
+IsFrom at now (FromCalling octets moment decided read) = (at ≡ side.Calling) × (moment ≡ now)
+IsFrom at now (FromCalled octets moment decided) = (at ≡ side.Called) × (moment ≡ now)
+IsFrom at now (Tick moment given) = ⊥
+
+abbrev pub Comes : Side → ℕ → Entry → Type 0
+Comes at now (Accepts event) = IsFrom at now event
+Comes at now RefusesRing = ⊥
+Comes at now (RefusesDatagram on octets) = on ≡ at
+Comes at now RefusesTick = ⊥
+Comes at now (ReceivesNothing on) = ⊥
+Comes at now (FailsToReceive on) = ⊥
+Comes at now (Sends on octets fails) = ⊥
+
+abbrev pub BringsNone : Side → Entry → Type 0
+BringsNone at entry = (entry ≡ ReceivesNothing at) ⊎ (entry ≡ FailsToReceive at)
+
+abbrev pub most_datagrams : ℕ
+most_datagrams = 16
+
+-- A leg's receives in a turn: 16 datagrams come; or fewer, and then a receive brings none.
+abbrev pub AreReceives : Side → ℕ → List Entry → Type 0
+AreReceives at now log =
+    (All (Comes at now) log × (length log ≡ most_datagrams))
+    ⊎ ((came : List Entry) × (last : Entry) × (log ≡ last ∷ came) × All (Comes at now) came × (length came < most_datagrams) × BringsNone at last)
+
+-- What is given on a leg is handed over, once.
+abbrev pub IsSent : Side → Option (List ℕ) → List Entry → Type 0
+IsSent at None log = log ≡ []
+IsSent at (Some octets) log = (fails : Bool) × (log ≡ Sends at octets fails ∷ [])
+
+-- Time goes on: the tick is accepted, and what it gives is sent, the calling leg first; or it is refused.
+abbrev pub IsTick : ℕ → List Entry → Type 0
+IsTick now log =
+    ((given : Given) × (calling : List Entry) × (called : List Entry) × IsSent side.Calling given.on_calling calling × IsSent side.Called given.on_called called
+    × (log ≡ called ++ (calling ++ Accepts (Tick now given) ∷ [])))
+    ⊎ (log ≡ RefusesTick ∷ [])
+
+-- A turn: the receives of the calling leg, those of the called leg, and the tick.
+pub record IsTurn (now : ℕ) (log : List Entry) : Type 0 where
+  pub calling : List Entry
+  pub called : List Entry
+  pub tick : List Entry
+  pub log_is : log ≡ tick ++ (called ++ calling)
+  pub on_calling : AreReceives side.Calling now calling
+  pub on_called : AreReceives side.Called now called
+  pub ticks : IsTick now tick
+
+-- ---- what is left behind it
+
+-- The wire carried what the log tells, from the one to the other. Its failures are those of the log, where their count did
+-- not stop.
+pub record Carries (log : List Entry) (before after : Known) : Type 0 where
+  pub received : Grows (receipts log) before.received after.received
+  pub sent : Grows (sent log) before.sent after.sent
+  pub failures : after.failures < greatest_count → after.failures ≡ before.failures + (count_by is_failed_receive log + count_by is_failed_send log)
+
+-- The events of the log followed on the trace, and the wire carried the rest.
+pub record Happens (writes : Writing) (log : List Entry) (trace : List Event) (gateway : GatewayValue) (before after : Known) : Type 0 where
+  pub reached : IsReachedBy writes (events log ++ trace) gateway
+  pub carried : Carries log before after
+
+-- counts stop at the greatest
+abbrev pub counted : ℕ → ℕ
+counted n = min n greatest_count
+
+-- what a driver keeps
+pub record DriverValue : Type 0 where
+  pub failed_in_a_row : ℕ
+  pub events_refused : ℕ
+  pub receives_failed : ℕ
+  pub sends_failed : ℕ
+
+-- A driver did all this.
+pub record HasMade (log : List Entry) (driver : DriverValue) : Type 0 where
+  pub row : driver.failed_in_a_row ≡ min (failed_in_a_row (receipts log)) most_failed
+  pub events_refused : driver.events_refused ≡ counted (count_by is_refused_event log)
+  pub receives_failed : driver.receives_failed ≡ counted (count_by is_failed_receive log)
+  pub sends_failed : driver.sends_failed ≡ counted (count_by is_failed_send log)
+
+-- ---- a run
+
+abbrev pub greatest_moment : ℕ
+greatest_moment = 2 ^ 64 - 1
+
+-- the moment of a turn: turns are 40 ms apart
+abbrev pub moment_of : ℕ → ℕ → ℕ
+moment_of start turn = min (start + 40 * turn) greatest_moment
+
+-- It rings: the ring is accepted, or refused.
+abbrev pub IsRing : ℕ → List Entry → Type 0
+IsRing now log = ((number : ℕ) × (log ≡ Accepts (Ring now number) ∷ [])) ⊎ (log ≡ RefusesRing ∷ [])
+
+abbrev pub IsRingIf : Bool → ℕ → List Entry → Type 0
+IsRingIf false now log = log ≡ []
+IsRingIf true now log = IsRing now log
+
+-- A round of a run: it rings where it is to, and then a turn.
+abbrev pub IsRound : ℕ → Bool → List Entry → Type 0
+IsRound now rings log = (ring : List Entry) × (turn : List Entry) × (log ≡ turn ++ ring) × IsRingIf rings now ring × IsTurn now turn
+
+-- The rounds of a run, one after the other, until the last 100 receives failed.
+abbrev pub log_of : List (List Entry) → List Entry
+log_of rounds = flat_map (λ round. round) rounds
+
+abbrev pub AreRounds : (start : ℕ) → (rings : List ℕ) → List (List Entry) → Type 0
+AreRounds start rings [] = Unit {0}
+AreRounds start rings (round ∷ earlier) =
+    IsRound (moment_of start (length earlier)) (list_any (λ turn. nat_eq turn (length earlier)) rings) round
+    × (failed_in_a_row (receipts (log_of earlier)) < most_failed) × AreRounds start rings earlier
+
+-- What a run tells: of the turns that were to be, all are made, but where the last 100 receives failed.
+pub record Tells (wanted : ℕ) (rounds : List (List Entry)) (driven : Driven) : Type 0 where
+  pub turns : driven.turns ≡ length rounds
+  pub rings_refused : driven.rings_refused ≡ count_by is_refused_ring (log_of rounds)
+  pub events_refused : driven.events_refused ≡ count_by is_refused_event (log_of rounds)
+  pub sends_failed : driven.sends_failed ≡ count_by is_failed_send (log_of rounds)
+  pub receives_failed : driven.receives_failed ≡ count_by is_failed_receive (log_of rounds)
+  pub stopped : IsTrue driven.stopped ↔ HasFailed (log_of rounds)
+  pub all : driven.stopped ≡ false → length rounds ≡ wanted
+  pub at_most : length rounds ≤ wanted
+
+-- ---- the steps of a turn
+
+-- one receive: a datagram came, or none
+abbrev pub IsReceive : Bool → Side → ℕ → Entry → Type 0
+IsReceive true at now entry = Comes at now entry
+IsReceive false at now entry = BringsNone at entry
+
+-- a datagram of these octets was handed on, and accepted or refused
+pub record IsHanded (accepted : Bool) (at : Side) (octets : List ℕ) (entry : Entry) : Type 0 where
+  pub receipt : receipts_in entry ≡ Came at octets ∷ []
+  pub refused : is_refused_event entry ≡ not accepted
+  pub none_sent : sent_in entry ≡ []
+  pub received : is_failed_receive entry ≡ false
+  pub sends_none : is_failed_send entry ≡ false
+
+-- it happened, and a driver that did all that is in `earlier` did it
+pub record Steps (writes : Writing) (log : List Entry) (trace : List Event) (earlier : List Entry) (gateway : GatewayValue) (before after : Known) (driver : DriverValue) : Type 0 where
+  pub happens : Happens writes log trace gateway before after
+  pub made : HasMade (log ++ earlier) driver

@@ -1,0 +1,39 @@
+-- What goes over a wire. (This project's profile.) Lists have the newest first.
+use Rattle.std.specs.Prelude.{◌≡◌, ℕ, ◌+◌, ◌-◌, ◌^◌, min, List, ◌++◌, take, Option, Some, None, Result, Ok, Err}
+use Rattle.fax_gateway.specs.declared.side.Side.{Side}
+use Rattle.fax_gateway.specs.declared.wire.WireFault.{WireFault}
+
+-- what a receive on a leg answered: a datagram, that nothing has come, or that it failed
+pub data Receipt : Type 0 where
+  Came : (side : Side) → (octets : List ℕ) → Receipt
+  Nothing : (side : Side) → Receipt
+  Failed : (side : Side) → Receipt
+
+-- a datagram that was handed over, to be sent on a leg
+pub record Handed : Type 0 where
+  pub side : Side
+  pub octets : List ℕ
+
+-- What is known of a wire: how many of its calls failed; and what went over it, where it tells that.
+pub record Known : Type 0 where
+  pub failures : ℕ
+  pub received : Option (List Receipt)
+  pub sent : Option (List Handed)
+
+-- where counts stop
+abbrev pub greatest_count : ℕ
+greatest_count = 2 ^ 64 - 1
+
+abbrev pub failures_after : {A : Type 0} → ℕ → Result A WireFault → ℕ
+failures_after failures (Ok answer) = failures
+failures_after failures (Err fault) = min (failures + 1) greatest_count
+
+abbrev pub receipt_of : Side → List ℕ → Result (Option ℕ) WireFault → Receipt
+receipt_of side buffer (Ok (Some count)) = Came side (take count buffer)
+receipt_of side buffer (Ok None) = Nothing side
+receipt_of side buffer (Err fault) = Failed side
+
+-- Where a list is told, it was told before, and has these before it.
+abbrev pub Grows : {A : Type 0} → List A → Option (List A) → Option (List A) → Type 0
+Grows newer before None = Unit {0}
+Grows {A} newer before (Some told) = (older : List A) × (before ≡ Some older) × (told ≡ newer ++ older)

@@ -1,0 +1,199 @@
+//! A driver of a gateway.
+ghost use Rattle.std.specs.Prelude.{◌≡◌, ◌<◌, ◌↔◌, ℕ, List, [], ◌∷◌, ◌++◌, IsTrue, IfOk, vec_len};
+ghost use Rattle.fax_call.specs.Writings.{IsWriting, Writing};
+ghost use Rattle.fax_gateway.specs.Events.{Event};
+ghost use Rattle.fax_gateway.specs.Reached.{IsReachedBy};
+ghost use Rattle.fax_gateway.specs.declared.side.Side.{Side as SideShown};
+ghost use Rattle.fax_gateway.specs.Driving.{AreReceives, Carries, Comes, Entry, FailsToReceive, Happens, HasMade, IsHanded, IsReceive, IsSent, IsTick, IsTurn, Steps, events, failed_in_a_row, most_failed, receipts};
+
+use crate::driven::Driven;
+use crate::gateway::Gateway;
+use crate::side::Side;
+use crate::wire::{Wire, WireFault};
+use fax_bits::{NoMemory, Octets};
+use fax_pagestore::RowStore;
+use std::alloc::Global;
+use std::marker::Model;
+
+/// The most datagrams of a leg in a turn.
+const MOST_DATAGRAMS: u8 = 16;
+
+/// So many receives that fail one after the other are the last.
+const MOST_FAILED: u8 = 100;
+
+/// How many octets a datagram can have.
+const MOST_OCTETS: usize = 65_536;
+
+/// What drives a gateway over a wire.
+#[derive(Drop)]
+pub struct Driver {
+    buffer: Vec<u8>,
+    /// How many of the last receives failed, one after the other; at most 100.
+    failed_in_a_row: u8,
+    events_refused: u64,
+    receives_failed: u64,
+    sends_failed: u64,
+}
+
+impl Model for Driver {
+    ghost use Rattle.fax_gateway.specs.Driving.{DriverValue};
+
+    ghost Value = { DriverValue };
+
+    ghost view = { λ d. record { failed_in_a_row = d.failed_in_a_row; events_refused = d.events_refused; receives_failed = d.receives_failed; sends_failed = d.sends_failed } };
+}
+
+impl Driver {
+    /// A driver that did nothing. It takes memory for one datagram.
+    pub fn new(alloc: Global) -> Result<Self, NoMemory>
+        ensures { IfOk result (λ driver. HasMade [] driver) }
+    {
+        let buffer = vec![in alloc; 0; MOST_OCTETS]?;
+        Ok(Driver {
+            buffer,
+            failed_in_a_row: 0,
+            events_refused: 0,
+            receives_failed: 0,
+            sends_failed: 0,
+        })
+    }
+
+    /// A turn: of the calling and then of the called leg at most 16 datagrams are received and handed on, until none comes or
+    /// a receive fails; then time goes on, and what is given is sent, the calling leg first. A datagram whose send fails is
+    /// lost, and what the gateway refuses for want of memory is left out. It answers whether one of the last 100 receives
+    /// did not fail.
+    pub fn turn<S: RowStore, W: Wire>(
+        &mut self,
+        gateway: &mut Gateway<S>,
+        wire: &mut W,
+        now: u64,
+    ) -> bool
+        ensures turned { (writes : Writing) (trace : List Event) (earlier : List Entry) → IsWriting writes → IsReachedBy writes trace gateway.old → HasMade earlier self.old
+            → (turn : List Entry) × IsTurn now turn × Happens writes turn trace gateway.new (W.known wire.old) (W.known wire.new) × HasMade (turn ++ earlier) self.new }
+        ensures goes_on { (made : List Entry) → HasMade made self.new → IsTrue result ↔ (failed_in_a_row (receipts made) < most_failed) }
+    {
+        self.serve(Side::Calling, gateway, wire, now);
+        self.serve(Side::Called, gateway, wire, now);
+        self.tick(gateway, wire, now);
+        self.failed_in_a_row < MOST_FAILED
+    }
+
+    /// What a run of so many turns came to, where this driver made it.
+    pub(crate) fn told(&self, turns: u32, rings_refused: u64, stopped: bool) -> Driven
+        ensures { result ≡ record { turns = turns; rings_refused = rings_refused; events_refused = self.now.events_refused; sends_failed = self.now.sends_failed; receives_failed = self.now.receives_failed; stopped = stopped } }
+    {
+        Driven {
+            turns,
+            rings_refused,
+            events_refused: self.events_refused,
+            sends_failed: self.sends_failed,
+            receives_failed: self.receives_failed,
+            stopped,
+        }
+    }
+
+    /// Receives and hands on at most 16 datagrams of a leg, until none comes or a receive fails.
+    fn serve<S: RowStore, W: Wire>(
+        &mut self,
+        side: Side,
+        gateway: &mut Gateway<S>,
+        wire: &mut W,
+        now: u64,
+    )
+        ensures { (writes : Writing) (trace : List Event) (earlier : List Entry) → IsReachedBy writes trace gateway.old → HasMade earlier self.old
+            → (log : List Entry) × AreReceives side now log × Steps writes log trace earlier gateway.new (W.known wire.old) (W.known wire.new) self.new }
+    {
+        for _ in 0..MOST_DATAGRAMS {
+            if !self.receive(side, gateway, wire, now) {
+                return;
+            }
+        }
+    }
+
+    /// Receives and hands on a datagram of a leg. It answers whether one came.
+    fn receive<S: RowStore, W: Wire>(
+        &mut self,
+        side: Side,
+        gateway: &mut Gateway<S>,
+        wire: &mut W,
+        now: u64,
+    ) -> bool
+        ensures { (writes : Writing) (trace : List Event) (earlier : List Entry) → IsReachedBy writes trace gateway.old → HasMade earlier self.old
+            → (entry : Entry) × IsReceive result side now entry × Steps writes (entry ∷ []) trace earlier gateway.new (W.known wire.old) (W.known wire.new) self.new }
+    {
+        match wire.receive(side, self.buffer.as_mut_slice()) {
+            Ok(Some(count)) => {
+                let is_accepted = hand_on(side, &self.buffer[..count], gateway, now);
+                self.note_datagram(is_accepted);
+                true
+            }
+            Ok(None) => {
+                self.failed_in_a_row = 0;
+                false
+            }
+            Err(WireFault) => {
+                self.note_failure();
+                false
+            }
+        }
+    }
+
+    /// A datagram came, and was accepted or refused.
+    fn note_datagram(&mut self, is_accepted: bool)
+        ensures { (log : List Entry) (at : SideShown) (octets : List ℕ) (entry : Entry) → IsHanded is_accepted at octets entry → HasMade log self.old → HasMade (entry ∷ log) self.new }
+    {
+        self.failed_in_a_row = 0;
+        if !is_accepted {
+            self.events_refused = self.events_refused.saturating_add(1);
+        }
+    }
+
+    /// A receive failed.
+    fn note_failure(&mut self)
+        ensures { (log : List Entry) (at : SideShown) → HasMade log self.old → HasMade (FailsToReceive at ∷ log) self.new }
+    {
+        self.receives_failed = self.receives_failed.saturating_add(1);
+        if self.failed_in_a_row < MOST_FAILED {
+            self.failed_in_a_row += 1;
+        }
+    }
+
+    /// Time goes on, and what is given is sent.
+    fn tick<S: RowStore, W: Wire>(&mut self, gateway: &mut Gateway<S>, wire: &mut W, now: u64)
+        ensures { (writes : Writing) (trace : List Event) (earlier : List Entry) → IsWriting writes → IsReachedBy writes trace gateway.old → HasMade earlier self.old
+            → (log : List Entry) × IsTick now log × Steps writes log trace earlier gateway.new (W.known wire.old) (W.known wire.new) self.new }
+    {
+        match gateway.tick(now) {
+            Ok(given) => {
+                self.send(Side::Calling, &given.calling, wire);
+                self.send(Side::Called, &given.called, wire);
+            }
+            Err(NoMemory) => self.events_refused = self.events_refused.saturating_add(1),
+        }
+    }
+
+    /// Sends what is given on a leg.
+    fn send<W: Wire>(&mut self, side: Side, given: &Option<Octets>, wire: &mut W)
+        ensures { (earlier : List Entry) → HasMade earlier self.old
+            → (log : List Entry) × IsSent side given.now log × Carries log (W.known wire.old) (W.known wire.new) × HasMade (log ++ earlier) self.new }
+    {
+        let Some(octets) = given else {
+            return;
+        };
+        match wire.send(side, octets.as_slice()) {
+            Ok(()) => {}
+            Err(WireFault) => self.sends_failed = self.sends_failed.saturating_add(1),
+        }
+    }
+}
+
+/// Hands a datagram of a leg on to the gateway. It answers whether it was accepted.
+fn hand_on<S: RowStore>(side: Side, octets: &[u8], gateway: &mut Gateway<S>, now: u64) -> bool
+    ensures { (writes : Writing) (trace : List Event) → IsReachedBy writes trace gateway.old
+        → (entry : Entry) × Comes side now entry × IsHanded result side octets.now entry × IsReachedBy writes (events (entry ∷ []) ++ trace) gateway.new }
+{
+    match side {
+        Side::Calling => gateway.from_calling(octets, now).is_ok(),
+        Side::Called => gateway.from_called(octets, now).is_ok(),
+    }
+}

@@ -1,0 +1,33 @@
+//! What an engine receives datagrams from, and hands them to.
+ghost use Rattle.std.specs.Prelude.{ℕ, ◌≡◌, ◌≤◌, List, [], ◌∷◌, Option, length, IfOk, IfSome};
+ghost use Rattle.fax_gateway.specs.Wires.{Grows, Known, failures_after, receipt_of};
+
+use crate::side::Side;
+use thiserror::Error;
+
+/// A receive or a send failed. What was sent counts as lost.
+#[derive(Clone, Copy, PartialEq, Eq, Debug, Error)]
+#[error("a wire failed")]
+pub struct WireFault;
+
+/// Where the datagrams of both legs come from and go to. Nothing waits: a receive answers at once.
+pub trait Wire {
+    /// How many of its calls failed, where the count stops at the greatest `u64`; and, of a wire that tells what goes over
+    /// it, all that it answered to `receive`, and all that it was handed to send, the newest first. Of sockets the count
+    /// alone is known, and a wire that lacks memory may tell no more.
+    ghost known: { Self → Known };
+
+    /// Receives a datagram on a leg into the front of the buffer, and says how many octets it has. `None`: nothing has come.
+    /// What lies behind the datagram may be anything.
+    fn receive(&mut self, side: Side, buffer: &mut [u8]) -> Result<Option<usize>, WireFault>
+        ensures fits { IfOk result (λ came. IfSome came (λ count. count ≤ length buffer.new)) }
+        ensures failures { (known self.new).failures ≡ failures_after (known self.old).failures result }
+        ensures received { Grows (receipt_of side buffer.new result ∷ []) (known self.old).received (known self.new).received }
+        ensures sent { Grows [] (known self.old).sent (known self.new).sent };
+
+    /// Sends a datagram on a leg. It was handed over also where the send failed.
+    fn send(&mut self, side: Side, octets: &[u8]) -> Result<(), WireFault>
+        ensures failures { (known self.new).failures ≡ failures_after (known self.old).failures result }
+        ensures received { Grows [] (known self.old).received (known self.new).received }
+        ensures sent { Grows (record { side = side; octets = octets.now } ∷ []) (known self.old).sent (known self.new).sent };
+}
