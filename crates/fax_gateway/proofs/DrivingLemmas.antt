@@ -18,9 +18,12 @@ use Rattle.fax_gateway.specs.declared.fault.RingFault.{RingFault}
 use Rattle.fax_gateway.specs.Events.{Event, Ring, FromCalling, FromCalled, Tick}
 use Rattle.fax_call.specs.Writings.{Writing}
 use Rattle.fax_gateway.specs.Reached.{GatewayValue}
+use Rattle.fax_gateway.specs.CallingLegs.{calling_leg, decided_calling}
+use Rattle.fax_gateway.specs.CalledLegs.{decided_called}
+use Rattle.fax_gateway.specs.Sides.{sides}
 use Rattle.fax_gateway.specs.Reached.{HearsFrom, IsReachedBy}
 use Rattle.fax_gateway.specs.Wires.{Known, Came, Grows, greatest_count, failures_after, receipt_of}
-use Rattle.fax_gateway.specs.Driving.{Entry, Accepts, BringsNone, moment_of, AreReceives, AreRounds, HasFailed, IsRing, IsRingIf, IsRound, IsTick, IsTurn, RefusesRing, Tells, log_of, is_refused_ring, RefusesDatagram, RefusesTick, ReceivesNothing, FailsToReceive, Sends, DriverValue, Carries, Happens, HasMade, Steps, Comes, IsHanded, IsSent, counted, events, events_in, failed_in_a_row, most_failed, receipts, receipts_in, sent, sent_in, is_failed_receive, is_failed_send, is_refused_event}
+use Rattle.fax_gateway.specs.Driving.{Entry, AreWanting, IsWanting, Accepts, BringsNone, moment_of, AreReceives, AreRounds, HasFailed, IsRing, IsRingIf, IsRound, IsTick, IsTurn, RefusesRing, Tells, log_of, is_refused_ring, RefusesDatagram, RefusesTick, ReceivesNothing, FailsToReceive, Sends, DriverValue, Carries, Happens, HasMade, Steps, Comes, IsHanded, IsSent, counted, events, events_in, failed_in_a_row, most_failed, receipts, receipts_in, sent, sent_in, is_failed_receive, is_failed_send, is_refused_event}
 
 pub grows_more : {A : Type 0} (older newer : List A) (a b c : Option (List A)) → Grows older a b → Grows newer b c → Grows (newer ++ older) a c
 grows_more older newer a b None first second = tt
@@ -72,11 +75,19 @@ pub reached_more : (writes : Writing) (older newer : List Entry) (trace : List E
 reached_more writes older newer trace g r =
     subst (λ (t : List Event). IsReachedBy writes t g) (sym (append_assoc (events newer) (events older) trace) ∙ ap (λ (l : List Event). l ++ trace) (sym (flat_map-append events_in newer older))) r
 
+pub wanting_more : (writes : Writing) (older newer : List Entry) (trace : List Event) → AreWanting writes trace older → AreWanting writes (events older ++ trace) newer → AreWanting writes trace (newer ++ older)
+wanting_more writes older [] trace first second = first
+wanting_more writes older (e ∷ newer) trace first second = (
+  subst (λ (t : List Event). IsWanting writes t e) (sym (append_assoc (events newer) (events older) trace) ∙ ap (λ (l : List Event). l ++ trace) (sym (flat_map-append events_in newer older))) second.0,
+  wanting_more writes older newer trace first second.1,
+)
+
 pub happens_more :
     (writes : Writing) (older newer : List Entry) (trace : List Event) (g h : GatewayValue) (a b c : Known)
     → Happens writes older trace g a b → Happens writes newer (events older ++ trace) h b c → Happens writes (newer ++ older) trace h a c
 happens_more writes older newer trace g h a b c first second = record {
   reached = reached_more writes older newer trace h second.reached;
+  wanting = wanting_more writes older newer trace first.wanting second.wanting;
   carried = carries_more older newer a b c first.carried second.carried;
 }
 
@@ -96,7 +107,7 @@ carries_none a = record { received = grows_none a.received; sent = grows_none a.
 
 pub steps_none : (writes : Writing) (trace : List Event) (earlier : List Entry) (g : GatewayValue) (a : Known) (d : DriverValue)
     → IsReachedBy writes trace g → HasMade earlier d → Steps writes [] trace earlier g a a d
-steps_none writes trace earlier g a d reached made = record { happens = record { reached = reached; carried = carries_none a }; made = made }
+steps_none writes trace earlier g a d reached made = record { happens = record { reached = reached; wanting = tt; carried = carries_none a }; made = made }
 
 -- an entry that the wire does not see
 pub carries_unseen : (e : Entry) (a : Known) → receipts_in e ≡ [] → sent_in e ≡ [] → is_failed_receive e ≡ false → is_failed_send e ≡ false → Carries (e ∷ []) a a
@@ -198,27 +209,34 @@ made_failed_send log at octets d k is made = record {
 
 -- ---- a datagram is handed on
 
+-- where only what decides nothing is sure of an answer, what has none decides
+pub must_decide : (decides : Bool) (r : Result Bool NoMemory) (fault : NoMemory) → r ≡ Err fault → (decides ≡ false → r ≡ Ok false) → decides ≡ true
+must_decide true r fault is sure = refl
+must_decide false r fault is sure = let e : r ≡ Ok false = sure refl in cc
+
 abbrev pub HandsOn : Writing → List Event → Side → List ℕ → ℕ → Bool → GatewayValue → Type 0
-HandsOn writes trace at octets now accepted g = (e : Entry) × Comes at now e × IsHanded accepted at octets e × IsReachedBy writes (events (e ∷ []) ++ trace) g
+HandsOn writes trace at octets now accepted g = (e : Entry) × Comes at now e × IsHanded accepted at octets e × IsWanting writes trace e × IsReachedBy writes (events (e ∷ []) ++ trace) g
 
 pub hands_on_calling :
     (writes : Writing) (trace : List Event) (octets : List ℕ) (now : ℕ) (old new : GatewayValue) (r : Result Bool NoMemory)
     → IfOk r (λ decided. (writes : Writing) (trace : List Event) → IsReachedBy writes trace old → HearsFrom writes trace octets now decided new)
+    → ((writes : Writing) (trace : List Event) → IsReachedBy writes trace old → decided_calling (calling_leg trace) octets ≡ false → r ≡ Ok false)
     → OnErr r (new ≡ old) → IsReachedBy writes trace old → HandsOn writes trace side.Calling octets now (is_ok r) new
-hands_on_calling writes trace octets now old new (Ok decided) heard err reached =
+hands_on_calling writes trace octets now old new (Ok decided) heard memory err reached =
     let h = heard writes trace reached in
-    (Accepts (FromCalling octets now decided h.read), (refl, refl), record { receipt = refl; refused = refl; none_sent = refl; received = refl; sends_none = refl }, h.reached)
-hands_on_calling writes trace octets now old new (Err fault) heard err reached =
-    (RefusesDatagram side.Calling octets, refl, record { receipt = refl; refused = refl; none_sent = refl; received = refl; sends_none = refl }, subst (λ (g : GatewayValue). IsReachedBy writes trace g) (sym err) reached)
+    (Accepts (FromCalling octets now decided h.read), (refl, refl), record { receipt = refl; refused = refl; none_sent = refl; received = refl; sends_none = refl }, tt, h.reached)
+hands_on_calling writes trace octets now old new (Err fault) heard memory err reached =
+    (RefusesDatagram side.Calling octets, refl, record { receipt = refl; refused = refl; none_sent = refl; received = refl; sends_none = refl }, must_decide _ (Err fault) fault refl (memory writes trace reached), subst (λ (g : GatewayValue). IsReachedBy writes trace g) (sym err) reached)
 
 pub hands_on_called :
     (writes : Writing) (trace : List Event) (octets : List ℕ) (now : ℕ) (old new : GatewayValue) (r : Result Bool NoMemory)
     → IfOk r (λ decided. (writes : Writing) (trace : List Event) → IsReachedBy writes trace old → IsReachedBy writes (FromCalled octets now decided ∷ trace) new)
+    → ((writes : Writing) (trace : List Event) → IsReachedBy writes trace old → decided_called writes (sides writes trace).leg octets ≡ false → r ≡ Ok false)
     → OnErr r (new ≡ old) → IsReachedBy writes trace old → HandsOn writes trace side.Called octets now (is_ok r) new
-hands_on_called writes trace octets now old new (Ok decided) heard err reached =
-    (Accepts (FromCalled octets now decided), (refl, refl), record { receipt = refl; refused = refl; none_sent = refl; received = refl; sends_none = refl }, heard writes trace reached)
-hands_on_called writes trace octets now old new (Err fault) heard err reached =
-    (RefusesDatagram side.Called octets, refl, record { receipt = refl; refused = refl; none_sent = refl; received = refl; sends_none = refl }, subst (λ (g : GatewayValue). IsReachedBy writes trace g) (sym err) reached)
+hands_on_called writes trace octets now old new (Ok decided) heard memory err reached =
+    (Accepts (FromCalled octets now decided), (refl, refl), record { receipt = refl; refused = refl; none_sent = refl; received = refl; sends_none = refl }, tt, heard writes trace reached)
+hands_on_called writes trace octets now old new (Err fault) heard memory err reached =
+    (RefusesDatagram side.Called octets, refl, record { receipt = refl; refused = refl; none_sent = refl; received = refl; sends_none = refl }, must_decide _ (Err fault) fault refl (memory writes trace reached), subst (λ (g : GatewayValue). IsReachedBy writes trace g) (sym err) reached)
 
 -- ---- sends
 
@@ -226,6 +244,10 @@ hands_on_called writes trace octets now old new (Err fault) heard err reached =
 pub sends_no_event : (at : Side) (given : Option (List ℕ)) (log : List Entry) → IsSent at given log → events log ≡ []
 sends_no_event at None log is = ap events is
 sends_no_event at (Some octets) log (fails, is) = ap events is
+
+pub sends_want_nothing : (writes : Writing) (trace : List Event) (at : Side) (given : Option (List ℕ)) (log : List Entry) → IsSent at given log → AreWanting writes trace log
+sends_want_nothing writes trace at None log is = subst (λ (l : List Entry). AreWanting writes trace l) (sym is) tt
+sends_want_nothing writes trace at (Some octets) log (fails, is) = subst (λ (l : List Entry). AreWanting writes trace l) (sym is) (tt, tt)
 
 pub is_sent : (at : Side) (given : Option (List ℕ)) (o octets : List ℕ) (fails : Bool) → given ≡ Some o → octets ≡ o → IsSent at given (Sends at octets fails ∷ [])
 is_sent at given o octets fails is same =
@@ -237,6 +259,7 @@ pub steps_send :
 steps_send writes at given log trace earlier g a b d is carried made reached = record {
   happens = record {
     reached = subst (λ (l : List Event). IsReachedBy writes (l ++ trace) g) (sym (sends_no_event at given log is)) reached;
+    wanting = sends_want_nothing writes trace at given log is;
     carried = carried;
   };
   made = made;
@@ -306,15 +329,15 @@ pub steps_ring :
     (writes : Writing) (due : Bool) (now : ℕ) (log : List Entry) (trace : List Event) (earlier : List Entry) (g : GatewayValue) (a : Known) (d : DriverValue)
     → IsRingIf due now log → IsReachedBy writes (events log ++ trace) g → HasMade earlier d → Steps writes log trace earlier g a a d
 steps_ring writes false now log trace earlier g a d is reached made = record {
-  happens = record { reached = reached; carried = subst (λ (l : List Entry). Carries l a a) (sym is) (carries_none a) };
+  happens = record { reached = reached; wanting = subst (λ (l : List Entry). AreWanting writes trace l) (sym is) tt; carried = subst (λ (l : List Entry). Carries l a a) (sym is) (carries_none a) };
   made = subst (λ (l : List Entry). HasMade (l ++ earlier) d) (sym is) made;
 }
 steps_ring writes true now log trace earlier g a d (inl (number, is)) reached made = record {
-  happens = record { reached = reached; carried = subst (λ (l : List Entry). Carries l a a) (sym is) (carries_unseen (Accepts (Ring now number)) a refl refl refl refl) };
+  happens = record { reached = reached; wanting = subst (λ (l : List Entry). AreWanting writes trace l) (sym is) (tt, tt); carried = subst (λ (l : List Entry). Carries l a a) (sym is) (carries_unseen (Accepts (Ring now number)) a refl refl refl refl) };
   made = subst (λ (l : List Entry). HasMade (l ++ earlier) d) (sym is) (made_unseen earlier (Accepts (Ring now number)) d refl refl refl refl made);
 }
 steps_ring writes true now log trace earlier g a d (inr is) reached made = record {
-  happens = record { reached = reached; carried = subst (λ (l : List Entry). Carries l a a) (sym is) (carries_unseen RefusesRing a refl refl refl refl) };
+  happens = record { reached = reached; wanting = subst (λ (l : List Entry). AreWanting writes trace l) (sym is) (tt, tt); carried = subst (λ (l : List Entry). Carries l a a) (sym is) (carries_unseen RefusesRing a refl refl refl refl) };
   made = subst (λ (l : List Entry). HasMade (l ++ earlier) d) (sym is) (made_unseen earlier RefusesRing d refl refl refl refl made);
 }
 

@@ -4,6 +4,9 @@ use Rattle.std.specs.List.{All, count_by, flat_map, list_any}
 use Rattle.fax_gateway.specs.Events.{Event, Ring, FromCalling, FromCalled, Tick, Given}
 use Rattle.fax_call.specs.Writings.{Writing}
 use Rattle.fax_gateway.specs.Reached.{GatewayValue}
+use Rattle.fax_gateway.specs.CallingLegs.{calling_leg, decided_calling}
+use Rattle.fax_gateway.specs.CalledLegs.{decided_called}
+use Rattle.fax_gateway.specs.Sides.{sides}
 use Rattle.fax_gateway.specs.Reached.{IsReachedBy}
 use Rattle.fax_gateway.specs.declared.side.Side.{Side}
 use Rattle.fax_gateway.specs.declared.driven.Driven.{Driven}
@@ -179,9 +182,28 @@ pub record Carries (log : List Entry) (before after : Known) : Type 0 where
   pub sent : Grows (sent log) before.sent after.sent
   pub failures : after.failures < greatest_count → after.failures ≡ before.failures + (count_by is_failed_receive log + count_by is_failed_send log)
 
--- The events of the log followed on the trace, and the wire carried the rest.
+-- Of the datagrams those alone are refused, behind this trace, that decide a slot: the others take no memory.
+abbrev pub decides_on : Writing → List Event → Side → List ℕ → Bool
+decides_on writes earlier side.Calling octets = decided_calling (calling_leg earlier) octets
+decides_on writes earlier side.Called octets = decided_called writes (sides writes earlier).leg octets
+
+abbrev pub IsWanting : Writing → List Event → Entry → Type 0
+IsWanting writes earlier (Accepts event) = Unit {0}
+IsWanting writes earlier RefusesRing = Unit {0}
+IsWanting writes earlier (RefusesDatagram at octets) = decides_on writes earlier at octets ≡ true
+IsWanting writes earlier RefusesTick = Unit {0}
+IsWanting writes earlier (ReceivesNothing at) = Unit {0}
+IsWanting writes earlier (FailsToReceive at) = Unit {0}
+IsWanting writes earlier (Sends at octets fails) = Unit {0}
+
+abbrev pub AreWanting : Writing → List Event → List Entry → Type 0
+AreWanting writes trace [] = Unit {0}
+AreWanting writes trace (entry ∷ earlier) = IsWanting writes (events earlier ++ trace) entry × AreWanting writes trace earlier
+
+-- The events of the log followed on the trace, what was refused wanted memory, and the wire carried the rest.
 pub record Happens (writes : Writing) (log : List Entry) (trace : List Event) (gateway : GatewayValue) (before after : Known) : Type 0 where
   pub reached : IsReachedBy writes (events log ++ trace) gateway
+  pub wanting : AreWanting writes trace log
   pub carried : Carries log before after
 
 -- counts stop at the greatest

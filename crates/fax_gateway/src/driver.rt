@@ -4,7 +4,7 @@ ghost use Rattle.fax_call.specs.Writings.{IsWriting, Writing};
 ghost use Rattle.fax_gateway.specs.Events.{Event};
 ghost use Rattle.fax_gateway.specs.Reached.{IsReachedBy};
 ghost use Rattle.fax_gateway.specs.declared.side.Side.{Side as SideShown};
-ghost use Rattle.fax_gateway.specs.Driving.{AreReceives, Carries, Comes, Entry, FailsToReceive, Happens, HasMade, IsHanded, IsReceive, IsSent, IsTick, IsTurn, Steps, events, failed_in_a_row, most_failed, receipts};
+ghost use Rattle.fax_gateway.specs.Driving.{AreReceives, Carries, Comes, Entry, FailsToReceive, Happens, HasMade, IsHanded, IsReceive, IsSent, IsTick, IsTurn, IsWanting, Steps, events, failed_in_a_row, most_failed, receipts};
 
 use crate::driven::Driven;
 use crate::gateway::Gateway;
@@ -190,7 +190,7 @@ impl Driver {
 /// Hands a datagram of a leg on to the gateway. It answers whether it was accepted.
 fn hand_on<S: RowStore>(side: Side, octets: &[u8], gateway: &mut Gateway<S>, now: u64) -> bool
     ensures { (writes : Writing) (trace : List Event) → IsReachedBy writes trace gateway.old
-        → (entry : Entry) × Comes side now entry × IsHanded result side octets.now entry × IsReachedBy writes (events (entry ∷ []) ++ trace) gateway.new }
+        → (entry : Entry) × Comes side now entry × IsHanded result side octets.now entry × IsWanting writes trace entry × IsReachedBy writes (events (entry ∷ []) ++ trace) gateway.new }
 {
     match side {
         Side::Calling => gateway.from_calling(octets, now).is_ok(),

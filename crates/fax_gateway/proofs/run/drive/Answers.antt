@@ -35,7 +35,7 @@ returns-then-not-turn-clause-failures g c writes trace writing reached low =
 pub loop-turn-init : goal.loop-turn-init
 loop-turn-init g c = record {
   few = omega arith;
-  ran = λ writes trace writing reached. ([], tt, refl, omega arith, refl, record { reached = reached; carried = carries_none (g.W.Wire.known c.args.wire.now) }, c.in_ok-driver.ensures);
+  ran = λ writes trace writing reached. ([], tt, refl, omega arith, refl, record { reached = reached; wanting = tt; carried = carries_none (g.W.Wire.known c.args.wire.now) }, c.in_ok-driver.ensures);
 }
 
 pub loop-turn-preserved : goal.loop-turn-preserved

@@ -25,7 +25,8 @@ returns-in-Ok-Some g c writes trace earlier reached made =
       h.1,
       record {
         happens = record {
-          reached = h.3;
+          reached = h.4;
+          wanting = (h.3, tt);
           carried = carries_datagram at buffer octets count h.0 _ _ c.receive.result (c.in-Ok-Some.is ∙ ap Ok c.in-Ok-Some.field-0-is) same c.hand_on-is_accepted.result h.2 k.failures k.received k.sent;
         };
         made = c.note_datagram.ensures earlier at octets h.0 h.2 (subst (λ (d : DriverValue). HasMade earlier d) (sym c.self.view_is) made);
@@ -41,6 +42,7 @@ returns-in-Ok-None g c writes trace earlier reached made =
       record {
         happens = record {
           reached = reached;
+          wanting = (tt, tt);
           carried = carries_nothing at c.receive.new.buffer _ _ c.receive.result (c.in-Ok-None.is ∙ ap Ok c.in-Ok-None.field-0-is) k.failures k.received k.sent;
         };
         made = made_nothing earlier at _ (subst (λ (d : DriverValue). HasMade earlier d) (sym c.self.view_is) made);
@@ -56,6 +58,7 @@ returns-in-Err g c writes trace earlier reached made =
       record {
         happens = record {
           reached = reached;
+          wanting = (tt, tt);
           carried = carries_failure at c.receive.new.buffer _ _ c.receive.result c.in-Err.field-0 c.in-Err.is k.failures k.received k.sent;
         };
         made = c.note_failure.ensures earlier at (subst (λ (d : DriverValue). HasMade earlier d) (sym c.self.view_is) made);

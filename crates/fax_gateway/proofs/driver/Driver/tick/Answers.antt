@@ -18,6 +18,7 @@ returns-in-Ok g c writes trace earlier writing reached made =
     let step : Steps writes (e ∷ []) trace earlier c.tick.new.self (g.W.Wire.known c.args.wire.now) (g.W.Wire.known c.args.wire.now) c.args.self.now = record {
       happens = record {
         reached = c.in-Ok.ensures.ticked writes trace writing reached;
+        wanting = (tt, tt);
         carried = carries_unseen e _ refl refl refl refl;
       };
       made = made_unseen earlier e _ refl refl refl refl made;
@@ -39,6 +40,7 @@ returns-in-Err g c writes trace earlier writing reached made = (
   record {
     happens = record {
       reached = c.in-Err.ensures.kept writes trace reached;
+      wanting = (tt, tt);
       carried = carries_unseen RefusesTick _ refl refl refl refl;
     };
     made = made_refused_tick earlier _ _ c.saturating_add-self-inside.ensures (subst (λ (d : DriverValue). HasMade earlier d) (sym c.self.view_is) made);
