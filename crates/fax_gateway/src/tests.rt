@@ -1,5 +1,7 @@
 //! A whole call on both legs, and what is refused. Memory is refused from outside: `tools/refuse-test-memory` refuses each
 //! allocation in turn, and reads what the test of the whole call prints.
+mod driving;
+
 use crate::gateway::next_number;
 use crate::{Gateway, Given, RingFault};
 use fax_bits::{NoMemory, Octets};
