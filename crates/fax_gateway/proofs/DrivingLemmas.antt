@@ -1,7 +1,7 @@
 -- Logs that follow one another.
 use Rattle.std.proofs.Common.{◌≡◌, ℕ, ◌+◌, ◌*◌, ◌^◌, ◌<◌, ◌≤◌, ◌↔◌, min, take, IsTrue, suc, inl, inr, nat_eq, Bool, true, false, cond, List, [], ◌∷◌, ◌++◌, Option, Some, None, Result, Ok, Err, IfOk, OnErr, refl, sym, ◌∙◌, ap, subst, length, length-append, append_assoc, zero-add, arith}
 use Rattle.std.specs.Result.{is_ok, is_err}
-use Rattle.std.specs.List.{All, count_by, flat_map, list_any}
+use Rattle.std.specs.List.{All, count_by, list_any}
 use Rattle.std.proofs.lemmas.List.Elements.{All-head, All-tail}
 use mir.Val.{bool_byte}
 use Rattle.std.proofs.lemmas.Bool.{false≢true}

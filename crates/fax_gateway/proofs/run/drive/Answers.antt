@@ -1,10 +1,5 @@
-use Rattle.std.proofs.Common.{◌≡◌, ◌<◌, ◌≤◌, ◌+◌, ℕ, Bool, true, false, cond, List, [], ◌∷◌, ◌++◌, length, refl, sym, ◌∙◌, ap, subst, arith}
-use Rattle.fax_call.specs.Writings.{IsWriting, Writing}
-use Rattle.fax_gateway.specs.Events.{Event}
-use Rattle.fax_gateway.specs.Reached.{GatewayValue}
-use Rattle.fax_gateway.specs.Reached.{IsReachedBy}
-use Rattle.fax_gateway.specs.Driving.{AreRounds, DriverValue, Entry, Happens, HasMade, Tells, events, failed_in_a_row, log_of, most_failed, receipts}
-use Rattle.fax_gateway.specs.declared.driven.Driven.{Driven}
+use Rattle.std.proofs.Common.{◌≡◌, ◌+◌, List, [], ◌∷◌, ◌++◌, length, refl, sym, ◌∙◌, arith}
+use Rattle.fax_gateway.specs.Driving.{Entry, events, failed_in_a_row, log_of, receipts}
 use Rattle.fax_gateway.proofs.DrivingLemmas.{byte_is, carries_none, failures_told, has_failed, ring_made, round_more, tells_stopped, tells_whole}
 use Rattle.fax_gateway.proofs.run.drive.Goals as goal
 

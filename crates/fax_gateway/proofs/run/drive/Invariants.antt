@@ -1,4 +1,4 @@
-use Rattle.std.proofs.Common.{◌≡◌, ◌<◌, ◌≤◌, List, [], length}
+use Rattle.std.proofs.Common.{◌≡◌, ◌<◌, ◌≤◌, List, length}
 use Rattle.std.specs.List.{count_by}
 use Rattle.fax_call.specs.Writings.{IsWriting, Writing}
 use Rattle.fax_gateway.specs.Events.{Event}

@@ -1,4 +1,4 @@
-use Rattle.std.proofs.Common.{◌≡◌, ◌++◌, ℕ, List, Bool, true, cond, sym, subst}
+use Rattle.std.proofs.Common.{◌≡◌, ◌++◌, List, Bool, true, cond, sym, subst}
 use Rattle.std.specs.List.{count_by}
 use Rattle.fax_gateway.specs.Reached.{GatewayValue}
 use Rattle.fax_gateway.specs.Reached.{IsReachedBy}

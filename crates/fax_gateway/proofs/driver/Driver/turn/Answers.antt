@@ -1,15 +1,6 @@
-use Rattle.std.proofs.Common.{◌≡◌, ◌<◌, ◌≤◌, ◌+◌, ℕ, List, [], ◌∷◌, ◌++◌, length, take, Bool, true, false, Ok, Err, Some, None, inl, inr, refl, sym, ◌∙◌, ap, subst, arith, rules}
-use Rattle.fax_call.specs.Writings.{IsWriting, Writing}
-use Rattle.fax_gateway.specs.Events.{Event, Tick}
-use Rattle.fax_gateway.specs.Reached.{IsReachedBy, given_shown}
-use Rattle.fax_gateway.specs.declared.side.Side.{Side}
-use Rattle.fax_gateway.specs.declared.side.Side.TheVariants as side
-use Rattle.fax_gateway.specs.Wires.{Known}
-use Rattle.fax_gateway.specs.Driving.{Accepts, AreReceives, Carries, Comes, DriverValue, Entry, FailsToReceive, Happens, HasMade, IsHanded, IsReceive, IsSent, IsTick, IsTurn, ReceivesNothing, RefusesTick, Sends, Steps, events, failed_in_a_row, most_failed, receipts}
-use Rattle.fax_gateway.specs.Reached.{GatewayValue}
-use Rattle.std.specs.Result.{is_ok}
-use Rattle.std.proofs.lemmas.List.Elements.{All-cons}
-use Rattle.fax_gateway.proofs.DrivingLemmas.{carries_datagram, carries_failure, carries_none, carries_nothing, carries_send, carries_unseen, hands_on_called, hands_on_calling, made_failed_send, made_nothing, made_refused_tick, made_unseen, sends_no_event, steps_more, steps_none, steps_send, is_sent, take_front, HandsOn}
+use Rattle.std.proofs.Common.{◌++◌, refl}
+use Rattle.fax_gateway.specs.Driving.{events}
+use Rattle.fax_gateway.proofs.DrivingLemmas.{steps_more}
 use Rattle.fax_gateway.proofs.driver.Driver.turn.Goals as goal
 
 pub returns-clause-turned : goal.returns-clause-turned
