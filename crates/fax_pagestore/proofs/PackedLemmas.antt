@@ -1,14 +1,14 @@
 -- Rows that share one list of changing places: what more places leave, and one more row.
-use Rattle.std.proofs.Common.{◌≡◌, ℕ, ◌+◌, ◌≤◌, List, [], ◌∷◌, ◌++◌, All, length, take, map, suc, refl, sym, ◌∙◌, ap, subst, arith, length-append}
-use Rattle.std.proofs.Math.Seq.{drop-append_seam, take-length}
-use Rattle.std.proofs.lemmas.List.{map-append}
+use Rattle.std.proofs.Common.{◌≡◌, ℕ, ◌+◌, ◌<◌, ◌≤◌, ◌⊎◌, inl, inr, List, [], ◌∷◌, ◌++◌, All, length, take, drop, map, get_or, suc, refl, sym, ◌∙◌, ap, subst, arith, length-append}
+use Rattle.std.proofs.Math.Seq.{drop-append_seam, take-length, get_or-append_seam}
+use Rattle.std.proofs.lemmas.List.{map-append, take-map, take-append-drop, length-take, length-take-le, get_or-take, get_or_append_left}
 use Rattle.std.proofs.lemmas.List.Elements.{All-push, All-weaker}
 use Rattle.fax_bits.proofs.BitsLemmas.{take-drop-append}
 use Rattle.fax_runcodes.specs.declared.Colour.TheVariants.{White}
 use Rattle.fax_runcodes.specs.Rows.{Elements, IsWidth}
 use Rattle.fax_runcodes.specs.Painted.{painted, AreRising}
 use Rattle.fax_pagestore.specs.declared.store.packed.Extent.{Extent}
-use Rattle.fax_pagestore.specs.PackedRows.{places_at, row_at, HasRowAt}
+use Rattle.fax_pagestore.specs.PackedRows.{places_at, row_at, HasRowAt, AreInOrder}
 
 -- an extent within the places
 abbrev pub HasExtent : List ℕ → Extent → Type 0
@@ -77,3 +77,86 @@ rows_of-push places changes width extents e row is row_is all =
     ∙ ap (λ rows. rows ++ row_of (places ++ changes) e ∷ [])
     (map_same (λ x. HasExtent places x) (λ x. row_of (places ++ changes) x) (λ x. row_of places x) (λ x has. row_of-more places changes x has) extents all)
     ∙ ap (λ r. map (λ x. row_of places x) extents ++ r ∷ []) new
+
+-- an extent behind all others
+below_or_last : (k n : ℕ) → k < n + 1 → (k < n) ⊎ (k ≡ n)
+below_or_last k n lt = grind arith
+
+pub AreInOrder-push : (places : List ℕ) (extents : List Extent) (e : Extent) → e.start ≡ length places
+    → All (λ x. HasExtent places x) extents → AreInOrder extents → AreInOrder (extents ++ e ∷ [])
+AreInOrder-push places extents e start all order j k d jk lt =
+    let longer : length (extents ++ e ∷ []) ≡ length extents + 1 = length-append extents (e ∷ []) in
+    elim (below_or_last k (length extents) (omega arith)) [
+      | inl below ↦ rw (get_or_append_left extents (e ∷ []) d j (omega arith), get_or_append_left extents (e ∷ []) d k below) (order j k d jk below)
+      | inr last ↦ let inside : j < length extents = omega arith in
+          let within = (all j d inside).within in
+          rw (last, get_or-append_seam extents e [] d, get_or_append_left extents (e ∷ []) d j inside, start) within
+    ]
+
+-- the extents before one stand before its places
+AreBefore : (extents : List Extent) (n : ℕ) (e d : Extent) → n < length extents → get_or extents n d ≡ e → AreInOrder extents
+    → (k : ℕ) → k < n → (get_or extents k d).start + (get_or extents k d).count ≤ e.start
+AreBefore extents n e d lt is order k kn = subst (λ (x : Extent). (get_or extents k d).start + (get_or extents k d).count ≤ x.start) is (order k n d kn lt)
+
+-- the first places
+places_at-cut : (places : List ℕ) (m start count : ℕ) → start + count ≤ m → m ≤ length places
+    → places_at (take m places) start count ≡ places_at places start count
+places_at-cut places m start count within le =
+    let len = length-take-le m places le in
+    sym (subst (λ (ps : List ℕ). places_at ps start count ≡ places_at (take m places) start count) (take-append-drop m places)
+    (places_at-more (take m places) (drop m places) start count (omega arith)))
+
+-- an extent within the first places
+pub record HasExtentBelow (places : List ℕ) (m : ℕ) (e : Extent) : Type 0 where
+  pub has : HasExtent places e
+  pub below : e.start + e.count ≤ m
+  pub inside : m ≤ length places
+
+HasExtent-cut : (places : List ℕ) (m : ℕ) (e : Extent) → HasExtentBelow places m e → HasExtent (take m places) e
+HasExtent-cut places m e has = record {
+  within = let len = length-take-le m places has.inside in let le = has.below in omega arith;
+  rising = subst (λ (ps : List ℕ). AreRising 0 ps e.width) (sym (places_at-cut places m e.start e.count has.below has.inside)) has.has.rising;
+  is_width = has.has.is_width;
+}
+
+row_of-cut : (places : List ℕ) (m : ℕ) (e : Extent) → HasExtentBelow places m e → row_of (take m places) e ≡ row_of places e
+row_of-cut places m e has = ap (λ (ps : List ℕ). painted White 0 ps e.width) (places_at-cut places m e.start e.count has.below has.inside)
+
+-- the first extents of some, of which the next is this
+pub record IsNext (places : List ℕ) (extents : List Extent) (n : ℕ) (e : Extent) : Type 0 where
+  pub inside : n < length extents
+  pub is : (d : Extent) → get_or extents n d ≡ e
+  pub all : All (λ x. HasExtent places x) extents
+  pub order : AreInOrder extents
+
+HasExtentsBelow-cut : (places : List ℕ) (extents : List Extent) (n : ℕ) (e : Extent) → IsNext places extents n e
+    → All (λ x. HasExtentBelow places e.start x) (take n extents)
+HasExtentsBelow-cut places extents n e next k d lt =
+    let inside = next.inside in
+    let first : length (take n extents) ≡ n = length-take-le n extents (omega arith) in
+    let kn : k < n = omega arith in
+    let own : HasExtent places e = subst (λ (x : Extent). HasExtent places x) (next.is d) (next.all n d inside) in
+    rw (get_or-take n extents k d kn) record {
+      has = next.all k d (omega arith);
+      below = AreBefore extents n e d inside (next.is d) next.order k kn;
+      inside = let within = own.within in omega arith;
+    }
+
+-- The first extents keep their rows where the places of the next and of those behind it go.
+pub HasExtents-cut : (places : List ℕ) (extents : List Extent) (n : ℕ) (e : Extent) → IsNext places extents n e
+    → All (λ x. HasExtent (take e.start places) x) (take n extents)
+HasExtents-cut places extents n e next =
+    All-weaker (λ x. HasExtentBelow places e.start x) (λ x. HasExtent (take e.start places) x) (λ x has. HasExtent-cut places e.start x has) (take n extents)
+    (HasExtentsBelow-cut places extents n e next)
+
+pub AreInOrder-cut : (extents : List Extent) (n : ℕ) → n < length extents → AreInOrder extents → AreInOrder (take n extents)
+AreInOrder-cut extents n inside order j k d jk lt =
+    let first : length (take n extents) ≡ n = length-take-le n extents (omega arith) in
+    rw (get_or-take n extents j d (omega arith), get_or-take n extents k d (omega arith)) (order j k d jk (omega arith))
+
+pub rows_of-cut : (places : List ℕ) (extents : List Extent) (n : ℕ) (e : Extent) → IsNext places extents n e
+    → map (λ x. row_of (take e.start places) x) (take n extents) ≡ take n (map (λ x. row_of places x) extents)
+rows_of-cut places extents n e next =
+    map_same (λ x. HasExtentBelow places e.start x) (λ x. row_of (take e.start places) x) (λ x. row_of places x)
+    (λ x has. row_of-cut places e.start x has) (take n extents) (HasExtentsBelow-cut places extents n e next)
+    ∙ sym (take-map (λ x. row_of places x) n extents)

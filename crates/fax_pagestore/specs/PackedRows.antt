@@ -1,8 +1,9 @@
 -- Rows that share one list of changing places.
-use Rattle.std.specs.Prelude.{ℕ, ◌+◌, ◌≤◌, List, length, take, drop}
+use Rattle.std.specs.Prelude.{ℕ, ◌+◌, ◌<◌, ◌≤◌, List, length, take, drop, slice_index_or}
 use Rattle.fax_runcodes.specs.declared.Colour.TheVariants.{White}
 use Rattle.fax_runcodes.specs.Rows.{Elements, IsWidth}
 use Rattle.fax_runcodes.specs.Painted.{painted, AreRising}
+use Rattle.fax_pagestore.specs.declared.store.packed.Extent.{Extent}
 
 -- so many of the places, from an index on
 abbrev pub places_at : List ℕ → ℕ → ℕ → List ℕ
@@ -17,3 +18,8 @@ pub record HasRowAt (places : List ℕ) (start count width : ℕ) : Type 0 where
   pub within : start + count ≤ length places
   pub rising : AreRising 0 (places_at places start count) width
   pub is_width : IsWidth width
+
+-- the places of each extent end before those of the extents behind it begin
+abbrev pub AreInOrder : List Extent → Type 0
+AreInOrder extents = (j k : ℕ) (e : Extent) → j < k → k < length extents
+    → (slice_index_or extents j e).start + (slice_index_or extents j e).count ≤ (slice_index_or extents k e).start

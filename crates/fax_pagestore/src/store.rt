@@ -1,5 +1,5 @@
 //! Pages, over any store of rows.
-ghost use Rattle.std.specs.Prelude.{List, [], ◌≡◌, ◌<◌, ◌^◌, ◌++◌, ◌∷◌, length, vec_len, slice_get, Some, OnOk, OnErr, IfErr, IfOk};
+ghost use Rattle.std.specs.Prelude.{List, [], ◌≡◌, ◌<◌, ◌≤◌, ◌^◌, ◌++◌, ◌∷◌, length, take, vec_len, slice_get, Some, OnOk, OnErr, IfErr, IfOk};
 ghost use Rattle.fax_runcodes.specs.Rows.{Elements};
 ghost use Rattle.fax_runcodes.specs.Widths.{elements_of};
 ghost use Rattle.fax_pagestore.specs.PageRows.{AreRows};
@@ -15,7 +15,7 @@ use std::marker::Model;
 
 /// Rows in order, fewer than 2^32 of them.
 pub trait RowStore: Drop + Sized {
-    ghost use Rattle.std.specs.Prelude.{List, [], ◌≡◌, ◌<◌, ◌^◌, ◌++◌, ◌∷◌, length, vec_len, slice_get, Some, OnOk, OnErr, IfErr, IfOk};
+    ghost use Rattle.std.specs.Prelude.{List, [], ◌≡◌, ◌<◌, ◌≤◌, ◌^◌, ◌++◌, ◌∷◌, length, take, vec_len, slice_get, Some, OnOk, OnErr, IfErr, IfOk};
     ghost use Rattle.fax_runcodes.specs.Rows.{Elements};
 
     /// The rows that it has.
@@ -50,6 +50,11 @@ pub trait RowStore: Drop + Sized {
     fn lend(&self, i: u32) -> RowRef<'_>
         requires { i < length (rows self.now) }
         ensures { slice_get (rows self.now) i ≡ Some result };
+
+    /// Keeps the first n rows. It takes no memory.
+    fn cut(&mut self, n: u32)
+        requires { n ≤ length (rows self.old) }
+        ensures { rows self.new ≡ take n (rows self.old) };
 }
 
 /// A store of rows one by one.
@@ -90,6 +95,10 @@ impl RowStore for PlainRows {
 
     fn lend(&self, i: u32) -> RowRef<'_> {
         self.rows[i as usize].lend()
+    }
+
+    fn cut(&mut self, n: u32) {
+        self.rows.truncate(n as usize);
     }
 }
 

@@ -410,6 +410,10 @@ fn stores_keep_rows(rt: HostRuntime) -> Result<(), Fail> {
     assert_eq!(rt; rows.len(), 2);
     expect_changes(&rt, &rows, 0, &[])?;
     expect_changes(&rt, &rows, 1, &[0])?;
+    assert!(rt; rows.len() >= 1);
+    rows.cut(1);
+    assert_eq!(rt; rows.len(), 1);
+    expect_changes(&rt, &rows, 0, &[])?;
     Ok(())
 }
 

@@ -30,13 +30,13 @@ struct Extent {
 impl Model for PackedRows {
     ghost use Rattle.std.specs.Prelude.{List, ◌<◌, ◌^◌, All, map, vec_len};
     ghost use Rattle.fax_runcodes.specs.Rows.{Elements};
-    ghost use Rattle.fax_pagestore.specs.PackedRows.{row_at, HasRowAt};
+    ghost use Rattle.fax_pagestore.specs.PackedRows.{row_at, HasRowAt, AreInOrder};
 
     ghost Value = { List Elements };
 
     ghost view = { λ r. map (λ e. row_at r.places.items e.start e.count e.width) r.extents.items };
 
-    ghost invariant = { λ r. All (λ e. HasRowAt r.places.items e.start e.count e.width) r.extents.items × (vec_len r.extents < 2 ^ 32) };
+    ghost invariant = { λ r. All (λ e. HasRowAt r.places.items e.start e.count e.width) r.extents.items × AreInOrder r.extents.items × (vec_len r.extents < 2 ^ 32) };
 }
 
 impl RowStore for PackedRows {
@@ -88,6 +88,16 @@ impl RowStore for PackedRows {
             width,
         } = self.extents[i as usize];
         RowRef::from_changes(&self.places[start..start + usize::from(count)], width)
+    }
+
+    fn cut(&mut self, n: u32) {
+        let n = n as usize;
+        if n < self.extents.len() {
+            // the places of the rows that stay stand before those of the others
+            let Extent { start, .. } = self.extents[n];
+            self.places.truncate(start);
+            self.extents.truncate(n);
+        }
     }
 }
 

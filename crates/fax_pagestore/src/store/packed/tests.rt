@@ -50,3 +50,20 @@ fn keeps_rows_side_by_side(rt: HostRuntime) -> Result<(), Fail> {
     }
     Ok(())
 }
+
+#[test]
+fn keeps_the_first_rows(rt: HostRuntime) -> Result<(), Fail> {
+    let mut rows = PackedRows::empty(rt.alloc());
+    for runs in ROWS {
+        push_twice(&rt, rt.alloc(), &mut rows, runs)?;
+    }
+    assert!(rt; rows.len() >= 3);
+    rows.cut(3);
+    // what is added behind a cut stands behind the rows that stay
+    push_twice(&rt, rt.alloc(), &mut rows, ROWS[3])?;
+    assert_eq!(rt; rows.len(), 5);
+    for (i, runs) in [(1, ROWS[0]), (2, ROWS[1]), (3, ROWS[3]), (4, ROWS[3])] {
+        expect_runs(&rt, &rows, i, runs)?;
+    }
+    Ok(())
+}

@@ -1,7 +1,7 @@
 use Rattle.std.proofs.Common.{◌<◌, length, vec_len, refl, ◌∙◌, arith}
 use Rattle.fax_runcodes.proofs.PaintedLemmas.{rising_count}
 use Rattle.fax_pagestore.specs.declared.store.packed.Extent.{Extent}
-use Rattle.fax_pagestore.proofs.PackedLemmas.{IsNewExtent, HasExtents-push, rows_of-push}
+use Rattle.fax_pagestore.proofs.PackedLemmas.{IsNewExtent, HasExtents-push, AreInOrder-push, rows_of-push}
 use Rattle.fax_pagestore.proofs.store.packed.PackedRowsRowStore.push_lent.Goals as goal
 use Rattle.fax_pagestore.proofs.store.packed.PackedRowsRowStore.push_lent.Goals.{After-push_reserved}
 
@@ -26,6 +26,7 @@ invariant_of-self-2 c =
     rw (c.push_reserved.ensures.items, c.reserve.ensures.items, c.in_ok-append.ensures.items) (
       HasExtents-push c.self.inside.places.items c.changes-changes.result.now (length c.args.row.now) c.self.inside.extents.items (extent at) (is_new at)
           c.changes-changes.ensures.rising (rw (← c.width-width.ensures.len) c.width-width.ensures.is_width) c.self.invariant.0,
+      AreInOrder-push c.self.inside.places.items c.self.inside.extents.items (extent at) (is_new at).start c.self.invariant.0 c.self.invariant.1,
       few,
     )
 
