@@ -5,7 +5,9 @@ pub mod PageReading
 pub mod ReadLemmas
 pub mod RowsWritten
 pub mod TextLemmas
+pub mod WaitingLemmas
 pub mod WhiteLemmas
 pub mod WritingLemmas
 pub mod WrittenLemmas
+pub mod WriterLemmas
 pub mod WrittenOnce

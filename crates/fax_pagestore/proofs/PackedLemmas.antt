@@ -1,7 +1,7 @@
 -- Rows that share one list of changing places: what more places leave, and one more row.
 use Rattle.std.proofs.Common.{◌≡◌, ℕ, ◌+◌, ◌<◌, ◌≤◌, ◌⊎◌, inl, inr, List, [], ◌∷◌, ◌++◌, All, length, take, drop, map, get_or, suc, refl, sym, ◌∙◌, ap, subst, arith, length-append}
 use Rattle.std.proofs.Math.Seq.{drop-append_seam, take-length, get_or-append_seam}
-use Rattle.std.proofs.lemmas.List.{map-append, take-map, take-append-drop, length-take, length-take-le, get_or-take, get_or_append_left}
+use Rattle.std.proofs.lemmas.List.{map-append, take-map, take-append-drop, length-take-le, get_or-take, get_or_append_left}
 use Rattle.std.proofs.lemmas.List.Elements.{All-push, All-weaker}
 use Rattle.fax_bits.proofs.BitsLemmas.{take-drop-append}
 use Rattle.fax_runcodes.specs.declared.Colour.TheVariants.{White}

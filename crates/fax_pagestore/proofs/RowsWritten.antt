@@ -30,7 +30,7 @@ kept_row false row P p other e =
     subst P same p
 
 -- The line that is written with a reference is the line by the tag.
-written_by_tag : (tag : Bool) (before reference : Option Elements) (row : Elements) (line : List Bool) → IsReference tag before reference
+pub written_by_tag : (tag : Bool) (before reference : Option Elements) (row : Elements) (line : List Bool) → IsReference tag before reference
     → WritesRow (is_none reference) reference row line → WritesRow tag before row line
 written_by_tag true before reference row line e w = subst (λ r. WritesRow (is_none r) r row line) e w
 written_by_tag false before reference row line (other, b, e) w =
@@ -66,7 +66,7 @@ RowsSoFar-all width coding fine least rows i reference old new le s =
     (s.text ++ [], s.goes_on [] none, s.bits_are ∙ ap (λ b. old ++ b) (sym (append-nil s.text)))
 
 -- the text of a row, of which the line is written with its fill and then an EOL and its tag, and of others behind it
-row_bits : (line filled tag_text more : List Bool)
+pub row_bits : (line filled tag_text more : List Bool)
     → ((line ++ filled) ++ (end_of_line ++ tag_text)) ++ more ≡ line ++ (filled ++ (end_of_line ++ (tag_text ++ more)))
 row_bits line filled tag_text more =
     append_assoc (line ++ filled) (end_of_line ++ tag_text) more

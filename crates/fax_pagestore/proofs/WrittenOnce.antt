@@ -8,7 +8,7 @@ use Rattle.fax_runcodes.specs.Rows.{Elements}
 use Rattle.fax_mhcode.proofs.WrittenOnce as mh_once
 use Rattle.fax_mrcode.proofs.WrittenOnce as mr_once
 use Rattle.fax_pagestore.specs.PageTexts.{end_of_line}
-use Rattle.fax_pagestore.specs.WrittenPages.{is_one_dimensional, tag_bits, next_tag, ends_of_line, fill, WritesRow, WritesRows, WritesPage}
+use Rattle.fax_pagestore.specs.WrittenPages.{is_one_dimensional, tag_bits, next_tag, ends_of_line, fill, WritesRow, WritesRows}
 use Rattle.fax_pagestore.specs.PageLaws.{WrittenPagesAreUnique, PagesAreWritten, WrittenOctetsAreUnique}
 use Rattle.fax_pagestore.proofs.TextLemmas.{width_some}
 use Rattle.fax_pagestore.proofs.WrittenLemmas.{first_is_one_dimensional}
@@ -16,7 +16,7 @@ use Rattle.fax_pagestore.proofs.WrittenLemmas.{first_is_one_dimensional}
 -- ---- in one way only
 
 -- A row has one line behind a tag.
-row_one : (tag : Bool) (before : Option Elements) (row : Elements) (line other : List Bool) → 0 < length row
+pub row_one : (tag : Bool) (before : Option Elements) (row : Elements) (line other : List Bool) → 0 < length row
     → WritesRow tag before row line → WritesRow tag before row other → line ≡ other
 row_one true before row line other some v w = mh_once.written_line_one row line other some v w
 row_one false (Some reference) row line other some v w = mr_once.written_line_one reference row line other v w

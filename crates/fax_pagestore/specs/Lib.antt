@@ -6,3 +6,4 @@ pub mod PageTexts
 pub mod Pages
 pub mod WrittenPages
 pub mod PackedRows
+pub mod Writers

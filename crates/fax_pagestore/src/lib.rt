@@ -9,10 +9,12 @@ mod store;
 #[cfg(test)]
 mod tests;
 mod white;
+mod writer;
 mod writing;
 
 pub use fault::PageFault;
 pub use fax_runcodes::{Coding, Format};
 pub use reading::read_page;
 pub use store::{PackedRows, Page, PlainRows, RowStore};
+pub use writer::PageWriter;
 pub use writing::write_page;

@@ -1,6 +1,7 @@
 //! Pages spelt by hand with the tables of ITU-T T.4.
 use crate::{
-    Coding, Format, PackedRows, Page, PageFault, PlainRows, RowStore, read_page, write_page,
+    Coding, Format, PackedRows, Page, PageFault, PageWriter, PlainRows, RowStore, read_page,
+    write_page,
 };
 use fax_bits::{BitWriter, NoMemory, Octets};
 use fax_runcodes::{Row, RowFault, Width};
@@ -383,6 +384,59 @@ fn writes_the_one_fixed_text(rt: HostRuntime) -> Result<(), Fail> {
         let octets = write_page(rt.alloc(), &page, coding, least_bits)?;
         let wanted = octets_of(rt.alloc(), written)?;
         assert_eq!(rt; octets.as_slice(), wanted.as_slice(), "at {written:?}");
+    }
+    Ok(())
+}
+
+/// The text of a page, written in pieces of so many octets.
+fn write_in_pieces(
+    alloc: Global,
+    page: &Page<PlainRows>,
+    coding: Coding,
+    least_bits: u32,
+    n: usize,
+) -> Result<Vec<u8>, NoMemory> {
+    let mut writer = PageWriter::new(alloc, page.format(), coding, least_bits);
+    let mut text = Vec::new(alloc);
+    for _ in 0..1000 {
+        if writer.ended() {
+            break;
+        }
+        let piece = writer.next(page, n)?;
+        text.extend_from_slice(piece.as_slice())?;
+    }
+    Ok(text)
+}
+
+#[test]
+fn writes_the_same_text_in_pieces(rt: HostRuntime) -> Result<(), Fail> {
+    for (texts, fine, coding, least_bits, written) in WRITTEN {
+        let page = read(rt.alloc(), texts, fine, Coding::Mh)?;
+        let wanted = octets_of(rt.alloc(), written)?;
+        for n in [1, 7, 100] {
+            let text = write_in_pieces(rt.alloc(), &page, coding, least_bits, n)?;
+            assert_eq!(rt; text.as_slice(), wanted.as_slice(), "at {n} of {written:?}");
+        }
+    }
+    Ok(())
+}
+
+#[test]
+fn gives_five_octets_at_a_time(rt: HostRuntime) -> Result<(), Fail> {
+    // a white row, filled to 48 bits with its EOL, and nothing behind the end
+    let pieces: [&[u8]; 4] = [
+        &[0x00, 0x14, 0xd9, 0xa8, 0x00],
+        &[0x00, 0x00, 0x10, 0x01, 0x00],
+        &[0x10, 0x01, 0x00, 0x10, 0x01],
+        &[],
+    ];
+    let texts = [EOL, WHITE, EOL, EOL, EOL, EOL, EOL, EOL];
+    let page = read(rt.alloc(), &texts, false, Coding::Mh)?;
+    let mut writer = PageWriter::new(rt.alloc(), page.format(), Coding::Mh, 48);
+    for piece in pieces {
+        assert_eq!(rt; writer.ended(), piece.is_empty());
+        let given = writer.next(&page, 5)?;
+        assert_eq!(rt; given.as_slice(), piece);
     }
     Ok(())
 }

@@ -21,7 +21,7 @@ const END_OF_LINE_BITS: u32 = 12;
 
 /// How many EOL stand behind the EOL of the last line, so that there are six in a row (ITU-T T.4, 4.1.4
 /// and 4.2.4).
-const FURTHER_ENDS: u32 = 5;
+pub(crate) const FURTHER_ENDS: u32 = 5;
 
 /// Writes the text of a page: an EOL, each line with the least fill for which line, fill and EOL have at
 /// least `least_bits` bits, and an EOL behind it, and five more EOLs; in two-dimensional coding a tag bit
@@ -68,7 +68,7 @@ fn write_rows<S: RowStore>(
 
 /// Writes the line of a row, and the fewest zeros for which line, fill and EOL have at least `least_bits`
 /// bits (ITU-T T.4, 4.1.3 and 4.2.3).
-fn write_filled_line(
+pub(crate) fn write_filled_line(
     writer: &mut BitWriter,
     reference: Option<&RowRef<'_>>,
     row: &RowRef<'_>,
@@ -104,7 +104,7 @@ fn write_line(
 
 /// Whether the line of the row of this index is one-dimensional: in two-dimensional coding the first of
 /// each K lines is (this project's profile).
-fn is_one_dimensional(coding: Coding, fine: bool, index: u32) -> bool
+pub(crate) fn is_one_dimensional(coding: Coding, fine: bool, index: u32) -> bool
     ensures { result ≡ spec.is_one_dimensional coding fine index }
 {
     match coding {
@@ -134,7 +134,11 @@ fn fill_bits(line_bits: u128, least_bits: u32) -> u32
 }
 
 /// Writes so many EOLs, each with the tag 1 in two-dimensional coding (ITU-T T.4, 4.1.4 and 4.2.4).
-fn write_ends_of_line(writer: &mut BitWriter, coding: Coding, count: u32) -> Result<(), NoMemory>
+pub(crate) fn write_ends_of_line(
+    writer: &mut BitWriter,
+    coding: Coding,
+    count: u32,
+) -> Result<(), NoMemory>
     ensures { OnOk result (writer.new ≡ writer.old ++ ends_of_line coding count) }
 {
     for _ in 0..count {
@@ -144,7 +148,11 @@ fn write_ends_of_line(writer: &mut BitWriter, coding: Coding, count: u32) -> Res
 }
 
 /// Writes an EOL, and in two-dimensional coding the tag bit behind it (ITU-T T.4, 4.1.2 and 4.2.2).
-fn write_end_of_line(writer: &mut BitWriter, coding: Coding, tag: bool) -> Result<(), NoMemory>
+pub(crate) fn write_end_of_line(
+    writer: &mut BitWriter,
+    coding: Coding,
+    tag: bool,
+) -> Result<(), NoMemory>
     ensures { OnOk result (writer.new ≡ writer.old ++ (end_of_line ++ tag_bits coding tag)) }
 {
     match coding {

@@ -1,4 +1,4 @@
-use Rattle.std.proofs.Common.{◌≡◌, ◌<◌, length, vec_len, refl, ap, ◌∙◌, sym, arith}
+use Rattle.std.proofs.Common.{◌<◌, length, refl, arith}
 use Rattle.std.proofs.lemmas.Option.{get_or_from_slice_get, slice_get_read}
 use Rattle.fax_pagestore.proofs.PackedLemmas.{IsNext, HasExtents-cut, AreInOrder-cut, rows_of-cut}
 use Rattle.fax_pagestore.proofs.store.packed.PackedRowsRowStore.cut.Goals as goal
