@@ -139,7 +139,7 @@ FewZeros-zeros n (suc zeros) t h =
     FewZeros-zeros (suc n) zeros t (subst (λ k. FewZeros k t) same h)
 
 -- no front of such bits ends with an EOL
-FewZeros-no_eol : (text front rest : List Bool) → FewZeros 0 text → EndsWithEol front → text ≡ front ++ rest → ⊥
+pub FewZeros-no_eol : (text front rest : List Bool) → FewZeros 0 text → EndsWithEol front → text ≡ front ++ rest → ⊥
 unfolding end_of_line
 FewZeros-no_eol text front rest few (before, e) whole =
     let bits : text ≡ before ++ (replicate 11 false ++ (true ∷ rest)) = whole ∙ ap (λ b. b ++ rest) e ∙ append_assoc before (replicate 11 false ++ true ∷ []) rest in

@@ -3,6 +3,7 @@ pub mod PackedLemmas
 pub mod PageLaws
 pub mod PageReading
 pub mod ReadLemmas
+pub mod ReaderLemmas
 pub mod RowsWritten
 pub mod TextLemmas
 pub mod WaitingLemmas

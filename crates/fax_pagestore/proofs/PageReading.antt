@@ -106,7 +106,7 @@ ReadSoFar-front coding width octets tag start new at (front, is, p) = record {
 }
 
 -- one more row
-ReadSoFar-row : (coding : Coding) (width : ℕ) (octets : List ℕ) (rows : List Elements) (row : Elements) (tag next : Bool) (bits line separator rest : List Bool)
+pub ReadSoFar-row : (coding : Coding) (width : ℕ) (octets : List ℕ) (rows : List Elements) (row : Elements) (tag next : Bool) (bits line separator rest : List Bool)
     → ReadSoFar coding width octets rows 0 tag bits → SpellsRow width tag (last_of rows) line row → IsSeparator coding next separator → bits ≡ (line ++ separator) ++ rest
     → ReadSoFar coding width octets (rows ++ row ∷ []) 0 next rest
 ReadSoFar-row coding width octets rows row tag next bits line separator rest r spelt is e =
@@ -127,7 +127,7 @@ ReadSoFar-row coding width octets rows row tag next bits line separator rest r s
     }
 
 -- further separators
-ReadSoFar-separators : (coding : Coding) (width : ℕ) (octets : List ℕ) (rows : List Elements) (n : ℕ) (tag last : Bool) (bits text rest : List Bool)
+pub ReadSoFar-separators : (coding : Coding) (width : ℕ) (octets : List ℕ) (rows : List Elements) (n : ℕ) (tag last : Bool) (bits text rest : List Bool)
     → ReadSoFar coding width octets rows 0 tag bits → InARow coding tag n text last → bits ≡ text ++ rest → ReadSoFar coding width octets rows n last rest
 ReadSoFar-separators coding width octets rows n tag last bits text rest r in_a_row e = record {
   front = r.front;

@@ -6,4 +6,5 @@ pub mod PageTexts
 pub mod Pages
 pub mod WrittenPages
 pub mod PackedRows
+pub mod Readers
 pub mod Writers

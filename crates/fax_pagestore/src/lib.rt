@@ -4,6 +4,7 @@
 
 mod fault;
 pub mod laws;
+mod reader;
 mod reading;
 mod store;
 #[cfg(test)]
@@ -14,6 +15,7 @@ mod writing;
 
 pub use fault::PageFault;
 pub use fax_runcodes::{Coding, Format};
+pub use reader::{Mark, PageReader};
 pub use reading::read_page;
 pub use store::{PackedRows, Page, PlainRows, RowStore};
 pub use writer::PageWriter;

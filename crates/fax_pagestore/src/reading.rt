@@ -20,7 +20,7 @@ use std::alloc::Global;
 use std::mem;
 
 /// The most rows of a page (this project's profile).
-const MOST_ROWS: u32 = 20_000;
+pub(crate) const MOST_ROWS: u32 = 20_000;
 
 /// The fewest zeros before the 1 of an EOL (ITU-T T.4, 4.1.2).
 const EOL_ZEROS: u32 = 11;
@@ -84,7 +84,7 @@ fn next_bit(reader: &BitReader) -> Option<u64>
 
 /// Passes any bits up to the first EOL, the EOL and its tag, and answers the tag. `None` says that there
 /// is no EOL.
-fn pass_front(reader: &mut BitReader, coding: Coding) -> Option<bool>
+pub(crate) fn pass_front(reader: &mut BitReader, coding: Coding) -> Option<bool>
     ensures found { IfSome result (λ tag. (front : List Bool) × IsFront coding tag front × Passes reader.old reader.new front) }
     ensures none { IsNone result → (tag : Bool) (front rest : List Bool) → IsFront coding tag front → reader.old.left ≡ front ++ rest → ⊥ }
 {
@@ -166,7 +166,7 @@ fn line_begins(reader: &BitReader) -> bool
 
 /// The window of a reader, where a line begins there.
 #[inline]
-fn line_ahead(reader: &BitReader) -> Option<u64>
+pub(crate) fn line_ahead(reader: &BitReader) -> Option<u64>
     ensures begins { IsSome result ↔ LineBegins reader.now.left }
     ensures window { IfSome result (λ window. word_bits 56 window ≡ padded 56 reader.now.left) }
 {
@@ -177,7 +177,7 @@ fn line_ahead(reader: &BitReader) -> Option<u64>
 /// Passes the last five of the six EOLs that end a page, behind the first and its tag. Each of the six
 /// has tag 1 (ITU-T T.4, 4.1.4 and 4.2.4).
 #[cold]
-fn pass_return_to_control(
+pub(crate) fn pass_return_to_control(
     reader: &mut BitReader,
     coding: Coding,
     first: bool,
@@ -225,7 +225,7 @@ fn read_line(
 /// Reads the line behind n rows and this tag into the builder, in place of what is there, passes the
 /// separator behind the line, and answers its tag. Where the tag is 0 the last of the rows is kept.
 #[inline(always)]
-fn read_row(
+pub(crate) fn read_row(
     line: &mut RowBuilder,
     reader: &mut BitReader,
     width: Width,

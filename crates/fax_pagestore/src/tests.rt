@@ -1,7 +1,7 @@
 //! Pages spelt by hand with the tables of ITU-T T.4.
 use crate::{
-    Coding, Format, PackedRows, Page, PageFault, PageWriter, PlainRows, RowStore, read_page,
-    write_page,
+    Coding, Format, PackedRows, Page, PageFault, PageReader, PageWriter, PlainRows, RowStore,
+    read_page, write_page,
 };
 use fax_bits::{BitWriter, NoMemory, Octets};
 use fax_runcodes::{Row, RowFault, Width};
@@ -238,6 +238,89 @@ const EITHER: [(Coding, &[&str]); 3] = [
     (Coding::Mr, OF_FOUR),
 ];
 
+/// Pages by their octets, and the places at which their rows change colour.
+const PAGES: [(Width, Coding, &[u8], &[&[u16]]); 7] = [
+    (
+        Width::W1728,
+        Coding::Mh,
+        &[
+            0x00, 0x14, 0xd9, 0xa8, 0x00, 0x80, 0x08, 0x00, 0x80, 0x08, 0x00, 0x80, 0x08,
+        ],
+        &[&[]],
+    ),
+    (
+        Width::W1728,
+        Coding::Mh,
+        &[
+            0x00, 0x13, 0x50, 0x32, 0x86, 0xe0, 0x02, 0x00, 0x20, 0x02, 0x00, 0x20, 0x02, 0x00,
+            0x20,
+        ],
+        &[&[0]],
+    ),
+    (
+        Width::W2432,
+        Coding::Mh,
+        &[
+            0x00, 0x14, 0xdb, 0x30, 0xd4, 0x00, 0x40, 0x04, 0x00, 0x40, 0x04, 0x00, 0x40, 0x04,
+        ],
+        &[&[]],
+    ),
+    (
+        Width::W1728,
+        Coding::Mh,
+        &[
+            0x00, 0x11, 0xc3, 0x76, 0x0d, 0x00, 0x04, 0x00, 0x40, 0x04, 0x00, 0x40, 0x04, 0x00,
+            0x40,
+        ],
+        &[&[]],
+    ),
+    (
+        Width::W1728,
+        Coding::Mr,
+        &[
+            0x00, 0x1a, 0x6c, 0xd4, 0x00, 0x50, 0x01, 0x80, 0x0c, 0x00, 0x60, 0x03, 0x00, 0x18,
+            0x00, 0xc0,
+        ],
+        &[&[], &[]],
+    ),
+    (
+        Width::W1728,
+        Coding::Mr,
+        &[
+            0x00, 0x1a, 0x6c, 0xd4, 0x00, 0x44, 0xd6, 0x80, 0x0c, 0x00, 0x60, 0x03, 0x00, 0x18,
+            0x00, 0xc0, 0x06,
+        ],
+        &[&[], &[0, 3]],
+    ),
+    (
+        Width::W1728,
+        Coding::Mh,
+        &[
+            0xa5, 0x00, 0x14, 0xd9, 0xa8, 0x00, 0x00, 0x00, 0x10, 0x01, 0x00, 0x10, 0x01, 0x00,
+            0x10, 0x01,
+        ],
+        &[&[]],
+    ),
+];
+
+/// Octets in one dimension that are no page.
+const NO_PAGES: [(&[u8], PageFault); 6] = [
+    (
+        &[
+            0x00, 0x14, 0xd9, 0xa8, 0x00, 0x80, 0x08, 0x00, 0x80, 0x08, 0x00, 0x80,
+        ],
+        PageFault::NoRtc,
+    ),
+    (
+        &[0x00, 0x10, 0x01, 0x00, 0x10, 0x01, 0x00, 0x10, 0x01],
+        PageFault::Empty,
+    ),
+    (&[0xff], PageFault::NoEol),
+    (&[], PageFault::NoEol),
+    (&[0x00, 0x14, 0x3f], PageFault::BadLine(0)),
+    (&[0x00, 0x14, 0xd9, 0xac], PageFault::BadLine(0)),
+];
+
 /// The octets of the bits that texts of the digits 0 and 1 show.
 fn octets_of(alloc: Global, texts: &[&str]) -> Result<Octets, NoMemory> {
     let mut writer = BitWriter::new(alloc);
@@ -439,6 +522,58 @@ fn gives_five_octets_at_a_time(rt: HostRuntime) -> Result<(), Fail> {
         assert_eq!(rt; given.as_slice(), piece);
     }
     Ok(())
+}
+
+/// Reads octets of a page that come whole.
+fn feed_whole(
+    alloc: Global,
+    octets: &[u8],
+    width: Width,
+    coding: Coding,
+) -> Result<Page<PlainRows>, PageFault> {
+    let mut reader = PageReader::new(alloc, Format { width, fine: true }, coding);
+    reader.feed(octets)?;
+    reader.check()?;
+    reader.finish()
+}
+
+/// Reads octets of a page that come one by one. Behind each of them others come, and are taken back.
+fn feed_each(
+    alloc: Global,
+    octets: &[u8],
+    width: Width,
+    coding: Coding,
+) -> Result<Page<PlainRows>, PageFault> {
+    let mut reader = PageReader::new(alloc, Format { width, fine: true }, coding);
+    for octet in octets {
+        reader.feed(&[*octet])?;
+        let mark = reader.mark()?;
+        reader.feed(&[0x5a, 0x00, 0x15])?;
+        reader.back(mark);
+    }
+    reader.check()?;
+    reader.finish()
+}
+
+#[test]
+fn reads_pages_as_they_come(rt: HostRuntime) -> Result<(), Fail> {
+    for (width, coding, octets, wanted) in PAGES {
+        let page = feed_whole(rt.alloc(), octets, width, coding)?;
+        expect_rows(&rt, &page, wanted)?;
+        let page = feed_each(rt.alloc(), octets, width, coding)?;
+        expect_rows(&rt, &page, wanted)?;
+    }
+    Ok(())
+}
+
+#[test]
+fn says_why_what_came_is_no_page(rt: HostRuntime) {
+    for (octets, fault) in NO_PAGES {
+        let whole = feed_whole(rt.alloc(), octets, Width::W1728, Coding::Mh);
+        assert_eq!(rt; whole.err(), Some(fault), "at {octets:?}");
+        let each = feed_each(rt.alloc(), octets, Width::W1728, Coding::Mh);
+        assert_eq!(rt; each.err(), Some(fault), "at {octets:?}");
+    }
 }
 
 #[test]

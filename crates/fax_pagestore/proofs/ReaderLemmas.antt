@@ -1,0 +1,351 @@
+-- Pages that are read as their octets come.
+use Rattle.std.proofs.Common.{◌≡◌, ℕ, zero, suc, ◌+◌, ◌-◌, ◌*◌, ◌/◌, ◌%◌, ◌<◌, ◌≤◌, Bool, true, false, List, [], ◌∷◌, ◌++◌, All, Option, Some, None, length, take, drop, replicate, slice_get, slice_index_or, IfSome, IsNone, zero-add, refl, sym, ◌∙◌, ap, subst, arith, append_assoc, append-nil, length-append, inl, inr}
+use Rattle.std.proofs.lemmas.List.{nil_from_length, length_push, drop_at, drop-drop, drop-append-le, take-append-drop, append_cancel_left, length-replicate, replicate-append-replicate, get_or-replicate}
+use Rattle.std.proofs.lemmas.List.Elements.{All-push}
+use Rattle.std.proofs.Math.Seq.{drop-length}
+use Rattle.fax_bits.specs.Bits.{bits_of}
+use Rattle.fax_bits.specs.Reading.{Place, Passes}
+use Rattle.fax_bits.proofs.BitsLemmas.{bits_of-append, bits_of-nil, length-bits_of, drop-bits_of}
+use Rattle.fax_bits.proofs.ReadingLemmas.{Passes-none, Passes-then}
+use Rattle.fax_runcodes.specs.declared.format.Coding.{Coding}
+use Rattle.fax_runcodes.specs.declared.format.Format.{Format}
+use Rattle.fax_runcodes.specs.declared.Colour.{Colour}
+use Rattle.fax_runcodes.specs.declared.Colour.TheVariants.{White}
+use Rattle.fax_runcodes.specs.Rows.{Elements, colour_before}
+use Rattle.fax_runcodes.specs.Widths.{elements_of}
+use Rattle.fax_runcodes.specs.Painted.{painted, AreRising}
+use Rattle.fax_runcodes.proofs.PaintedLemmas.{rising_le}
+use Rattle.fax_runcodes.proofs.TurningLemmas.{turned_at_all}
+use Rattle.fax_mhcode.proofs.LineLaws.{IsWidth-elements}
+use Rattle.fax_pagestore.specs.declared.fault.PageFault.{PageFault}
+use Rattle.fax_pagestore.specs.declared.fault.PageFault.TheVariants.{NoEol, Empty}
+use Rattle.fax_pagestore.specs.PageRows.{most_rows}
+use Rattle.fax_pagestore.specs.Pages.{PageValue}
+use Rattle.fax_pagestore.specs.PageTexts.{IsFront, IsSeparator, InARow, SpellsRow, SpellsRows, ReadSoFar, MeansRows, MeansPage}
+use Rattle.fax_pagestore.specs.PageFaults.{Stops, FailsPage, HasNoEol, last_of, row_before}
+use Rattle.fax_pagestore.specs.Readers.{ReadsOne, ReaderValue, HasRead, IsReadUpTo, AreJudged, new_reader}
+use Rattle.fax_pagestore.proofs.FrontLemmas.{FewZeros-no_eol}
+use Rattle.fax_pagestore.proofs.PageLaws.{pages_are_unique, pages_dont_fail, faults_are_unique}
+use Rattle.fax_pagestore.proofs.ReadLemmas.{SpellsRow-length, ReadSoFar-lengths}
+use Rattle.fax_pagestore.proofs.PageReading.{Keeps, Knows-kept, SpellsRow-knows, last_of-width, ReadSoFar-row, ReadSoFar-separators}
+
+-- ---- one row more
+
+-- the line of a row and the separator behind it were passed, behind so many rows of which the last is kept
+abbrev pub PassesRow : Coding → ℕ → Bool → Bool → ℕ → Elements → Elements → Place → Place → Type 0
+PassesRow coding width tag next n kept row old new = (text separator : List Bool) × SpellsRow width tag (row_before n kept) text row
+    × IsSeparator coding next separator × Passes old new (text ++ separator)
+
+pub row_read : (coding : Coding) (width : ℕ) (tag next : Bool) (n : ℕ) (kept row : Elements) (rows all : List Elements) (old new : Place) → n ≡ length rows → Keeps tag kept rows
+    → PassesRow coding width tag next n kept row old new → all ≡ rows ++ row ∷ [] → ReadsOne coding width tag next rows all old new
+row_read coding width tag next n kept row rows all old new size keeps (text, separator, spelt, is, passes) e = record {
+  row = row;
+  line = text;
+  separator = separator;
+  all_are = e;
+  spelt = SpellsRow-knows width tag (row_before n kept) rows text row (Knows-kept tag kept rows n size keeps) spelt;
+  behind = is;
+  passes = passes;
+}
+
+pub row_width : (coding : Coding) (width : ℕ) (tag next : Bool) (n : ℕ) (kept row : Elements) (rows : List Elements) (old new : Place) → n ≡ length rows → Keeps tag kept rows
+    → All (λ r. length r ≡ width) rows → PassesRow coding width tag next n kept row old new → length row ≡ width
+row_width coding width tag next n kept row rows old new size keeps each (text, separator, spelt, is, passes) =
+    SpellsRow-length width tag (last_of rows) text row (last_of-width width rows each)
+    (SpellsRow-knows width tag (row_before n kept) rows text row (Knows-kept tag kept rows n size keeps) spelt)
+
+-- the rows with one more
+pub ReadsOne-each : (coding : Coding) (width : ℕ) (tag next : Bool) (rows all : List Elements) (old new : Place) → All (λ r. length r ≡ width) rows
+    → ReadsOne coding width tag next rows all old new → All (λ r. length r ≡ width) all
+ReadsOne-each coding width tag next rows all old new each one =
+    let size : length one.row ≡ width = SpellsRow-length width tag (last_of rows) one.line one.row (last_of-width width rows each) one.spelt in
+    subst (λ (rs : List Elements). All (λ (r : Elements). length r ≡ width) rs) (sym one.all_are) (All-push (λ (r : Elements). length r ≡ width) rows one.row each size)
+
+pub ReadsOne-length : (coding : Coding) (width : ℕ) (tag next : Bool) (rows all : List Elements) (old new : Place) → ReadsOne coding width tag next rows all old new
+    → length all ≡ length rows + 1
+ReadsOne-length coding width tag next rows all old new one = ap length one.all_are ∙ length_push rows one.row
+
+-- what is read of octets, with one row more
+pub ReadSoFar-one : (coding : Coding) (width : ℕ) (tag next : Bool) (rows all : List Elements) (old new : Place) (octets : List ℕ) → ReadsOne coding width tag next rows all old new
+    → ReadSoFar coding width octets rows 0 tag old.left → ReadSoFar coding width octets all 0 next new.left
+ReadSoFar-one coding width tag next rows all old new octets one read =
+    subst (λ (rs : List Elements). ReadSoFar coding width octets rs 0 next new.left) (sym one.all_are)
+    (ReadSoFar-row coding width octets rows one.row tag next old.left one.line one.separator new.left read one.spelt one.behind one.passes.bits)
+
+-- fewer bits are left
+pub ReadsOne-shorter : (coding : Coding) (width : ℕ) (tag next : Bool) (rows all : List Elements) (old new : Place) → ReadsOne coding width tag next rows all old new
+    → length new.left < length old.left
+ReadsOne-shorter coding width tag next rows all old new one =
+    let separator = one.behind in
+    let whole = ap length one.passes.bits ∙ length-append (one.line ++ one.separator) new.left in
+    let both = length-append one.line one.separator in
+    let own = ap length separator.4 ∙ length-append (replicate separator.0 false) (true ∷ separator.1) in
+    omega arith
+
+-- the rows so far, where one is read
+pub record RowsRead (coding : Coding) (width : ℕ) (first : Bool) (base : List Elements) (old : Place) (tag : Bool) (kept : Elements) (rows : List Elements) (new : Place) : Type 0 where
+  pub same : (more : List Elements) × (rows ≡ base ++ more)
+  pub few : length rows ≤ most_rows
+  pub each : All (λ row. length row ≡ width) rows
+  pub keeps : Keeps tag kept rows
+  pub passes : (text : List Bool) × Passes old new text
+  pub read : (octets : List ℕ) → ReadSoFar coding width octets base 0 first old.left → ReadSoFar coding width octets rows 0 tag new.left
+
+pub RowsRead-none : (coding : Coding) (width : ℕ) (first : Bool) (base : List Elements) (old : Place) (kept : Elements) → length base ≤ most_rows
+    → All (λ row. length row ≡ width) base → (0 < length base → last_of base ≡ Some kept) → RowsRead coding width first base old first kept base old
+RowsRead-none coding width first base old kept few each keeps = record {
+  same = ([], sym (append-nil base));
+  few = few;
+  each = each;
+  keeps = λ two some. keeps some;
+  passes = ([], Passes-none old);
+  read = λ octets read. read;
+}
+
+pub RowsRead-more : (coding : Coding) (width : ℕ) (first tag next : Bool) (base rows all : List Elements) (old mid new : Place) (kept after : Elements)
+    → RowsRead coding width first base old tag kept rows mid → ReadsOne coding width tag next rows all mid new → length rows < most_rows
+    → (next ≡ false → last_of all ≡ Some after) → RowsRead coding width first base old next after all new
+RowsRead-more coding width first tag next base rows all old mid new kept after so_far one room keeps = record {
+  same = (so_far.same.0 ++ one.row ∷ [], one.all_are ∙ ap (λ rs. rs ++ one.row ∷ []) so_far.same.1 ∙ append_assoc base so_far.same.0 (one.row ∷ []));
+  few = omega (arith, ReadsOne-length coding width tag next rows all mid new one);
+  each = ReadsOne-each coding width tag next rows all mid new so_far.each one;
+  keeps = λ two some. keeps two;
+  passes = (so_far.passes.0 ++ (one.line ++ one.separator), Passes-then old mid new so_far.passes.0 (one.line ++ one.separator) so_far.passes.1 one.passes);
+  read = λ octets read. ReadSoFar-one coding width tag next rows all mid new octets one (so_far.read octets read);
+}
+
+-- ---- what octets are where no more come
+
+pub stops_fail : (coding : Coding) (width : ℕ) (octets : List ℕ) (rows : List Elements) (tag : Bool) (rest : List Bool) (fault : PageFault) → length rows ≤ most_rows
+    → ReadSoFar coding width octets rows 0 tag rest → Stops coding width rows 0 tag rest fault → FailsPage width coding octets fault
+stops_fail coding width octets rows tag rest fault few read stops =
+    inr record { rows = rows; further = 0; tag = tag; rest = rest; few = few; at_most_six = omega arith; read = read; stops = stops }
+
+pub return_fails_page : (coding : Coding) (width : ℕ) (octets : List ℕ) (rows : List Elements) (tag : Bool) (bits : List Bool) (fault : PageFault) → length rows ≤ most_rows
+    → ReadSoFar coding width octets rows 0 tag bits
+    → ((n : ℕ) × (text rest : List Bool) × (last : Bool) × (n ≤ 5) × InARow coding tag n text last × (bits ≡ text ++ rest)
+    × ((wide : ℕ) (read : List Elements) → Stops coding wide read n last rest fault))
+    → FailsPage width coding octets fault
+return_fails_page coding width octets rows tag bits fault few read (n, text, rest, last, le, in_a_row, e, stops) =
+    inr record {
+      rows = rows;
+      further = n;
+      tag = last;
+      rest = rest;
+      few = few;
+      at_most_six = le;
+      read = ReadSoFar-separators coding width octets rows n tag last bits text rest read in_a_row e;
+      stops = stops width rows;
+    }
+
+pub none_fail : (coding : Coding) (width : ℕ) (octets : List ℕ) (rows : List Elements) (tag : Bool) (old new : Place) → length rows ≡ 0
+    → ReadSoFar coding width octets rows 0 tag old.left → (text : List Bool) × InARow coding tag 5 text true × Passes old new text → FailsPage width coding octets Empty
+none_fail coding width octets rows tag old new none read (text, in_a_row, p) =
+    inr record {
+      rows = rows;
+      further = 5;
+      tag = true;
+      rest = new.left;
+      few = omega arith;
+      at_most_six = omega arith;
+      read = ReadSoFar-separators coding width octets rows 5 tag true old.left text new.left read in_a_row p.bits;
+      stops = (refl, refl, nil_from_length rows none);
+    }
+
+pub some_mean : (coding : Coding) (width : ℕ) (octets : List ℕ) (rows : List Elements) (tag : Bool) (old new : Place) → 0 < length rows → length rows ≤ most_rows
+    → ReadSoFar coding width octets rows 0 tag old.left → (text : List Bool) × InARow coding tag 5 text true × Passes old new text → MeansRows width coding octets rows
+some_mean coding width octets rows tag old new some few read (text, in_a_row, p) = record {
+  are_rows = record { some = some; few = few; each = ReadSoFar-lengths coding width octets rows 0 tag old.left read };
+  more = new.left;
+  read = ReadSoFar-separators coding width octets rows 5 tag true old.left text new.left read in_a_row p.bits;
+}
+
+-- ---- the last row, kept
+
+pub last_of_at : (rows : List Elements) (i : ℕ) (row : Elements) → i + 1 ≡ length rows → slice_get rows i ≡ Some row → last_of rows ≡ Some row
+last_of_at [] i row size e = absurd (omega arith)
+last_of_at (first ∷ []) zero row size e = e
+last_of_at (first ∷ []) (suc i) row size e = absurd (omega arith)
+last_of_at (first ∷ (next ∷ rows)) zero row size e = absurd (omega arith)
+last_of_at (first ∷ (next ∷ rows)) (suc i) row size e = last_of_at (next ∷ rows) i row (omega arith) e
+
+-- white elements up to a place, and behind it
+white_behind : (w p : ℕ) → p ≤ w → drop p (replicate w White) ≡ replicate (w - p) White
+white_behind w p le =
+    let parts : replicate w White ≡ replicate p White ++ replicate (w - p) White =
+    let whole : p + (w - p) ≡ w = omega arith in
+    ap (λ n. replicate n White) (sym whole) ∙ sym (replicate-append-replicate p (w - p) White) in
+    ap (drop p) parts ∙ drop_at (replicate p White) (replicate (w - p) White) p (length-replicate p White)
+
+white_before : (w p : ℕ) → p ≤ w → colour_before (replicate w White) p ≡ White
+white_before w zero le = refl
+white_before w (suc p) le = get_or-replicate w p White White (omega arith)
+
+white_same : (w : ℕ) (places : List ℕ) → AreRising 0 places w
+    → (let row : Elements = replicate w White in
+    let first : ℕ = slice_index_or places 0 (length row) in
+    drop first row ≡ replicate (length row - first) (colour_before row first))
+unfolding AreRising
+white_same w [] rising =
+    let none : length (replicate w White) - length (replicate w White) ≡ 0 = omega arith in
+    drop-length (replicate w White) ∙ ap (λ n. replicate n (colour_before (replicate w White) (length (replicate w White)))) (sym none)
+white_same w (p ∷ places) rising =
+    let inside : p + 1 ≤ w = rising_le (p + 1) places w rising.1 in
+    white_behind w p (omega arith)
+    ∙ ap (λ n. replicate (n - p) White) (sym (length-replicate w White))
+    ∙ ap (λ (c : Colour). replicate (length (replicate w White) - p) c) (sym (white_before w p (omega arith)))
+
+-- a row that is white is one without changes
+white_painted : (w : ℕ) → replicate w White ≡ painted White 0 [] w
+unfolding painted
+white_painted w = let all : w ≡ w - 0 = omega arith in ap (λ n. replicate n White) all
+
+none_rising : (w : ℕ) → AreRising 0 [] w
+unfolding AreRising
+none_rising w = omega arith
+
+pub white_may_turn : (row : Elements) (w : ℕ) (places : List ℕ) → row ≡ replicate w White → AreRising 0 places w
+    → (let first : ℕ = slice_index_or places 0 (length row) in
+    drop first row ≡ replicate (length row - first) (colour_before row first))
+white_may_turn row w places e rising =
+    subst (λ (r : Elements). let first : ℕ = slice_index_or places 0 (length r) in drop first r ≡ replicate (length r - first) (colour_before r first)) (sym e) (white_same w places rising)
+
+pub white_turned : (row new last : Elements) (w : ℕ) (places : List ℕ) → row ≡ replicate w White → length last ≡ w → AreRising 0 places (length last)
+    → last ≡ painted White 0 places (length last)
+    → (let first : ℕ = slice_index_or places 0 (length row) in new ≡ take first row ++ painted (colour_before row first) first places (length row)) → new ≡ last
+white_turned row new last w places e size rising is turned =
+    let plain : row ≡ painted White 0 [] w = e ∙ white_painted w in
+    let wide : length (painted White 0 [] w) ≡ w = ap length (sym (white_painted w)) ∙ length-replicate w White in
+    let rises : AreRising 0 places w = subst (AreRising 0 places) size rising in
+    let made = turned_at_all [] places w (none_rising w) (subst (AreRising 0 places) (sym wide) rises) (white_may_turn (painted White 0 [] w) w places (sym (white_painted w)) rises) in
+    subst (λ (r : Elements). let first : ℕ = slice_index_or places 0 (length r) in new ≡ take first r ++ painted (colour_before r first) first places (length r)) plain turned
+    ∙ sym made.row_is ∙ ap (painted White 0 places) (sym size) ∙ sym is
+
+-- ---- places
+
+pub skipped : (old new : Place) (n : ℕ) → Passes old new (take n old.left) → new.left ≡ drop n old.left
+skipped old new n p = append_cancel_left (take n old.left) new.left (drop n old.left) (sym p.bits ∙ sym (take-append-drop n old.left))
+
+-- a place that was reached in octets
+pub record IsReached (octets : List ℕ) (end : Place) : Type 0 where
+  pub within : end.passed ≤ 8 * length octets
+  pub left_is : drop end.passed (bits_of octets) ≡ end.left
+
+pub reached : (octets : List ℕ) (start a b end : Place) (text : List Bool) → start ≡ record { passed = 0; left = bits_of octets } → Passes start a text
+    → (more : List Bool) × Passes a b more → (more : List Bool) × Passes b end more → IsReached octets end
+reached octets start a b end text at one (second, two) (third, three) =
+    let all : Passes start end ((text ++ second) ++ third) = Passes-then start b end (text ++ second) third (Passes-then start a b text second one two) three in
+    let passed : end.passed ≡ length ((text ++ second) ++ third) = all.place ∙ ap (λ (p : Place). p.passed + length ((text ++ second) ++ third)) at ∙ zero-add (length ((text ++ second) ++ third)) in
+    let bits : bits_of octets ≡ ((text ++ second) ++ third) ++ end.left = sym (ap (λ (p : Place). p.left) at) ∙ all.bits in
+    record {
+      within = omega (arith, ap length bits, length-append ((text ++ second) ++ third) end.left, length-bits_of octets);
+      left_is = ap (drop end.passed) bits ∙ drop_at ((text ++ second) ++ third) end.left end.passed (sym passed);
+    }
+
+-- the octets in front of a place, dropped
+pub drop_place : (octets : List ℕ) (place : ℕ) → place ≤ 8 * length octets → drop (place % 8) (bits_of (drop (place / 8) octets)) ≡ drop place (bits_of octets)
+drop_place octets place le =
+    let inside : place / 8 ≤ length octets = omega arith in
+    let whole : 8 * (place / 8) + place % 8 ≡ place = omega arith in
+    ap (drop (place % 8)) (sym (drop-bits_of (place / 8) octets inside)) ∙ drop-drop (place % 8) (8 * (place / 8)) (bits_of octets) ∙ ap (λ n. drop n (bits_of octets)) whole
+
+-- ---- more octets
+
+ReadSoFar-octets : (coding : Coding) (width : ℕ) (octets piece : List ℕ) (rows : List Elements) (tag : Bool) (left : List Bool)
+    → ReadSoFar coding width octets rows 0 tag left → ReadSoFar coding width (octets ++ piece) rows 0 tag (left ++ bits_of piece)
+ReadSoFar-octets coding width octets piece rows tag left r = record {
+  front = r.front;
+  lines = r.lines;
+  separators = r.separators;
+  front_tag = r.front_tag;
+  row_tag = r.row_tag;
+  is_front = r.is_front;
+  spelt = r.spelt;
+  in_a_row = r.in_a_row;
+  bits_are = bits_of-append octets piece ∙ ap (λ b. b ++ bits_of piece) r.bits_are
+      ∙ append_assoc r.front (r.lines ++ (r.separators ++ left)) (bits_of piece)
+      ∙ ap (λ b. r.front ++ b) (append_assoc r.lines (r.separators ++ left) (bits_of piece))
+      ∙ ap (λ b. r.front ++ (r.lines ++ b)) (append_assoc r.separators left (bits_of piece));
+}
+
+IsReadUpTo-octets : (coding : Coding) (width : ℕ) (octets piece : List ℕ) (rows : List Elements) (tag : Option Bool) (left : List Bool)
+    → IsReadUpTo coding width octets rows tag left → IsReadUpTo coding width (octets ++ piece) rows tag (left ++ bits_of piece)
+IsReadUpTo-octets coding width octets piece rows None left (none, all) = (none, ap (λ b. b ++ bits_of piece) all ∙ sym (bits_of-append octets piece))
+IsReadUpTo-octets coding width octets piece rows (Some tag) left read = ReadSoFar-octets coding width octets piece rows tag left read
+
+-- the same where the octets that are kept have more behind them
+pub IsReadUpTo-more : (coding : Coding) (width : ℕ) (octets piece held all : List ℕ) (used : ℕ) (rows : List Elements) (tag : Option Bool) → used ≤ 8 * length held → all ≡ held ++ piece
+    → IsReadUpTo coding width octets rows tag (drop used (bits_of held)) → IsReadUpTo coding width (octets ++ piece) rows tag (drop used (bits_of all))
+IsReadUpTo-more coding width octets piece held all used rows tag le e read =
+    let bits : drop used (bits_of held) ++ bits_of piece ≡ drop used (bits_of all) =
+    sym (drop-append-le used (bits_of held) (bits_of piece) (omega (arith, length-bits_of held))) ∙ ap (drop used) (sym (bits_of-append held piece)) ∙ ap (λ o. drop used (bits_of o)) (sym e) in
+    subst (IsReadUpTo coding width (octets ++ piece) rows tag) bits (IsReadUpTo-octets coding width octets piece rows tag (drop used (bits_of held)) read)
+
+-- ---- the front
+
+pub front_read : (coding : Coding) (width : ℕ) (octets : List ℕ) (rows : List Elements) (tag : Bool) (old new : Place) → rows ≡ [] → old.left ≡ bits_of octets
+    → (front : List Bool) × IsFront coding tag front × Passes old new front → ReadSoFar coding width octets rows 0 tag new.left
+front_read coding width octets rows tag old new none all (front, is, p) = record {
+  front = front;
+  lines = [];
+  separators = [];
+  front_tag = tag;
+  row_tag = tag;
+  is_front = is;
+  spelt = subst (λ (rs : List Elements). SpellsRows coding width tag None rs [] tag) (sym none) (refl, refl);
+  in_a_row = (refl, refl);
+  bits_are = sym all ∙ p.bits;
+}
+
+-- nothing came
+nothing_has_eol : (coding : Coding) → HasNoEol coding []
+nothing_has_eol coding = λ tag front rest is e.
+    FewZeros-no_eol [] is.front (is.tag_text ++ rest) tt is.ends (sym bits_of-nil ∙ e ∙ ap (λ b. b ++ rest) is.text_is ∙ append_assoc is.front is.tag_text rest)
+
+pub nothing_read : (format : Format) (coding : Coding) → HasRead [] (new_reader format coding)
+nothing_read format coding = record { read = (refl, sym bits_of-nil); judged = inl (refl, nothing_has_eol coding) }
+
+pub new_is : (format : Format) (coding : Coding) (rows : List Elements) (items : List ℕ) → rows ≡ [] → items ≡ []
+    → (let made : ReaderValue = record { format = format; coding = coding; rows = rows; tag = None; left = drop 0 (bits_of items); fault = Some NoEol } in made ≡ new_reader format coding)
+new_is format coding rows items none no_items =
+    ap (λ (rs : List Elements). let made : ReaderValue = record { format = format; coding = coding; rows = rs; tag = None; left = drop 0 (bits_of items); fault = Some NoEol } in made) none
+    ∙ ap (λ (bits : List Bool). let made : ReaderValue = record { format = format; coding = coding; rows = []; tag = None; left = bits; fault = Some NoEol } in made) (ap bits_of no_items ∙ bits_of-nil)
+
+-- ---- what is judged
+
+pub judged_from : (coding : Coding) (width : ℕ) (octets : List ℕ) (rows : List Elements) (fault : Option PageFault) → IfSome fault (λ f. FailsPage width coding octets f)
+    → (IsNone fault → MeansRows width coding octets rows) → AreJudged coding width octets rows fault
+judged_from coding width octets rows None fails whole = whole refl
+judged_from coding width octets rows (Some fault) fails whole = fails
+
+-- ---- the one answer
+
+-- what a reader has read is no page and a fault, nor two faults
+pub no_page : (octets : List ℕ) (reader : ReaderValue) (fault : PageFault) (page : PageValue) → HasRead octets reader → reader.fault ≡ Some fault
+    → MeansPage reader.format reader.coding octets page → ⊥
+no_page octets reader fault page has is means =
+    pages_dont_fail (elements_of reader.format.width) reader.coding octets page.rows fault (IsWidth-elements reader.format.width) means.1
+    (subst (AreJudged reader.coding (elements_of reader.format.width) octets reader.rows) is has.judged)
+
+pub no_fault : (octets : List ℕ) (reader : ReaderValue) (fault : PageFault) → HasRead octets reader → reader.fault ≡ None
+    → FailsPage (elements_of reader.format.width) reader.coding octets fault → ⊥
+no_fault octets reader fault has is fails =
+    pages_dont_fail (elements_of reader.format.width) reader.coding octets reader.rows fault (IsWidth-elements reader.format.width)
+    (subst (AreJudged reader.coding (elements_of reader.format.width) octets reader.rows) is has.judged) fails
+
+pub same_fault : (octets : List ℕ) (reader : ReaderValue) (fault other : PageFault) → HasRead octets reader → reader.fault ≡ Some fault
+    → FailsPage (elements_of reader.format.width) reader.coding octets other → fault ≡ other
+same_fault octets reader fault other has is fails =
+    faults_are_unique (elements_of reader.format.width) reader.coding octets fault other (IsWidth-elements reader.format.width)
+    (subst (AreJudged reader.coding (elements_of reader.format.width) octets reader.rows) is has.judged) fails
+
+-- the page of a reader is the one that its octets mean
+pub same_page : (octets : List ℕ) (reader : ReaderValue) (page made : PageValue) → HasRead octets reader → reader.fault ≡ None
+    → MeansPage reader.format reader.coding octets page → made ≡ record { format = reader.format; rows = reader.rows } → made ≡ page
+same_page octets reader page made has is means e =
+    let rows : reader.rows ≡ page.rows =
+    pages_are_unique (elements_of reader.format.width) reader.coding octets reader.rows page.rows (IsWidth-elements reader.format.width)
+    (subst (AreJudged reader.coding (elements_of reader.format.width) octets reader.rows) is has.judged) means.1 in
+    e
+    ∙ ap (λ (rs : List Elements). let p : PageValue = record { format = reader.format; rows = rs } in p) rows
+    ∙ ap (λ (f : Format). let p : PageValue = record { format = f; rows = page.rows } in p) (sym means.0)

@@ -1,0 +1,11 @@
+use Rattle.std.proofs.Common.{[], subst, sym}
+use Rattle.fax_pagestore.specs.Readers.{HasRead}
+use Rattle.fax_pagestore.proofs.ReaderLemmas.{new_is, nothing_read}
+use Rattle.fax_pagestore.proofs.reader.PageReader.new.Goals as goal
+
+pub returns-clause-value : goal.returns-clause-value
+returns-clause-value g c = new_is c.args.format c.args.coding (g.S.RowStore.rows c.empty.result) c.new.result.items c.empty.ensures c.new.ensures.items
+
+pub returns-clause-read : goal.returns-clause-read
+returns-clause-read g c =
+    subst (HasRead []) (sym (new_is c.args.format c.args.coding (g.S.RowStore.rows c.empty.result) c.new.result.items c.empty.ensures c.new.ensures.items)) (nothing_read c.args.format c.args.coding)

@@ -1,0 +1,81 @@
+-- Pages that are read as their octets come: what a reader is, and which octets have come to it.
+use Rattle.std.specs.Prelude.{◌≡◌, ℕ, Bool, List, [], ◌∷◌, ◌++◌, Option, Some, None, length, take}
+use Rattle.fax_bits.specs.Bits.{bits_of}
+use Rattle.fax_bits.specs.Reading.{Place, Passes}
+use Rattle.fax_runcodes.specs.declared.format.Coding.{Coding}
+use Rattle.fax_runcodes.specs.declared.format.Format.{Format}
+use Rattle.fax_runcodes.specs.Rows.{Elements}
+use Rattle.fax_runcodes.specs.Widths.{elements_of}
+use Rattle.fax_pagestore.specs.declared.fault.PageFault.{PageFault}
+use Rattle.fax_pagestore.specs.declared.fault.PageFault.TheVariants.{NoEol}
+use Rattle.fax_pagestore.specs.PageTexts.{IsSeparator, SpellsRow, ReadSoFar, MeansRows}
+use Rattle.fax_pagestore.specs.PageFaults.{FailsPage, last_of}
+
+-- A reader: its rows, the tag of the last separator that is read, or none before the first EOL, the bits
+-- behind that, and why these octets are no page, if they are none.
+pub record ReaderValue : Type 0 where
+  pub format : Format
+  pub coding : Coding
+  pub rows : List Elements
+  pub tag : Option Bool
+  pub left : List Bool
+  pub fault : Option PageFault
+
+-- a reader to which nothing came
+abbrev pub new_reader : Format → Coding → ReaderValue
+new_reader format coding = record { format = format; coding = coding; rows = []; tag = None; left = []; fault = Some NoEol }
+
+-- Of octets these rows are read, and a separator of this tag behind the last; these bits are left.
+abbrev pub IsReadUpTo : Coding → ℕ → List ℕ → List Elements → Option Bool → List Bool → Type 0
+IsReadUpTo coding width octets rows None left = (rows ≡ []) × (left ≡ bits_of octets)
+IsReadUpTo coding width octets rows (Some tag) left = ReadSoFar coding width octets rows 0 tag left
+
+-- what octets are where no more come: a page of these rows, or none for this fault
+abbrev pub AreJudged : Coding → ℕ → List ℕ → List Elements → Option PageFault → Type 0
+AreJudged coding width octets rows None = MeansRows width coding octets rows
+AreJudged coding width octets rows (Some fault) = FailsPage width coding octets fault
+
+-- These octets came to a reader, whatever the pieces in which they came.
+pub record HasRead (octets : List ℕ) (reader : ReaderValue) : Type 0 where
+  pub read : IsReadUpTo reader.coding (elements_of reader.format.width) octets reader.rows reader.tag reader.left
+  pub judged : AreJudged reader.coding (elements_of reader.format.width) octets reader.rows reader.fault
+
+-- What a mark keeps of a reader: how many rows it has, and all else.
+pub record MarkValue : Type 0 where
+  pub format : Format
+  pub coding : Coding
+  pub count : ℕ
+  pub tag : Option Bool
+  pub left : List Bool
+  pub fault : Option PageFault
+
+abbrev pub mark_of : ReaderValue → MarkValue
+mark_of reader = record {
+  format = reader.format;
+  coding = reader.coding;
+  count = length reader.rows;
+  tag = reader.tag;
+  left = reader.left;
+  fault = reader.fault;
+}
+
+-- the reader at a mark, with the first of these rows
+abbrev pub reader_at : MarkValue → List Elements → ReaderValue
+reader_at mark rows = record {
+  format = mark.format;
+  coding = mark.coding;
+  rows = take mark.count rows;
+  tag = mark.tag;
+  left = mark.left;
+  fault = mark.fault;
+}
+
+-- From one place to the next a row was read, and a separator of this tag behind it.
+pub record ReadsOne (coding : Coding) (width : ℕ) (tag next : Bool) (rows all : List Elements) (old new : Place) : Type 0 where
+  pub row : Elements
+  pub line : List Bool
+  pub separator : List Bool
+  pub all_are : all ≡ rows ++ row ∷ []
+  pub spelt : SpellsRow width tag (last_of rows) line row
+  pub behind : IsSeparator coding next separator
+  pub passes : Passes old new (line ++ separator)
