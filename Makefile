@@ -2,7 +2,7 @@
 RT ?= rt
 PROGRAM = crates/faxgate/out/faxgate
 
-.PHONY: all test memory bench tables
+.PHONY: all test memory bench interop tables
 
 # Proves and builds the program, and says where it lies.
 all:
@@ -47,6 +47,15 @@ bench/example: $(FAX_C)/example.c $(FAX_C)/fax_c.h
 	cd $(FAX_C) && $(RT) lib
 	$(CC) -O2 -Wall -Wextra -I$(FAX_C) -o $@ $(FAX_C)/example.c $(FAX_C)/out/libfax_c.a $(KIT_C)/liblibc_c.a
 
-bench: bench/example bench/bench
+bench: all bench/example bench/bench
 	bench/example
 	bench/bench bench/pages
+	bench/gateway $(PROGRAM) bench/pages/text-1728.mr
+
+# Calls between two T.38 terminals of spandsp through the gateway: see docs/INTEROP.md. It wants a C compiler, libspandsp-dev
+# and libtiff-dev, and some minutes.
+tools/interop: tools/interop.c
+	$(CC) -O2 -Wall -Wextra -o $@ tools/interop.c -lspandsp -ltiff
+
+interop: all tools/interop
+	tools/interop $(PROGRAM)

@@ -2,7 +2,7 @@
    and without real time, and checks that each page that was confirmed to the caller is the page that the called
    terminal got, element for element. For `make interop` only; nothing of the product is C.
 
-   usage: interop FAXGATE    (the proved program)
+   usage: interop FAXGATE [NUMBER]    (the proved program; that one call alone, whose script is then printed)
 
    A call is a script that grows: each round of 40 ms the terminals' datagrams are put behind it, and a tick. The program
    is run on the whole script, and what it prints more than on the last one is what the gateway gave in this round. */
@@ -20,6 +20,7 @@
 enum {
     ROWS = 120,
     MOST_PAGES = 3,
+    CALLS = 48,
     ROUND_MS = 40,
     MOST_ROUNDS = 9000,
     SAMPLES_A_ROUND = 8 * ROUND_MS,
@@ -328,10 +329,11 @@ static void end_peer(Peer *p) {
 }
 
 /* One call: it prints a line, and counts in what was delivered and in how many pages differ. */
-static void call(Setting s, int *delivered, int *differ) {
+static void call(int number, Setting s, int shows_script, int *delivered, int *differ) {
     static Page pages[MOST_PAGES];
     Call c = {.setting = s};
     int wrong = 0;
+    state_of_chance = (uint32_t)number;
     for (int n = 0; n < s.pages; n++) draw(pages[n], s.width);
     snprintf(c.sent_path, sizeof c.sent_path, "%s/sent.tif", room);
     snprintf(c.got_path, sizeof c.got_path, "%s/got.tif", room);
@@ -343,8 +345,9 @@ static void call(Setting s, int *delivered, int *differ) {
     end_peer(c.called);
     int got = compare(c.got_path, &s, pages, &wrong);
     int whole = strstr(c.job, " Delivered") != NULL;
-    printf("%s %d %s, %d pages, %d%% lost: confirmed %d, got %d, differ %d, %d s; %s\n", s.two_dimensional ? "mr" : "mh",
-           s.width, s.fine ? "fine" : "standard", s.pages, s.lost_percent, confirmed, got, wrong,
+    if (shows_script) fwrite(c.script.text, 1, c.script.length, stdout);
+    printf("%d: %s %d %s, %d pages, %d%% lost: confirmed %d, got %d, differ %d, %d s; %s\n", number,
+           s.two_dimensional ? "mr" : "mh", s.width, s.fine ? "fine" : "standard", s.pages, s.lost_percent, confirmed, got, wrong,
            c.rounds * ROUND_MS / 1000, c.job[0] ? c.job : "no job");
     fflush(stdout);
     *delivered += whole;
@@ -354,18 +357,25 @@ static void call(Setting s, int *delivered, int *differ) {
     free(c.printed.text);
 }
 
+/* The settings of a call: both codings, two resolutions, three widths, one page and three, none lost and 5 in 100. */
+static Setting setting_of(int number) {
+    static const int widths[] = {1728, 2048, 2432};
+    int k = number - 1;
+    return (Setting){.two_dimensional = k % 2,
+                     .fine = k / 2 % 2,
+                     .width = widths[k / 4 % 3],
+                     .pages = k / 12 % 2 ? MOST_PAGES : 1,
+                     .lost_percent = k / 24 % 2 ? 5 : 0};
+}
+
 int main(int count, char **words) {
-    static const int widths[] = {1728, 2048, 2432}, page_counts[] = {1, 3}, losses[] = {0, 5};
-    int calls = 0, delivered = 0, differ = 0;
-    if (count != 2) return fprintf(stderr, "usage: interop FAXGATE\n"), 2;
+    int delivered = 0, differ = 0, first = 1, last = CALLS;
+    if (count < 2 || count > 3) return fprintf(stderr, "usage: interop FAXGATE [NUMBER]\n"), 2;
     faxgate = words[1];
+    if (count == 3) first = last = atoi(words[2]);
     if (!mkdtemp(room)) fail(room);
-    for (int lost = 0; lost < 2; lost++)
-        for (int n = 0; n < 2; n++)
-            for (int w = 0; w < 3; w++)
-                for (int fine = 0; fine < 2; fine++)
-                    for (int two = 0; two < 2; two++, calls++)
-                        call((Setting){widths[w], fine, two, page_counts[n], losses[lost]}, &delivered, &differ);
-    printf("%d calls, %d delivered, %d pages differ\n", calls, delivered, differ);
+    for (int number = first; number <= last; number++)
+        call(number, setting_of(number), count == 3, &delivered, &differ);
+    printf("%d calls, %d delivered, %d pages differ\n", last - first + 1, delivered, differ);
     return differ != 0 || delivered == 0;
 }
