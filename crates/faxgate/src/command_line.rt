@@ -58,10 +58,14 @@ fn output_of(page: &ArgMatches<'_>) -> Output {
     }
 }
 
+/// What `faxgate --version` prints behind the name.
+const VERSION: &str = "0.1.0";
+
 /// The command line of the program.
 fn faxgate_command<'a>(alloc: Global) -> Result<Command<'a>, AllocError> {
     Command::new(alloc, "faxgate")
         .bin_name("faxgate")?
+        .version(VERSION)
         .about("Reads and writes the pages of a fax gateway, and plays what came to one")
         .subcommand_required(true)
         .subcommand(page_command(alloc)?)?
@@ -79,11 +83,13 @@ fn trace_command<'a>(alloc: Global) -> Command<'a> {
 fn page_command<'a>(alloc: Global) -> Result<Command<'a>, AllocError> {
     let width = Arg::new(alloc, "width")
         .long("width")
+        .value_name("ELEMENTS")
         .value_parser(ValueParser::Names(&["1728", "2048", "2432"]))
         .default_value("1728")
         .help("The elements of each row");
     let coding = Arg::new(alloc, "coding")
         .long("coding")
+        .value_name("CODING")
         .value_parser(ValueParser::Names(&["mh", "mr"]))
         .default_value("mh")
         .help("One-dimensional lines (mh), or two-dimensional ones among them (mr)");
@@ -102,7 +108,7 @@ fn page_command<'a>(alloc: Global) -> Result<Command<'a>, AllocError> {
     let back = Arg::new(alloc, "back")
         .long("back")
         .action(ArgAction::SetTrue)
-        .help("Read such lines, and print the octets of their page as hex text");
+        .help("Read lines of run lengths, and print the octets of their page as hex text");
     let pbm = Arg::new(alloc, "pbm")
         .long("pbm")
         .action(ArgAction::SetTrue)

@@ -89,6 +89,10 @@ fn wrong_words_are_refused(rt: HostRuntime) {
             ErrorKind::DisplayHelp,
         ),
         (
+            ["faxgate", "--version"].as_slice(),
+            ErrorKind::DisplayVersion,
+        ),
+        (
             ["faxgate", "page", "--forth"].as_slice(),
             ErrorKind::UnknownArgument,
         ),
