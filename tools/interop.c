@@ -368,6 +368,16 @@ static Setting setting_of(int number) {
                      .lost_percent = k / 24 % 2 ? 5 : 0};
 }
 
+static void clear_room(void) {
+    static const char *const names[] = {"script", "sent.tif", "got.tif"};
+    char path[96];
+    for (int i = 0; i < 3; i++) {
+        snprintf(path, sizeof path, "%s/%s", room, names[i]);
+        unlink(path);
+    }
+    rmdir(room);
+}
+
 int main(int count, char **words) {
     int delivered = 0, differ = 0, first = 1, last = CALLS;
     if (count < 2 || count > 3) return fprintf(stderr, "usage: interop FAXGATE [NUMBER]\n"), 2;
@@ -376,6 +386,7 @@ int main(int count, char **words) {
     if (!mkdtemp(room)) fail(room);
     for (int number = first; number <= last; number++)
         call(number, setting_of(number), count == 3, &delivered, &differ);
+    clear_room();
     printf("%d calls, %d delivered, %d pages differ\n", last - first + 1, delivered, differ);
     return differ != 0 || delivered == 0;
 }
