@@ -137,8 +137,9 @@ fn product_of(alloc: Global, input: Vec<u8>, options: PageOptions) -> Result<Pro
     }
 }
 
-/// The page whose octets are given as hex text.
-fn page_of_hex(
+/// The page whose octets are given as hex text, in which white space is passed over; the format and the coding are those
+/// of the options. An `Err` tells what is wrong with the text, or that memory was wanted.
+pub fn page_of_hex(
     alloc: Global,
     input: Vec<u8>,
     options: PageOptions,

@@ -14,10 +14,12 @@ mod stream;
 #[cfg(test)]
 mod tests;
 
-pub use answer::MEMORY_LINE;
+pub use answer::{MEMORY_LINE, page_of_hex};
 pub use input::{InputError, read_input};
+pub use input_fault::InputFault;
 pub use lines::first_line;
 pub use options::{Output, PageOptions};
+pub use putting::write_rows;
 pub use run::run_page;
 pub use status::Status;
 pub use stream::{

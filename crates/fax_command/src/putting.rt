@@ -1,4 +1,5 @@
 //! The texts of pages: lines of run lengths, pictures, and hex text.
+ghost use Rattle.std.specs.Io.KnownBytes.{Appends};
 ghost use Rattle.std.specs.Prelude.{ℕ, List, [], ◌≡◌, ◌≤◌, ◌++◌, ◌∷◌, map, length, OnOk};
 ghost use Rattle.hex.specs.Hex.{encode_lower};
 ghost use Rattle.fax_bits.specs.Laws.{AreOctets};
@@ -9,16 +10,33 @@ ghost use Rattle.fax_command.specs.Pictures.{IsPicture, AreRowsOctets, picture_h
 ghost use Rattle.fax_command.specs.RowLines.{TellRows, TellsRow, text_of_lines};
 ghost use Rattle.fax_command.specs.Streams.{Puts, failed_after_write};
 
-use crate::gathering::{put, put_number};
+use crate::gathering::{put, put_number, write_waiting};
 use crate::stream::{Sink, WriteFault};
 use fax_pagestore::{Page, RowStore};
 use fax_runcodes::RowRef;
+use std::alloc::Global;
 
 /// How many octets the picture elements of the longest row fill, which has 2432.
 const MOST_OCTETS_OF_ROW: usize = 304;
 
 /// How many octets are made hex text at once.
 const HEX_AT_ONCE: usize = 512;
+
+/// Writes the lines of rows: of each row the lengths of its runs in elements, white first. It takes memory for them while
+/// they wait to be written together, where there is any.
+pub fn write_rows<O: Sink, S: RowStore>(
+    alloc: Global,
+    sink: &mut O,
+    rows: &S,
+) -> Result<(), WriteFault>
+    ensures text { OnOk result ((lines : List (List ℕ)) × TellRows lines (S.rows rows.now)
+        × Appends (O.contents sink.old) (O.contents sink.new) (text_of_lines lines)) }
+    ensures failed { O.failed sink.new ≡ failed_after_write (O.failed sink.old) result }
+{
+    let mut waiting = Vec::new(alloc);
+    put_lines(sink, &mut waiting, rows)?;
+    write_waiting(sink, &mut waiting)
+}
 
 /// Puts the lines of rows.
 pub fn put_lines<O: Sink, S: RowStore>(

@@ -11,14 +11,16 @@ pub enum Status {
     Usage,
     /// Memory was wanted and refused, and its line was written.
     NoMemory,
-    /// A read or a write failed, or the input went past its bound.
+    /// A read or a write failed, the input went past its bound, or a socket could not be made.
     Stream,
+    /// A job was not delivered.
+    Undelivered,
 }
 
 impl Status {
     ghost use Rattle.fax_command.specs.Statuses.{status_code};
 
-    /// The exit status, from 0 to 4.
+    /// The exit status, from 0 to 5.
     pub fn code(self) -> u8
         ensures { result ≡ status_code self }
     {
@@ -28,6 +30,7 @@ impl Status {
             Status::Usage => 2,
             Status::NoMemory => 3,
             Status::Stream => 4,
+            Status::Undelivered => 5,
         }
     }
 }

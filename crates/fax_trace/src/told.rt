@@ -66,8 +66,9 @@ fn push_job(alloc: Global, text: &mut Vec<u8>, report: &Option<Report>) -> Resul
     Ok(())
 }
 
-/// The line of a job that ended, without its line feed.
-fn line_of_job(alloc: Global, report: &Report) -> Result<String, AllocError>
+/// The line of a job that ended, without its line feed: `job`, the number of its call, its width in elements, its
+/// resolution, its pages, how many of them were delivered, and how it ended.
+pub fn line_of_job(alloc: Global, report: &Report) -> Result<String, AllocError>
     ensures { IfOk result (λ line. string_bytes line ≡ job_line report.now) }
 {
     let Report {

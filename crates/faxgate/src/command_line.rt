@@ -14,14 +14,19 @@ pub enum Request {
     Page(PageOptions),
     /// What a gateway answers to a script.
     Trace,
+    /// A page that goes through a gateway, over sockets.
+    Loop,
 }
 
 /// What the words of a command line ask for, of which the first is the program's name. An `Err` is the
 /// help that was asked for, or what is wrong.
 pub fn request_of<'a, S: AsStr>(alloc: Global, words: &'a [S]) -> Result<Request, Error> {
     let matches = faxgate_command(alloc)?.try_get_matches_from(words)?;
-    match matches.subcommand_matches("page") {
-        Some(page) => Ok(Request::Page(options_of(page))),
+    if let Some(page) = matches.subcommand_matches("page") {
+        return Ok(Request::Page(options_of(page)));
+    }
+    match matches.subcommand_matches("loop") {
+        Some(_) => Ok(Request::Loop),
         None => Ok(Request::Trace),
     }
 }
@@ -66,16 +71,26 @@ fn faxgate_command<'a>(alloc: Global) -> Result<Command<'a>, AllocError> {
     Command::new(alloc, "faxgate")
         .bin_name("faxgate")?
         .version(VERSION)
-        .about("Reads and writes the pages of a fax gateway, and plays what came to one")
+        .about(
+            "Reads and writes the pages of a fax gateway, plays what came to one, and sends a page through one",
+        )
         .subcommand_required(true)
         .subcommand(page_command(alloc)?)?
-        .subcommand(trace_command(alloc))
+        .subcommand(trace_command(alloc))?
+        .subcommand(loop_command(alloc))
 }
 
 /// The command line of `faxgate trace`.
 fn trace_command<'a>(alloc: Global) -> Command<'a> {
     Command::new(alloc, "trace").about(
         "Play a script on a new gateway, and print what it answers. Lines of a script: R (it rings), A HEX and B HEX (a datagram came on the calling or on the called leg), T MS (time goes on to a moment)",
+    )
+}
+
+/// The command line of `faxgate loop`.
+fn loop_command<'a>(alloc: Global) -> Command<'a> {
+    Command::new(alloc, "loop").about(
+        "Send a page from one machine through a gateway to another, over UDP on this host: read its octets as hex text, and print how the job ended and the rows that were confirmed",
     )
 }
 

@@ -1,5 +1,5 @@
 //! `faxgate page` prints the rows of a page (ITU-T T.4), or the page of rows; `faxgate trace` prints what a gateway
-//! answers to a script of what came to it.
+//! answers to a script of what came to it; `faxgate loop` sends a page through a gateway, over sockets of this host.
 #![tactic(auto)]
 
 mod command_line;
@@ -9,17 +9,20 @@ mod tests;
 use clap::error::ErrorKind;
 use command_line::{Request, request_of};
 use fax_command::{Status, StdSink, StdSource, run_page};
+use fax_loop::run_loop;
 use fax_trace::run_trace;
+use std::net::Net;
 use std::process::ExitCode;
 use std::rt::Env;
 use std::{env, io};
 
 fn main(rt: HostRuntime) -> ExitCode {
-    ExitCode::from(run_words(&rt))
+    ExitCode::from(run_words(&rt, &rt))
 }
 
-/// Does what the words of the command line ask for, and says with which exit status the process ends.
-fn run_words<R: Print + Eprint + Input + Env + AllocGlobal>(rt: &R) -> u8 {
+/// Does what the words of the command line ask for, and says with which exit status the process ends. Sockets are those
+/// of the network.
+fn run_words<R: Print + Eprint + Input + Env + AllocGlobal, N: Net>(rt: &R, net: &N) -> u8 {
     let words = match words_of(rt) {
         Ok(words) => words,
         Err(error) => return tell_unread_words(rt, error).code(),
@@ -33,6 +36,7 @@ fn run_words<R: Print + Eprint + Input + Env + AllocGlobal>(rt: &R) -> u8 {
     match request {
         Request::Page(options) => run_page(rt.alloc(), &mut source, &mut sink, options),
         Request::Trace => run_trace(rt.alloc(), &mut source, &mut sink),
+        Request::Loop => run_loop(net, rt.alloc(), &mut source, &mut sink),
     }
 }
 

@@ -1,133 +1,240 @@
-//! The words of the command line.
-use crate::command_line::{Request, request_of};
-use clap::error::ErrorKind;
-use fax_command::{Output, PageOptions};
-use fax_pagestore::{Coding, Format};
-use fax_runcodes::Width;
+//! The whole program over a runtime of memory: what it prints, what it tells on the standard error, and with which status it
+//! ends.
+mod desk;
 
-/// Reads a page, with no option given.
-const READ: PageOptions = PageOptions {
-    format: Format {
-        width: Width::W1728,
-        fine: false,
-    },
-    coding: Coding::Mh,
-    least_bits: 0,
-    output: Output::Runs,
-};
+use crate::run_words;
+use desk::Desk;
 
-/// Writes a page, with no other option given.
-const BACK: PageOptions = PageOptions {
-    output: Output::Octets,
-    ..READ
-};
+/// A page of one white row of 1,728 elements.
+const PAGE: &str = "0014d9a8008008008008008008";
 
-/// Reads a page as a picture, with no other option given.
-const PICTURE: PageOptions = PageOptions {
-    output: Output::Picture,
-    ..READ
-};
+/// The words of a command line and what is read, with the status and what is printed; nothing is told.
+const ANSWERS: &[(&[&str], &str, u8, &str)] = &[
+    (&["faxgate", "page"], PAGE, 0, "1728\n"),
+    (&["faxgate", "page"], "ff", 1, "fault 1 NoEol\n"),
+    (
+        &["faxgate", "page", "--back"],
+        "1728\n",
+        0,
+        "0014d9a8008008008008008008\n",
+    ),
+    (
+        &["faxgate", "page", "--back", "--least", "48"],
+        "1728\n",
+        0,
+        "0014d9a80000001001001001001001\n",
+    ),
+    (
+        &["faxgate", "page", "--back", "--least=0"],
+        "1727\n",
+        1,
+        "fault row 0\n",
+    ),
+    (
+        &["faxgate", "page", "--width", "2432"],
+        "0014db30d4004004004004004004",
+        0,
+        "2432\n",
+    ),
+    (
+        &["faxgate", "page", "--width=2432", "--back"],
+        "2432",
+        0,
+        "00101d35001001001001001001\n",
+    ),
+    (
+        &["faxgate", "page", "--width", "2048", "--back"],
+        "2048",
+        0,
+        "00101335001001001001001001\n",
+    ),
+    (
+        &["faxgate", "page", "--coding", "mr"],
+        "001a6cd40044d6800c006003001800c006",
+        0,
+        "1728\n0 3 1725\n",
+    ),
+    (
+        &["faxgate", "page", "--coding=mr", "--back"],
+        "1728\n1728\n1728\n",
+        0,
+        "001a6cd4005001a6cd4006003001800c006003\n",
+    ),
+    (
+        &["faxgate", "page", "--coding=mr", "--fine", "--back"],
+        "1728\n1728\n1728\n",
+        0,
+        "001a6cd40050014006003001800c006003\n",
+    ),
+    (
+        &["faxgate", "trace"],
+        "R\nR\n",
+        0,
+        "ring 0\nring refused 1 Busy\n",
+    ),
+    (&["faxgate", "trace"], "R\nS\n", 1, "ring 0\nfault line 2\n"),
+    (
+        &["faxgate", "loop"],
+        PAGE,
+        0,
+        "job 0 1728 standard 1 1 Delivered\n1728\n",
+    ),
+    (&["faxgate", "loop"], "ff", 1, "fault 1 NoEol\n"),
+    (&["faxgate", "--version"], "", 0, "faxgate 0.1.0\n"),
+    (&["faxgate", "--help"], "", 0, HELP),
+    (&["faxgate", "page", "--help"], "", 0, PAGE_HELP),
+    (&["faxgate", "trace", "-h"], "", 0, TRACE_HELP),
+    (&["faxgate", "help", "loop"], "", 0, LOOP_HELP),
+];
 
-/// A page of a width and a coding, in the standard resolution.
-fn options(width: Width, coding: Coding, least_bits: u32, output: Output) -> PageOptions {
-    let format = Format { width, fine: false };
-    PageOptions {
-        format,
-        coding,
-        least_bits,
-        output,
+const HELP: &str = "\
+Reads and writes the pages of a fax gateway, plays what came to one, and sends a page through one
+
+Usage: faxgate <COMMAND>
+
+Commands:
+  page   Read the octets of a page as hex text, and print each row as a line of run lengths, white first
+  trace  Play a script on a new gateway, and print what it answers. Lines of a script: R (it rings), A HEX and B HEX (a datagram came on the calling or on the called leg), T MS (time goes on to a moment)
+  loop   Send a page from one machine through a gateway to another, over UDP on this host: read its octets as hex text, and print how the job ended and the rows that were confirmed
+  help   Print this message or the help of the given subcommand(s)
+
+Options:
+  -h, --help     Print help
+  -V, --version  Print version
+";
+
+const PAGE_HELP: &str = "\
+Read the octets of a page as hex text, and print each row as a line of run lengths, white first
+
+Usage: faxgate page [OPTIONS]
+
+Options:
+      --width <ELEMENTS>  The elements of each row [default: 1728] [possible values: 1728, 2048, 2432]
+      --coding <CODING>   One-dimensional lines (mh), or two-dimensional ones among them (mr) [default: mh] [possible values: mh, mr]
+      --fine              The fine resolution: with --back and mr, one line of 4 is one-dimensional, in place of one of 2
+      --least <BITS>      With --back, the least bits of a line, its fill and EOL included [default: 0]
+      --back              Read lines of run lengths, and print the octets of their page as hex text
+      --pbm               Write the page as a picture, a PBM
+  -h, --help              Print help
+";
+
+const TRACE_HELP: &str = "\
+Play a script on a new gateway, and print what it answers. Lines of a script: R (it rings), A HEX and B HEX (a datagram came on the calling or on the called leg), T MS (time goes on to a moment)
+
+Usage: faxgate trace
+
+Options:
+  -h, --help  Print help
+";
+
+const LOOP_HELP: &str = "\
+Send a page from one machine through a gateway to another, over UDP on this host: read its octets as hex text, and print how the job ended and the rows that were confirmed
+
+Usage: faxgate loop
+
+Options:
+  -h, --help  Print help
+";
+
+/// The words of a command line that is refused, and what is told; nothing is printed.
+const REFUSALS: &[(&[&str], &str)] = &[
+    (
+        &["faxgate"],
+        "error: 'faxgate' requires a subcommand but one was not provided
+  [subcommands: page, trace, loop, help]
+
+Usage: faxgate <COMMAND>
+",
+    ),
+    (
+        &["faxgate", "pages"],
+        "error: unrecognized subcommand 'pages'
+
+  tip: a similar subcommand exists: 'page'
+
+Usage: faxgate <COMMAND>
+",
+    ),
+    (
+        &["faxgate", "page", "--width", "1729"],
+        "error: invalid value '1729' for '--width <ELEMENTS>'
+  [possible values: 1728, 2048, 2432]
+
+  tip: a similar value exists: '1728'
+",
+    ),
+    (
+        &["faxgate", "page", "--coding", "mmr"],
+        "error: invalid value 'mmr' for '--coding <CODING>'
+  [possible values: mh, mr]
+",
+    ),
+    (
+        &["faxgate", "page", "--least", "65536"],
+        "error: invalid value '65536' for '--least <BITS>': 65536 is not in 0..=65535
+",
+    ),
+    (
+        &["faxgate", "page", "--forth"],
+        "error: unexpected argument '--forth' found
+
+Usage: faxgate page [OPTIONS]
+",
+    ),
+    (
+        &["faxgate", "page", "--pbm", "--back"],
+        "error: the argument '--pbm' cannot be used with '--back'
+
+Usage: faxgate page --pbm
+",
+    ),
+    (
+        &["faxgate", "trace", "--fine"],
+        "error: unexpected argument '--fine' found
+
+Usage: faxgate trace
+",
+    ),
+];
+
+#[test]
+fn what_is_printed(rt: HostRuntime) {
+    for (words, input, status, wanted) in ANSWERS {
+        let desk = Desk::new(rt.alloc(), words, input.as_bytes());
+        assert_eq!(rt; run_words(&desk, &rt), *status, "at {words:?}");
+        let (printed, told) = desk.into_texts();
+        assert_eq!(rt; printed.as_slice(), wanted.as_bytes(), "at {words:?}");
+        assert!(rt; told.is_empty(), "at {words:?}");
     }
 }
 
 #[test]
-fn words_are_read(rt: HostRuntime) {
-    for (words, wanted) in [
-        (["faxgate", "page"].as_slice(), READ),
-        (["faxgate", "page", "--back"].as_slice(), BACK),
-        (["faxgate", "page", "--pbm"].as_slice(), PICTURE),
-        (
-            ["faxgate", "page", "--width", "2048", "--coding", "mr"].as_slice(),
-            options(Width::W2048, Coding::Mr, 0, Output::Runs),
-        ),
-        (
-            [
-                "faxgate",
-                "page",
-                "--width=2432",
-                "--coding=mh",
-                "--least=65535",
-                "--back",
-            ]
-            .as_slice(),
-            options(Width::W2432, Coding::Mh, 65_535, Output::Octets),
-        ),
-        (
-            ["faxgate", "page", "--width", "1728", "--least", "0"].as_slice(),
-            READ,
-        ),
-    ] {
-        match request_of(rt.alloc(), words) {
-            Ok(found) => assert_eq!(rt; found, Request::Page(wanted), "at {words:?}"),
-            Err(_) => assert!(rt; false, "at {words:?}"),
-        }
-    }
-    match request_of(rt.alloc(), &["faxgate", "page", "--fine"]) {
-        Ok(Request::Page(found)) => assert!(rt; found.format.fine),
-        _ => assert!(rt; false),
-    }
-    match request_of(rt.alloc(), &["faxgate", "trace"]) {
-        Ok(found) => assert_eq!(rt; found, Request::Trace),
-        Err(_) => assert!(rt; false),
+fn what_is_told_of_a_refusal(rt: HostRuntime) {
+    for (words, wanted) in REFUSALS {
+        let desk = Desk::new(rt.alloc(), words, b"");
+        assert_eq!(rt; run_words(&desk, &rt), 2, "at {words:?}");
+        let (printed, told) = desk.into_texts();
+        assert!(rt; printed.is_empty(), "at {words:?}");
+        let text = told.as_slice();
+        assert_eq!(rt;
+            text.strip_prefix(wanted.as_bytes()),
+            Some(b"\nFor more information, try '--help'.\n".as_slice()),
+            "at {words:?}"
+        );
     }
 }
 
+/// The picture of a white row: the head, and an octet of 0 for each eight picture elements.
 #[test]
-fn wrong_words_are_refused(rt: HostRuntime) {
-    for (words, kind) in [
-        (
-            ["faxgate", "page", "--help"].as_slice(),
-            ErrorKind::DisplayHelp,
+fn a_page_is_a_picture(rt: HostRuntime) {
+    let desk = Desk::new(rt.alloc(), &["faxgate", "page", "--pbm"], PAGE.as_bytes());
+    assert_eq!(rt; run_words(&desk, &rt), 0);
+    let (printed, told) = desk.into_texts();
+    assert!(rt; told.is_empty());
+    match printed.as_slice().strip_prefix(b"P4\n1728 1\n") {
+        Some(picture) => assert!(rt;
+            picture.len() == 216 && picture.iter().all(|octet| *octet == 0)
         ),
-        (
-            ["faxgate", "--version"].as_slice(),
-            ErrorKind::DisplayVersion,
-        ),
-        (
-            ["faxgate", "page", "--forth"].as_slice(),
-            ErrorKind::UnknownArgument,
-        ),
-        (
-            ["faxgate", "trace", "--help"].as_slice(),
-            ErrorKind::DisplayHelp,
-        ),
-        (
-            ["faxgate", "trace", "--fine"].as_slice(),
-            ErrorKind::UnknownArgument,
-        ),
-        (
-            ["faxgate", "page", "--pbm", "--back"].as_slice(),
-            ErrorKind::ArgumentConflict,
-        ),
-        (
-            ["faxgate", "pages"].as_slice(),
-            ErrorKind::InvalidSubcommand,
-        ),
-        (
-            ["faxgate", "page", "--width", "1729"].as_slice(),
-            ErrorKind::InvalidValue,
-        ),
-        (
-            ["faxgate", "page", "--coding", "mmr"].as_slice(),
-            ErrorKind::InvalidValue,
-        ),
-        (
-            ["faxgate", "page", "--least", "65536"].as_slice(),
-            ErrorKind::ValueValidation,
-        ),
-    ] {
-        match request_of(rt.alloc(), words) {
-            Ok(_) => assert!(rt; false, "at {words:?}"),
-            Err(error) => assert_eq!(rt; error.kind(), kind, "at {words:?}"),
-        }
+        None => assert!(rt; false),
     }
 }

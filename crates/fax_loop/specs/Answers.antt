@@ -1,0 +1,74 @@
+-- What `faxgate loop` answers to an input. (This project's profile.)
+use Rattle.std.specs.Prelude.{◌≡◌, ℕ, false, List, [], ◌∷◌, Option, None, Some, slice_get}
+use Rattle.fax_runcodes.specs.Rows.{Elements}
+use Rattle.fax_runcodes.specs.declared.Width.TheVariants as width
+use Rattle.fax_runcodes.specs.declared.format.Coding.TheVariants as coding
+use Rattle.fax_pagestore.specs.PageTexts.{MeansRows}
+use Rattle.fax_jobs.specs.declared.outcome.Outcome.{Outcome as JobOutcome}
+use Rattle.fax_jobs.specs.declared.outcome.Outcome.TheVariants as job
+use Rattle.fax_jobs.specs.declared.report.Report.{Report}
+use Rattle.fax_call.specs.Writings.{IsWriting, Writing}
+use Rattle.fax_gateway.specs.Events.{Event}
+use Rattle.fax_gateway.specs.Sides.{book_of, sides}
+use Rattle.fax_gateway.specs.Traces.{IsTrace}
+use Rattle.fax_command.specs.declared.input_fault.InputFault.{InputFault}
+use Rattle.fax_command.specs.declared.options.Output.TheVariants as output
+use Rattle.fax_command.specs.declared.options.PageOptions.{PageOptions}
+use Rattle.fax_command.specs.Answers.{IsHexOf, RefusesPage, fault_line, fault_status, row_width}
+use Rattle.fax_command.specs.RowLines.{TellRows, text_of_lines}
+use Rattle.fax_trace.specs.Told.{job_line}
+
+-- How the page is given: in rows of 1,728 elements, of the standard resolution, in one-dimensional lines.
+abbrev pub page_options : PageOptions
+page_options = record { format = record { width = width.W1728; fine = false }; coding = coding.Mh; least_bits = 0; output = output.Runs }
+
+-- the input is hex text of octets that mean a page
+abbrev pub MeansPage : List ℕ → Type 0
+MeansPage input = (octets : List ℕ) × (rows : List Elements) × IsHexOf input octets × MeansRows (row_width page_options) page_options.coding octets rows
+
+-- This is the first report of a gateway, behind some trace, or it has made none; and that is so whatever gives the texts of
+-- pages.
+abbrev pub IsFirstReport : Option Report → Type 0
+IsFirstReport report = (writes : Writing) → IsWriting writes
+    → (trace : List Event) × IsTrace writes trace × (report ≡ slice_get (book_of (sides writes trace)).reports 0)
+
+-- How a run ends: the gateway reports the job, and the machine that it called confirmed these rows; it reports none; or
+-- something is wrong with the input, or memory is wanted.
+pub data Outcome : Type 0 where
+  Reports : (report : Report) → (rows : List Elements) → Outcome
+  ReportsNone : Outcome
+  Refuses : (fault : InputFault) → Outcome
+
+abbrev pub Allows : List ℕ → Outcome → Type 0
+Allows input (Reports report rows) = MeansPage input × IsFirstReport (Some report)
+Allows input ReportsNone = MeansPage input × IsFirstReport None
+Allows input (Refuses fault) = RefusesPage page_options input fault
+
+abbrev pub job_status : JobOutcome → ℕ
+job_status job.Delivered = 0
+job_status job.NotReceiver = 5
+job_status job.WidthLacking = 5
+job_status job.FineLacking = 5
+job_status job.RatesSpent = 5
+job_status job.NoAnswer = 5
+job_status job.NoReply = 5
+job_status job.PageRefused = 5
+job_status job.HungUp = 5
+
+abbrev pub status_of : Outcome → ℕ
+status_of (Reports report rows) = job_status report.outcome
+status_of ReportsNone = 5
+status_of (Refuses fault) = fault_status fault
+
+-- the line of the job, and of each row that was confirmed; or that of the fault
+abbrev pub IsTextOf : Outcome → List ℕ → Type 0
+IsTextOf (Reports report rows) text = (lines : List (List ℕ)) × TellRows lines rows × (text ≡ text_of_lines (job_line report ∷ lines))
+IsTextOf ReportsNone text = text ≡ []
+IsTextOf (Refuses fault) text = text ≡ fault_line fault
+
+-- the exit status and the text that a run may answer to an input
+pub record Answers (input : List ℕ) (status : ℕ) (text : List ℕ) : Type 0 where
+  pub outcome : Outcome
+  pub allowed : Allows input outcome
+  pub status_is : status ≡ status_of outcome
+  pub text_is : IsTextOf outcome text

@@ -1,0 +1,145 @@
+//! What is answered to an input.
+ghost use Rattle.std.specs.Prelude.{ℕ, ◌≡◌, List, false, OnOk, IfSome};
+ghost use Rattle.std.specs.Io.KnownBytes.{Appends};
+ghost use Rattle.fax_command.specs.RowLines.{TellRows, text_of_lines};
+ghost use Rattle.fax_command.specs.Statuses.{status_code};
+ghost use Rattle.fax_command.specs.Streams.{failed_after_write};
+ghost use Rattle.fax_loop.specs.Answers.{Answers, IsFirstReport, MeansPage};
+ghost use Rattle.fax_loop.specs.Kept.{IsAnswerText, rows_of, status_of_answer};
+
+use crate::exchange::{Ended, send_page};
+use crate::loop_error::LoopError;
+use fax_bits::NoMemory;
+use fax_command::{
+    InputFault, MEMORY_LINE, Output, PageOptions, Sink, Status, WriteFault, page_of_hex,
+    write_rows, write_text,
+};
+use fax_jobs::Outcome;
+use fax_pagestore::{Coding, Format, PackedRows, Page};
+use fax_runcodes::Width;
+use fax_trace::line_of_job;
+use std::alloc::Global;
+use std::net::Net;
+
+/// How the page is given: in rows of 1,728 elements, of the standard resolution, in one-dimensional lines.
+const GIVEN: PageOptions = PageOptions {
+    format: Format {
+        width: Width::W1728,
+        fine: false,
+    },
+    coding: Coding::Mh,
+    least_bits: 0,
+    output: Output::Runs,
+};
+
+/// The job was reported: how it ended, the line that tells it, and the pages that the called machine confirmed.
+#[derive(Drop)]
+pub(crate) struct Reported {
+    outcome: Outcome,
+    line: String,
+    confirmed: Vec<Page<PackedRows>>,
+}
+
+/// What a run answers.
+#[derive(Drop)]
+pub(crate) enum Answer {
+    Reported(Reported),
+    /// The job was not reported in time, or no more could be received.
+    Unreported,
+    /// The line of what is wrong with the input.
+    Fault(Vec<u8>),
+    NoMemory,
+}
+
+impl Answer {
+    /// Writes the text, and hands it on.
+    pub fn write<O: Sink>(&self, alloc: Global, sink: &mut O) -> Result<(), WriteFault>
+        ensures text { OnOk result ((text : List ℕ) × IsAnswerText self.now text × Appends (O.contents sink.old) (O.contents sink.new) text) }
+        ensures failed { O.failed sink.new ≡ failed_after_write (O.failed sink.old) result }
+        ensures handed_on { OnOk result (O.held_back sink.new ≡ false) }
+    {
+        match self {
+            Answer::Reported(reported) => {
+                sink.write_all(reported.line.as_bytes())?;
+                sink.write_all(b"\n")?;
+                write_pages(alloc, sink, reported.confirmed.as_slice())?;
+                sink.flush()?;
+                Ok(())
+            }
+            Answer::Unreported => sink.flush(),
+            Answer::Fault(line) => write_text(sink, line.as_slice()),
+            Answer::NoMemory => write_text(sink, MEMORY_LINE),
+        }
+    }
+
+    /// The exit status.
+    pub fn status(&self) -> Status
+        ensures { status_code result ≡ status_of_answer self.now }
+    {
+        match self {
+            Answer::Reported(reported) if reported.outcome == Outcome::Delivered => Status::Done,
+            Answer::Reported(_) | Answer::Unreported => Status::Undelivered,
+            Answer::Fault(_) => Status::Fault,
+            Answer::NoMemory => Status::NoMemory,
+        }
+    }
+}
+
+/// The answer to an input. `None`: a socket could not be made.
+pub(crate) fn answer_to<R: Net>(net: &R, alloc: Global, input: Vec<u8>) -> Option<Answer>
+    ensures { IfSome result (λ answer. (text : List ℕ) → IsAnswerText answer text → Answers input.items (status_of_answer answer) text) }
+{
+    match page_of_hex(alloc, input, GIVEN) {
+        Ok(page) => answer_to_page(net, alloc, page),
+        Err(InputFault::NoMemory) => Some(Answer::NoMemory),
+        Err(fault) => match fault.line(alloc) {
+            Ok(line) => Some(Answer::Fault(line)),
+            Err(NoMemory) => Some(Answer::NoMemory),
+        },
+    }
+}
+
+/// The answer to a page, which is sent.
+fn answer_to_page<R: Net>(net: &R, alloc: Global, page: Page<PackedRows>) -> Option<Answer>
+    ensures { IfSome result (λ answer. (input text : List ℕ) → MeansPage input → IsAnswerText answer text → Answers input (status_of_answer answer) text) }
+{
+    match send_page(net, alloc, page) {
+        Ok(ended) => Some(answer_of(alloc, ended)),
+        Err(LoopError::NoMemory) => Some(Answer::NoMemory),
+        Err(LoopError::Socket) => None,
+    }
+}
+
+/// The answer where a call ended so.
+fn answer_of(alloc: Global, ended: Ended) -> Answer
+    requires { IsFirstReport ended.report }
+    ensures { (input text : List ℕ) → MeansPage input → IsAnswerText result text → Answers input (status_of_answer result) text }
+{
+    let Some(report) = ended.report else {
+        return Answer::Unreported;
+    };
+    match line_of_job(alloc, &report) {
+        Ok(line) => Answer::Reported(Reported {
+            outcome: report.outcome,
+            line,
+            confirmed: ended.confirmed,
+        }),
+        Err(_) => Answer::NoMemory,
+    }
+}
+
+/// Writes the lines of the rows of pages.
+fn write_pages<O: Sink>(
+    alloc: Global,
+    sink: &mut O,
+    pages: &[Page<PackedRows>],
+) -> Result<(), WriteFault>
+    ensures text { OnOk result ((lines : List (List ℕ)) × TellRows lines (rows_of pages.now)
+        × Appends (O.contents sink.old) (O.contents sink.new) (text_of_lines lines)) }
+    ensures failed { O.failed sink.new ≡ failed_after_write (O.failed sink.old) result }
+{
+    for page in pages {
+        write_rows(alloc, sink, page.rows())?;
+    }
+    Ok(())
+}

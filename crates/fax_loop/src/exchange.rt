@@ -1,0 +1,125 @@
+//! A call from machine to machine, through a gateway.
+ghost use Rattle.std.specs.Prelude.{IfOk, OnOk};
+ghost use Rattle.fax_call.specs.Following.{IsJobOfCall};
+ghost use Rattle.fax_loop.specs.Answers.{IsFirstReport};
+ghost use Rattle.fax_loop.specs.Kept.{IsDriven};
+
+use crate::answering_machine::AnsweringMachine;
+use crate::calling_machine::CallingMachine;
+use crate::loop_error::LoopError;
+use crate::socket::socket_pair;
+use crate::udp_wire::UdpWire;
+use fax_gateway::{Driver, Gateway};
+use fax_jobs::{Job, Report};
+use fax_pagestore::{PackedRows, Page};
+use std::alloc::Global;
+use std::net::Net;
+
+/// The most rounds of a call.
+const MOST_ROUNDS: u32 = 5_000;
+
+/// From a round to the next, in milliseconds. No clock is read.
+const ROUND_MS: u64 = 40;
+
+/// The most datagrams that a machine hears in a round.
+pub(crate) const MOST_DATAGRAMS: u8 = 16;
+
+/// The most octets of a datagram of the gateway: a packet of 100 octets, three of those before it, and their lengths.
+pub(crate) const MOST_OCTETS: usize = 512;
+
+/// How a call ended: what the gateway reported, where it did, and the pages that the called machine confirmed.
+#[derive(Drop)]
+pub(crate) struct Ended {
+    pub report: Option<Report>,
+    pub confirmed: Vec<Page<PackedRows>>,
+}
+
+/// The machine that calls, the gateway, and the machine that is called, between sockets of the loopback interface.
+#[derive(Drop)]
+struct Exchange {
+    caller: CallingMachine,
+    gateway: Gateway<PackedRows>,
+    driver: Driver,
+    wire: UdpWire,
+    answerer: AnsweringMachine<PackedRows>,
+}
+
+/// Sends a page from machine to machine, in rounds, until the gateway reports the job.
+pub(crate) fn send_page<R: Net>(
+    net: &R,
+    alloc: Global,
+    page: Page<PackedRows>,
+) -> Result<Ended, LoopError>
+    ensures { IfOk result (λ ended. IsFirstReport ended.report) }
+{
+    let Ok(job) = Job::of_page(alloc, 0, page) else {
+        return Err(LoopError::NoMemory);
+    };
+    let mut exchange = Exchange::new(net, alloc, &job)?;
+    exchange.play(&job)?;
+    Ok(exchange.end())
+}
+
+impl Exchange {
+    /// The machines and the gateway, which rings at moment 0.
+    fn new<R: Net>(net: &R, alloc: Global, job: &Job<PackedRows>) -> Result<Self, LoopError>
+        ensures job { IfOk result (λ exchange. IsJobOfCall exchange.caller.caller.procedure job.now) }
+        ensures driven { IfOk result (λ exchange. IsDriven exchange.gateway exchange.driver) }
+    {
+        let (caller, calling) = socket_pair(net)?;
+        let (called, answerer) = socket_pair(net)?;
+        let mut gateway = Gateway::new(alloc)?;
+        gateway.ring(0)?;
+        let driver = Driver::new(alloc)?;
+        let wire = UdpWire::new(calling, called)?;
+        let caller = CallingMachine::new(alloc, caller, job)?;
+        let answerer = AnsweringMachine::new(alloc, answerer)?;
+        Ok(Exchange {
+            caller,
+            gateway,
+            driver,
+            wire,
+            answerer,
+        })
+    }
+
+    /// Plays rounds until the gateway has reported the job, its last 100 receives failed, or there were enough.
+    fn play(&mut self, job: &Job<PackedRows>) -> Result<(), LoopError>
+        requires job { IsJobOfCall self.old.caller.caller.procedure job.now }
+        requires driven { IsDriven self.old.gateway self.old.driver }
+        ensures { OnOk result (IsDriven self.new.gateway self.new.driver) }
+    {
+        for round in 0..MOST_ROUNDS {
+            let goes_on = self.round(job, ROUND_MS * u64::from(round))?;
+            if !goes_on || self.gateway.report(0).is_some() {
+                break;
+            }
+        }
+        Ok(())
+    }
+
+    /// A round: the machine that calls, the gateway's turn, and the machine that is called. It answers whether the gateway's
+    /// last 100 receives did not all fail.
+    fn round(&mut self, job: &Job<PackedRows>, now: u64) -> Result<bool, LoopError>
+        requires job { IsJobOfCall self.old.caller.caller.procedure job.now }
+        requires driven { IsDriven self.old.gateway self.old.driver }
+        ensures job { OnOk result (IsJobOfCall self.new.caller.caller.procedure job.now) }
+        ensures driven { OnOk result (IsDriven self.new.gateway self.new.driver) }
+    {
+        self.caller.round(job, now)?;
+        let goes_on = self.driver.turn(&mut self.gateway, &mut self.wire, now);
+        self.answerer.round(now)?;
+        Ok(goes_on)
+    }
+
+    /// How it ended.
+    fn end(self) -> Ended
+        requires { IsDriven self.gateway self.driver }
+        ensures { IsFirstReport result.report }
+    {
+        Ended {
+            report: self.gateway.report(0),
+            confirmed: self.answerer.into_confirmed(),
+        }
+    }
+}

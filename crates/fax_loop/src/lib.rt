@@ -1,0 +1,18 @@
+//! Datagrams over UDP: a wire of a gateway over two sockets, and a call through a gateway over sockets of the loopback
+//! interface, between two machines of our own: what `faxgate loop` answers.
+#![tactic(auto)]
+
+mod answer;
+mod answering_machine;
+mod calling_machine;
+mod exchange;
+mod link;
+mod loop_error;
+mod run;
+mod socket;
+#[cfg(test)]
+mod tests;
+mod udp_wire;
+
+pub use run::run_loop;
+pub use udp_wire::UdpWire;

@@ -1,0 +1,71 @@
+//! A wire of a gateway over UDP.
+ghost use Rattle.std.specs.Prelude.{◌≡◌, ◌+◌, min, IfOk};
+ghost use Rattle.fax_gateway.specs.Wires.{greatest_count};
+
+use crate::socket::receive;
+use fax_gateway::{Side, Wire, WireFault};
+use std::io;
+use std::net::UdpSocket;
+
+/// Two sockets, one for each leg of a gateway. Each is connected to the peer of its leg, and does not wait: where nothing
+/// has come, a receive says so at once.
+#[derive(Drop)]
+pub struct UdpWire {
+    calling: UdpSocket,
+    called: UdpSocket,
+    /// How many receives and sends failed.
+    failures: u64,
+}
+
+impl UdpWire {
+    /// A wire over the socket of the calling and that of the called leg, each of which is connected to its peer. They wait
+    /// no more. An `Err` is that of the system.
+    pub fn new(calling: UdpSocket, called: UdpSocket) -> io::Result<Self>
+        ensures { IfOk result (λ wire. wire.failures ≡ 0) }
+    {
+        calling.set_nonblocking(true)?;
+        called.set_nonblocking(true)?;
+        Ok(UdpWire {
+            calling,
+            called,
+            failures: 0,
+        })
+    }
+
+    /// The socket of a leg.
+    fn socket(&self, side: Side) -> &UdpSocket {
+        match side {
+            Side::Calling => &self.calling,
+            Side::Called => &self.called,
+        }
+    }
+
+    /// One more call failed.
+    fn fail(&mut self) -> WireFault
+        ensures { self.new.failures ≡ min (self.old.failures + 1) greatest_count }
+    {
+        self.failures = self.failures.saturating_add(1);
+        WireFault
+    }
+}
+
+/// What came and what was sent is not told of sockets.
+impl Wire for UdpWire {
+    ghost use Rattle.std.specs.Prelude.{None};
+
+    ghost known = { λ wire. record { failures = wire.failures; received = None; sent = None } };
+
+    fn receive(&mut self, side: Side, buffer: &mut [u8]) -> Result<Option<usize>, WireFault> {
+        match receive(self.socket(side), buffer) {
+            Ok(came) => Ok(came),
+            Err(_) => Err(self.fail()),
+        }
+    }
+
+    fn send(&mut self, side: Side, octets: &[u8]) -> Result<(), WireFault> {
+        match self.socket(side).send(octets) {
+            Ok(_) => Ok(()),
+            Err(_) => Err(self.fail()),
+        }
+    }
+}

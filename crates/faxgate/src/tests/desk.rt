@@ -1,0 +1,121 @@
+//! A runtime of memory.
+ghost use Rattle.std.specs.Prelude.{◌≡◌, ◌+◌, IfOk, string_len};
+ghost use Rattle.std.specs.Io.{WritesAtMost};
+
+use std::alloc::{Alloc, Allocator, Global};
+use std::cell::RefCell;
+use std::env::FillError;
+use std::fmt::Display;
+use std::io;
+use std::io::{BufRead, Eprint, ErrorKind, Input, Lines, Print};
+use std::rt::Env;
+
+/// A runtime that has the words of a command line and an input, and keeps what is printed, and what is told on the standard
+/// error.
+#[derive(Drop)]
+pub struct Desk<'a> {
+    alloc: Global,
+    words: &'a [&'a str],
+    input: &'a [u8],
+    printed: RefCell<Vec<u8>>,
+    told: RefCell<Vec<u8>>,
+}
+
+impl<'a> Desk<'a> {
+    pub fn new(alloc: Global, words: &'a [&'a str], input: &'a [u8]) -> Self {
+        Desk {
+            alloc,
+            words,
+            input,
+            printed: RefCell::new(Vec::new(alloc)),
+            told: RefCell::new(Vec::new(alloc)),
+        }
+    }
+
+    /// What was printed, and what was told.
+    pub fn into_texts(self) -> (Vec<u8>, Vec<u8>) {
+        let Desk { printed, told, .. } = self;
+        (printed.into_inner(), told.into_inner())
+    }
+}
+
+impl Alloc for Desk<'_> {
+    type A = Global;
+
+    fn alloc(&self) -> Global {
+        self.alloc
+    }
+}
+
+impl Print for Desk<'_> {
+    fn print<D: Display + Drop>(&self, value: D) -> io::Result<()> {
+        let text = format!(in self.alloc; "{value}")?;
+        append(&self.printed, text.as_bytes())
+    }
+
+    fn println<D: Display + Drop>(&self, value: D) -> io::Result<()> {
+        let text = format!(in self.alloc; "{value}\n")?;
+        append(&self.printed, text.as_bytes())
+    }
+
+    fn write_all(&self, octets: &[u8]) -> io::Result<()> {
+        append(&self.printed, octets)
+    }
+}
+
+impl Eprint for Desk<'_> {
+    fn eprint<D: Display + Drop>(&self, value: D) -> io::Result<()> {
+        let text = format!(in self.alloc; "{value}")?;
+        append(&self.told, text.as_bytes())
+    }
+
+    fn eprintln<D: Display + Drop>(&self, value: D) -> io::Result<()> {
+        let text = format!(in self.alloc; "{value}\n")?;
+        append(&self.told, text.as_bytes())
+    }
+}
+
+impl<'a> Input for Desk<'a> {
+    type Reader = &'a [u8];
+
+    fn read_line<A: Allocator + Clone>(&self, line: &mut String<A>) -> io::Result<usize> {
+        self.reader().read_line(line)
+    }
+
+    fn lines<A: Allocator>(&self, alloc: A) -> Lines<&'a [u8], A> {
+        self.reader().lines(alloc)
+    }
+
+    fn reader(&self) -> &'a [u8] {
+        self.input
+    }
+}
+
+impl Env for Desk<'_> {
+    fn arg(&self, i: usize, buffer: &mut [u8]) -> Result<usize, FillError> {
+        let Some(word) = self.words.get(i) else {
+            return Err(FillError::NotPresent);
+        };
+        let Some(front) = buffer.get_mut(..word.len()) else {
+            return Err(FillError::TooLong);
+        };
+        front.copy_from_slice(word.as_bytes());
+        Ok(word.len())
+    }
+
+    fn var(&self, _name: &str, _buffer: &mut [u8]) -> Result<usize, FillError> {
+        Err(FillError::NotPresent)
+    }
+
+    fn var_at(&self, _i: usize, _buffer: &mut [u8]) -> Result<usize, FillError> {
+        Err(FillError::NotPresent)
+    }
+}
+
+fn append(text: &RefCell<Vec<u8>>, octets: &[u8]) -> io::Result<()> {
+    let Ok(mut text) = text.try_borrow_mut() else {
+        return Err(io::Error::from(ErrorKind::ResourceBusy));
+    };
+    text.extend_from_slice(octets)?;
+    Ok(())
+}
