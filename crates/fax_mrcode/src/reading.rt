@@ -220,18 +220,6 @@ fn pass(
     })
 }
 
-/// The colour up to the changing place of an index: each change of the reference ends a stretch of it.
-#[inline]
-fn colour_to_b1(index: usize) -> Colour
-    ensures { result ≡ colour_after_changes index }
-{
-    if index % 2 == 0 {
-        Colour::White
-    } else {
-        Colour::Black
-    }
-}
-
 /// Vertical mode: a1 lies so far from b1, and a0 moves to it.
 #[inline]
 fn vertical(

@@ -10,6 +10,7 @@ mod alike;
 #[cfg(test)]
 mod tests;
 
+use crate::places::place_at;
 use crate::{Mode, Offset};
 use alike::places_alike;
 use fax_bits::{BitWriter, NoMemory, RoomyWriter};
@@ -54,7 +55,7 @@ fn put_steps(writer: &mut RoomyWriter, reference: &RowRef<'_>, row: &RowRef<'_>)
     requires room { 57 * (length row.now + 1) ≤ writer.old.room }
     ensures { (text : List Bool) × WritesLine reference.now row.now text × (writer.new.bits ≡ writer.old.bits ++ text) }
 {
-    let width = row.width() as u32;
+    let width = row.width();
     let (changes, above) = (row.changes(), reference.changes());
     // a0 + 1, and where a1 and b1 stand among the changing places
     let mut from = 0;
@@ -83,8 +84,9 @@ fn put_steps(writer: &mut RoomyWriter, reference: &RowRef<'_>, row: &RowRef<'_>)
         } else {
             let a2 = place_at(changes, index + 1, width);
             let (word, bits) = word_of(Mode::Horizontal);
-            let first = a1 - from.saturating_sub(1);
-            put_two_runs(writer, word, bits, colour_behind(index), first, a2 - a1);
+            let colour = Colour::after_changes(index);
+            let first = u32::from(a1 - from.saturating_sub(1));
+            put_two_runs(writer, word, bits, colour, first, u32::from(a2 - a1));
             from = a2 + 1;
             index += 2;
             index_above = over;
@@ -96,7 +98,7 @@ fn put_steps(writer: &mut RoomyWriter, reference: &RowRef<'_>, row: &RowRef<'_>)
 /// there and doesn't lie left of a place, and that changing place; the width stands for those past the
 /// last. Every other index changes to the same colour.
 #[inline]
-fn first_from(changes: &[u16], mut index: usize, from: u32, width: u32) -> (usize, u32)
+fn first_from(changes: &[u16], mut index: usize, from: u16, width: u16) -> (usize, u16)
     requires { from ≤ width }
     ensures later { index ≤ result.0 }
     ensures near { result.0 ≤ max index (length changes.now + 1) }
@@ -116,7 +118,7 @@ fn first_from(changes: &[u16], mut index: usize, from: u32, width: u32) -> (usiz
 /// From where on b1 is looked for behind a vertical mode: from the changing place before b1 on, where it
 /// lies right of a1, else from the one behind b1.
 #[inline]
-fn index_behind(above: &[u16], over: usize, a1: u32, width: u32) -> usize
+fn index_behind(above: &[u16], over: usize, a1: u16, width: u16) -> usize
     requires { over < 2 ^ 64 - 1 }
     ensures { (result ≡ over - 1) × (0 < over) × (a1 < slice_index_or above.now (over - 1) width)
         ⊎ (result ≡ over + 1) × ((over ≡ 0) ⊎ (slice_index_or above.now (over - 1) width ≤ a1)) }
@@ -128,39 +130,15 @@ fn index_behind(above: &[u16], over: usize, a1: u32, width: u32) -> usize
     }
 }
 
-/// The changing place of an index, or the width where there is none.
-#[inline]
-fn place_at(changes: &[u16], index: usize, width: u32) -> u32
-    ensures { result ≡ slice_index_or changes.now index width }
-{
-    if index < changes.len() {
-        changes[index] as u32
-    } else {
-        width
-    }
-}
-
-/// The colour behind so many changes, white first.
-#[inline]
-fn colour_behind(changes: usize) -> Colour
-    ensures { result ≡ colour_after_changes changes }
-{
-    if changes % 2 == 0 {
-        Colour::White
-    } else {
-        Colour::Black
-    }
-}
-
 /// How far a1 lies from b1, where it is no more than three elements.
 #[inline]
-fn offset_of(a1: u32, b1: u32) -> Option<Offset>
+fn offset_of(a1: u16, b1: u16) -> Option<Offset>
     requires a1 { a1 ≤ 2432 }
     requires b1 { b1 ≤ 2432 }
     ensures some { IfSome result (λ offset. IsAt offset a1 b1) }
     ensures none { IsNone result → (offset : Offset) → IsAt offset a1 b1 → ⊥ }
 {
-    match a1 as i32 - b1 as i32 {
+    match i32::from(a1) - i32::from(b1) {
         -3 => Some(Offset::Left3),
         -2 => Some(Offset::Left2),
         -1 => Some(Offset::Left1),

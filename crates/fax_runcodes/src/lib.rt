@@ -28,6 +28,7 @@ pub enum Colour {
 impl Colour {
     ghost use Rattle.std.specs.Prelude.{◌≡◌};
     ghost use Rattle.fax_runcodes.specs.Rows.{other};
+    ghost use Rattle.fax_runcodes.specs.Painted.{colour_after_changes};
 
     /// The other colour.
     #[inline]
@@ -37,6 +38,18 @@ impl Colour {
         match self {
             Colour::White => Colour::Black,
             Colour::Black => Colour::White,
+        }
+    }
+
+    /// The colour behind so many changes of colour, white first.
+    #[inline]
+    pub fn after_changes(changes: usize) -> Colour
+        ensures { result ≡ colour_after_changes changes }
+    {
+        if changes % 2 == 0 {
+            Colour::White
+        } else {
+            Colour::Black
         }
     }
 }

@@ -2,7 +2,7 @@
 ghost use Rattle.std.specs.Prelude.{◌≡◌, ℕ, List, IfNone, take, ◌+◌, ◌<◌, ◌≤◌, ◌^◌, ◌++◌, [], ◌⊎◌, length, replicate, drop, sum, All, slice_get, Some, IfOk, IfSome, IsSome, IsNone, IsTrue, ◌↔◌};
 ghost use Rattle.fax_runcodes.specs.Rows.{IsWidth, AreRunsOfRow};
 ghost use Rattle.fax_runcodes.specs.declared.Colour.TheVariants.{White, Black};
-ghost use Rattle.fax_runcodes.specs.Painted.{painted, changes_between, AreRising, colour_after_changes};
+ghost use Rattle.fax_runcodes.specs.Painted.{painted, changes_between, AreRising};
 
 mod painting;
 mod pixels;
@@ -104,7 +104,7 @@ impl Row {
         requires { i < length self.now }
         ensures { slice_get self.now i ≡ Some result }
     {
-        colour_behind(self.changes.as_slice().partition_point(|place| *place <= i))
+        Colour::after_changes(self.changes.as_slice().partition_point(|place| *place <= i))
     }
 
     /// An equal row.
@@ -276,7 +276,7 @@ impl RowBuilder {
         if n == 0 {
             return;
         }
-        if colour != colour_behind(self.changes.len()) {
+        if colour != Colour::after_changes(self.changes.len()) {
             self.changes.push_reserved(self.len);
         }
         self.len += n;
@@ -290,7 +290,7 @@ impl RowBuilder {
         requires room { length self.old + white + black ≤ 2432 }
         ensures { self.new ≡ (self.old ++ replicate white White) ++ replicate black Black }
     {
-        if colour_behind(self.changes.len()) == Colour::Black {
+        if Colour::after_changes(self.changes.len()) == Colour::Black {
             self.changes.push_reserved(self.len);
         }
         self.changes.push_reserved(self.len + white);
@@ -379,16 +379,4 @@ fn changes_of(alloc: Global, runs: &[u16]) -> Result<Vec<u16>, AllocError>
         changes.push_reserved(place);
     }
     Ok(changes)
-}
-
-/// The colour behind so many changes, white first.
-#[inline]
-fn colour_behind(changes: usize) -> Colour
-    ensures { result ≡ colour_after_changes changes }
-{
-    if changes % 2 == 0 {
-        Colour::White
-    } else {
-        Colour::Black
-    }
 }

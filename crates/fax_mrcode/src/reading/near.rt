@@ -10,12 +10,12 @@ ghost use Rattle.fax_mrcode.specs.declared.mode.Mode.{Mode};
 ghost use Rattle.fax_mrcode.specs.Modes.{mode_word};
 ghost use Rattle.fax_mrcode.specs.Starts.{IsBack, IsCursor, IsIndexOfB1, IsStartIn, Rests, TakesStep, TakesNear, StepsSoFar, left_of_a0, start_of};
 
+use super::Start;
 use super::ahead::{Ahead, ShortRuns, ones, past, short_runs};
 use super::verticals::{VerticalWord, vertical_word};
-use super::{Start, colour_to_b1};
 use crate::places::place_at;
 use fax_bits::BitReader;
-use fax_runcodes::RowBuilder;
+use fax_runcodes::{Colour, RowBuilder};
 
 /// How many bits the word of pass mode has (ITU-T T.4, table 4/T.4).
 const PASS_BITS: u32 = 4;
@@ -80,7 +80,7 @@ pub(super) fn read_near_steps(
     reader.skip(known - near.ahead.left);
     Start {
         from: near.from,
-        colour: colour_to_b1(near.index),
+        colour: Colour::after_changes(near.index),
         index: near.index,
     }
 }
@@ -248,7 +248,7 @@ fn near_horizontal(line: &mut RowBuilder, changes: &[u16], width: u16, near: Nea
         return None;
     }
     let behind = past(near.ahead, HORIZONTAL_BITS);
-    let Some(runs) = short_runs(behind, colour_to_b1(near.index)) else {
+    let Some(runs) = short_runs(behind, Colour::after_changes(near.index)) else {
         return None;
     };
     turn_at_runs(line, changes, width, near, runs)

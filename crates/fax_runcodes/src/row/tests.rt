@@ -140,6 +140,10 @@ fn numbers_colours_and_widths(rt: HostRuntime) -> Result<(), Fail> {
     assert_eq!(rt; RowFault::NoMemory.number(), 2);
     assert_eq!(rt; White.other(), Black);
     assert_eq!(rt; Black.other(), White);
+    for changes in [0, 2, 2431] {
+        let colour = if changes == 2431 { Black } else { White };
+        assert_eq!(rt; Colour::after_changes(changes), colour);
+    }
     let widths = [
         (Width::W1728, 1728),
         (Width::W2048, 2048),

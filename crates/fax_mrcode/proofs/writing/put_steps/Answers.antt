@@ -125,7 +125,7 @@ loop-from-preserved c =
     let at = ahead (goal.at.loop-from-preserved c).After-place_at-a1 c.place_at-b2.result c.place_at-b2.ensures in
     let second = IsSecond-from at c.width-width.ensures.len c.place_at-a2.ensures in
     record {
-      so_far = StepsSoFar-turned (StepsSoFar-horizontal at second c.if-b2-a1.false (c.in_default.ensures.none refl) (rw (c.word_of-word.ensures.bits, c.saturating_sub.ensures, c.colour_behind.ensures) at c.put_two_runs.ensures.bits));
+      so_far = StepsSoFar-turned (StepsSoFar-horizontal at second c.if-b2-a1.false (c.in_default.ensures.none refl) (rw (c.word_of-word.ensures.bits, c.from-first.ensures, c.from.ensures, c.saturating_sub.ensures, c.after_changes-colour.ensures) at c.put_two_runs.ensures.bits));
       room = omega (arith, c.loop-from.invariant.room, c.put_two_runs.ensures.room, at.a1_low, second.low, second.high, c.width-width.ensures.len);
     }
 

@@ -26,7 +26,7 @@ near_of c line (Some next) takes ahead =
     let word : FirstAre near.window near.left rest.left (mode_word Horizontal) =
     rw c.past-behind.ensures.left (FirstAre-word near.window near.left 3 (mode_word Horizontal) (word_bits 61 near.window) refl (omega arith) (horizontal_begins near.window c.requires.word)) in
     let end = c.in-Some.runs.ahead in
-    let (s, t, p, q, first) = rw c.colour_to_b1.ensures at c.in-Some.ensures.spelt in
+    let (s, t, p, q, first) = rw c.after_changes.ensures at c.in-Some.ensures.spelt in
     let behind = c.in-Some.ensures.behind in
     record {
       text = mode_word Horizontal ++ (s ++ t);

@@ -49,9 +49,9 @@ same_line c = elim c.loop-near-test.branch [
 ]
 
 pub returns-clause-next : goal.returns-clause-next
-returns-clause-next c = rw (same_line (goal.at.returns-clause-next c).After-skip, c.colour_to_b1.ensures) c.loop-near.invariant.is_start
+returns-clause-next c = rw (same_line (goal.at.returns-clause-next c).After-skip, c.after_changes.ensures) c.loop-near.invariant.is_start
 
 pub returns-clause-so_far : goal.returns-clause-so_far
 returns-clause-so_far c = λ old so_far. (
     let within : c.known-known.result - c.loop-near.near.ahead.left ≤ length c.args.reader.now.left = omega (arith, c.known-known.ensures) in
-    rw (same_line (goal.at.returns-clause-so_far c).After-skip, c.colour_to_b1.ensures, ← skipped c.args.reader.now c.skip.new.self (c.known-known.result - c.loop-near.near.ahead.left) within c.skip.ensures) (c.loop-near.invariant.so_far old so_far))
+    rw (same_line (goal.at.returns-clause-so_far c).After-skip, c.after_changes.ensures, ← skipped c.args.reader.now c.skip.new.self (c.known-known.result - c.loop-near.near.ahead.left) within c.skip.ensures) (c.loop-near.invariant.so_far old so_far))

@@ -18,4 +18,4 @@ returns c =
     let few : c.partition_point.result ≤ length c.self.inside.changes.items = omega (arith, ap length c.as_slice.ensures.value) in
     let colour : get_or (painted White 0 c.self.inside.changes.items c.self.inside.width) c.args.i White ≡ colour_after_changes c.partition_point.result =
     painted-count c.self.inside.changes.items c.self.inside.width c.args.i c.partition_point.result White c.self.invariant.0 within few point in
-    slice_get-get_or c.args.self.now c.args.i White c.requires ∙ ap Some (ap (λ es. get_or es c.args.i White) (sym c.self.view_is) ∙ colour ∙ sym c.colour_behind.ensures)
+    slice_get-get_or c.args.self.now c.args.i White c.requires ∙ ap Some (ap (λ es. get_or es c.args.i White) (sym c.self.view_is) ∙ colour ∙ sym c.after_changes.ensures)
