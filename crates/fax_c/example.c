@@ -15,7 +15,11 @@ static void must(bool holds, const char *what) {
 }
 
 static bool is_outcome(fax_outcome told, uint32_t status, uint32_t rows, size_t filled) {
-    return told.status == status && told.rows == rows && told.filled == filled;
+    return told.status == status && told.rows == rows && told.filled == filled && told.wanted == 0;
+}
+
+static bool wants(fax_outcome told, size_t wanted) {
+    return told.status == FAX_NO_ROOM && told.rows == 0 && told.filled == 0 && told.wanted == wanted;
 }
 
 int main(void) {
@@ -42,16 +46,17 @@ int main(void) {
 
     memset(pixels, 0x55, sizeof pixels);
     read = fax_read_pixels(text, written.filled, WIDTH, true, pixels, sizeof pixels - 1);
-    must(is_outcome(read, FAX_NO_ROOM, 0, 0), "want of room is not told");
+    must(wants(read, sizeof pixels), "want of room is not told");
     must(pixels[0] == 0x55 && pixels[sizeof pixels - 1] == 0x55, "a refusal changed the slice");
 
     must(is_outcome(fax_read_runs(NULL, 0, 1729, false, NULL, 0), FAX_NO_WIDTH, 0, 0), "the width is not told first");
     must(is_outcome(fax_read_runs(NULL, 0, WIDTH, false, NULL, 0), FAX_NO_EOL, 0, 0), "no octets are not told");
-    must(is_outcome(fax_read_pixels(text, written.filled, WIDTH, true, NULL, 0), FAX_NO_ROOM, 0, 0), "no room is not told");
+    must(wants(fax_read_pixels(text, written.filled, WIDTH, true, NULL, 0), sizeof pixels), "no room for pixels is not told");
+    must(wants(fax_read_runs(text, written.filled, WIDTH, true, NULL, 0), RUNS), "no room for runs is not told");
     must(is_outcome(fax_write_runs(NULL, 0, WIDTH, false, false, 0, NULL, 0), FAX_EMPTY, 0, 0), "no runs are not told");
     must(is_outcome(fax_write_runs(page, RUNS, WIDTH, true, false, 65536, text, sizeof text), FAX_LEAST_BITS, 0, 0),
          "too many least bits are not told");
-    must(is_outcome(fax_write_runs(page, RUNS, WIDTH, true, false, 0, NULL, 0), FAX_NO_ROOM, 0, 0), "no room is not told");
+    must(wants(fax_write_runs(page, RUNS, WIDTH, true, false, 96, NULL, 0), written.filled), "no room for octets is not told");
     must(is_outcome(fax_write_runs(page, RUNS - 1, WIDTH, true, false, 0, text, sizeof text), FAX_NO_RUNS, 2, 0),
          "a row that is cut short is not told");
     return 0;

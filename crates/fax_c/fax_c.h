@@ -45,8 +45,7 @@ enum {
     /* more than 20,000 rows */
     FAX_TOO_MANY_ROWS = 5,
     FAX_NO_MEMORY = 6,
-    /* The slice has less room than is wanted. How much is wanted is not told (`rows` and `filled` are 0): the
-       call may be made again with more room. */
+    /* the slice has less room than `wanted` says: with so much the call ends with FAX_DONE, memory aside */
     FAX_NO_ROOM = 7,
     /* the width is not 1728, 2048 or 2432 */
     FAX_NO_WIDTH = 8,
@@ -68,12 +67,15 @@ typedef struct {
     uint32_t rows;
     /* how many elements of the slice were filled, from its start */
     size_t filled;
+    /* with FAX_NO_ROOM how many elements the slice must have, and otherwise 0 */
+    size_t wanted;
 } fax_outcome;
 
 /* Reads the page that `count` octets mean, the most significant bit first, in rows of `width` elements; where
    `two_dimensional` its lines are in MR coding, with tags, and otherwise in MH. Puts the lengths of its runs,
    in elements, into `runs`: white first in each row (0, where the row begins with black), row after row.
-   Room: a row has width + 1 runs at most, so rows * (width + 1) elements are enough. */
+   Room: a row has width + 1 runs at most, so rows * (width + 1) elements are enough; a call with no room tells
+   how many the page has. */
 fax_outcome fax_read_runs(const uint8_t *octets, size_t count, uint16_t width, bool two_dimensional,
                           uint16_t *runs, size_t room);
 
@@ -86,7 +88,8 @@ fax_outcome fax_read_pixels(const uint8_t *octets, size_t count, uint16_t width,
 /* Writes the page whose rows have these run lengths, as fax_read_runs gives them: each row's sum is `width`,
    and none of its runs but the first is 0. Puts the text into `octets`. Where `two_dimensional` it is in MR
    coding, with T.4's parameter K of 4 where `fine` and of 2 otherwise. Each line has, with its fill and its
-   EOL, `least_bits` bits at least: 0 to FAX_MOST_LEAST_BITS. */
+   EOL, `least_bits` bits at least: 0 to FAX_MOST_LEAST_BITS.
+   Room: a call with no room tells how many octets the text has. */
 fax_outcome fax_write_runs(const uint16_t *runs, size_t count, uint16_t width, bool two_dimensional,
                            bool fine, uint32_t least_bits, uint8_t *octets, size_t room);
 

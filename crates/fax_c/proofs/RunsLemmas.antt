@@ -81,6 +81,11 @@ some_width W1728 = omega arith
 some_width W2048 = omega arith
 some_width W2432 = omega arith
 
+pub most_width : (width : Width) → elements_of width ≤ 2432
+most_width W1728 = omega arith
+most_width W2048 = omega arith
+most_width W2432 = omega arith
+
 one_length : (a b : List ℕ) (row : Elements) → 0 < length row → AreRuns a row → AreRuns b row → length a ≡ length b
 one_length a b row some are others = ap length (runs_one a b row some are others)
 

@@ -26,20 +26,16 @@ AreRunsOf runs (row ∷ rows) = (first rest : List ℕ) × (runs ≡ first ++ re
 abbrev pub pixels_of : List Elements → List Bool
 pixels_of rows = flat_map (map pixel) rows
 
--- the runs of the first rows need more than this room
-abbrev pub NeedsMore : List Elements → ℕ → Type 0
-NeedsMore rows room = (first more : List Elements) × (runs : List ℕ) × (rows ≡ first ++ more) × AreRunsOf runs first × (room < length runs)
-
--- ---- rows put into a slice, which is told as it was and as it is
+-- ---- rows put into a slice, which is told as it was and as it is, or the room that they want
 
 abbrev pub FillsRuns : List Elements → List ℕ → List ℕ → Result Filled Refusal → Type 0
 FillsRuns rows old new (Ok filled) = AreRunsOf (take filled.items new) rows × (filled.rows ≡ length rows)
-FillsRuns rows old new (Err Room) = NeedsMore rows (length old)
+FillsRuns rows old new (Err (Room n)) = (runs : List ℕ) × AreRunsOf runs rows × (length runs ≡ n) × (length old < n)
 FillsRuns rows old new (Err refusal) = ⊥
 
 abbrev pub FillsPixels : List Elements → List ℕ → List ℕ → Result Filled Refusal → Type 0
 FillsPixels rows old new (Ok filled) = IsPadded (take filled.items new) (pixels_of rows) × (filled.rows ≡ length rows)
-FillsPixels rows old new (Err Room) = (packed : List ℕ) × IsPadded packed (pixels_of rows) × (length old < length packed)
+FillsPixels rows old new (Err (Room n)) = (packed : List ℕ) × IsPadded packed (pixels_of rows) × (length packed ≡ n) × (length old < n)
 FillsPixels rows old new (Err refusal) = ⊥
 
 -- ---- reading
@@ -99,8 +95,8 @@ RefusesRuns width runs refusal = ⊥
 
 abbrev pub WritesRuns : ℕ → Coding → Bool → ℕ → List ℕ → List ℕ → List ℕ → Result Filled Refusal → Type 0
 WritesRuns width coding fine least runs old new (Ok filled) = AreWritten width coding fine least runs (take filled.items new) filled.rows
-WritesRuns width coding fine least runs old new (Err Room) = (octets : List ℕ) × (n : ℕ)
-    × AreWritten width coding fine least runs octets n × (length old < length octets)
+WritesRuns width coding fine least runs old new (Err (Room n)) = (octets : List ℕ) × (rows : ℕ)
+    × AreWritten width coding fine least runs octets rows × (length octets ≡ n) × (length old < n)
 WritesRuns width coding fine least runs old new (Err Width) = IsWidth width → ⊥
 WritesRuns width coding fine least runs old new (Err LeastBits) = most_least_bits < least
 WritesRuns width coding fine least runs old new (Err refusal) = RefusesRuns width runs refusal

@@ -17,6 +17,8 @@ pub struct Outcome {
     pub rows: u32,
     /// How many elements of the slice were filled, from its start: with a status other than 0, none.
     pub filled: usize,
+    /// With status 7, how many elements the slice wants; otherwise 0.
+    pub wanted: usize,
 }
 
 /// What was filled.
@@ -30,8 +32,8 @@ pub struct Filled {
 #[derive(Clone, Copy, PartialEq, Eq, Debug)]
 pub enum Refusal {
     Page(PageFault),
-    /// The slice has no room.
-    Room,
+    /// The slice has no room: it wants so many elements.
+    Room(usize),
     /// Rows are 1728, 2048 or 2432 elements wide.
     Width,
     /// Behind so many rows come no run lengths of a row.
@@ -73,9 +75,13 @@ impl Outcome {
                 status: 0,
                 rows,
                 filled: items,
+                wanted: 0,
             },
             Err(Refusal::Page(fault)) => Outcome::refused(u32::from(fault.number()), row_of(fault)),
-            Err(Refusal::Room) => Outcome::refused(7, 0),
+            Err(Refusal::Room(wanted)) => Outcome {
+                wanted,
+                ..Outcome::refused(7, 0)
+            },
             Err(Refusal::Width) => Outcome::refused(8, 0),
             Err(Refusal::Runs(rows)) => Outcome::refused(9, rows),
             Err(Refusal::LeastBits) => Outcome::refused(10, 0),
@@ -83,12 +89,13 @@ impl Outcome {
     }
 
     fn refused(status: u32, rows: u32) -> Self
-        ensures { result ≡ record { status = status; rows = rows; filled = 0 } }
+        ensures { result ≡ record { status = status; rows = rows; filled = 0; wanted = 0 } }
     {
         Outcome {
             status,
             rows,
             filled: 0,
+            wanted: 0,
         }
     }
 }

@@ -2,7 +2,7 @@
 ghost use Rattle.std.specs.Prelude.{◌≡◌, ◌++◌, ◌+◌, ◌≤◌, ◌<◌, List, [], ◌∷◌, ℕ, length, take, drop, true, false, Ok, Err, IfOk, IfErr, OnErr, IfSome, IfNone, IsNone};
 ghost use Rattle.fax_runcodes.specs.Rows.{Elements, IsWidth, AreRuns};
 ghost use Rattle.fax_pagestore.specs.PageTexts.{MeansRows};
-ghost use Rattle.fax_c.specs.Calls.{ReadsRuns, ReadsPixels, RefusesText, AreRunsOf, NeedsMore, FillsRuns, FillsPixels, coding_by};
+ghost use Rattle.fax_c.specs.Calls.{ReadsRuns, ReadsPixels, RefusesText, AreRunsOf, FillsRuns, FillsPixels, coding_by};
 
 use crate::page::{coding_of, width_of};
 use crate::{Filled, Refusal};
@@ -78,10 +78,11 @@ fn fill_runs<S: RowStore>(page: &Page<S>, runs: &mut [u16]) -> Result<Filled, Re
     ensures behind { IfOk result (λ filled. drop filled.items runs.new ≡ drop filled.items runs.old) }
     ensures untouched { OnErr result (runs.new ≡ runs.old) }
 {
-    let rows = page.rows();
-    if !have_room(rows, runs.len()) {
-        return Err(Refusal::Room);
+    let wanted = count_all_runs(page);
+    if wanted > runs.len() {
+        return Err(Refusal::Room(wanted));
     }
+    let rows = page.rows();
     let mut filled = 0;
     for i in 0..rows.len() {
         let row = rows.lend(i);
@@ -93,25 +94,22 @@ fn fill_runs<S: RowStore>(page: &Page<S>, runs: &mut [u16]) -> Result<Filled, Re
     })
 }
 
-/// Whether the runs of rows have room where there is so much.
-fn have_room<S: RowStore>(rows: &S, room: usize) -> bool
-    ensures room { result ≡ true → (list : List ℕ) × AreRunsOf list (S.rows rows.now) × (length list ≤ room) }
-    ensures none { result ≡ false → NeedsMore (S.rows rows.now) room }
+/// How many runs the rows of a page have.
+fn count_all_runs<S: RowStore>(page: &Page<S>) -> usize
+    ensures { (list : List ℕ) × AreRunsOf list page.now.rows × (length list ≡ result) }
 {
-    let mut left = room;
+    let rows = page.rows();
+    let mut total = 0;
     for i in 0..rows.len() {
-        let count = count_runs(&rows.lend(i));
-        if count > left {
-            return false;
-        }
-        left -= count;
+        total += count_runs(&rows.lend(i));
     }
-    true
+    total
 }
 
 /// How many runs a row has.
 fn count_runs(row: &RowRef<'_>) -> usize
-    ensures { (list : List ℕ) × AreRuns list row.now × (length list ≡ result) }
+    ensures runs { (list : List ℕ) × AreRuns list row.now × (length list ≡ result) }
+    ensures few { result ≤ length row.now + 1 }
 {
     row.changes().len() + 1
 }
@@ -142,8 +140,9 @@ fn fill_pixels<S: RowStore>(page: &Page<S>, pixels: &mut [u8]) -> Result<Filled,
 {
     let rows = page.rows();
     let octets = usize::from(page.format().width.elements() / 8);
-    if octets * rows.len() as usize > pixels.len() {
-        return Err(Refusal::Room);
+    let wanted = octets * rows.len() as usize;
+    if wanted > pixels.len() {
+        return Err(Refusal::Room(wanted));
     }
     let mut filled = 0;
     for i in 0..rows.len() {

@@ -23,10 +23,11 @@ const WIDE: [u8; 13] = [
     0x00, 0x10, 0x1d, 0x35, 0x00, 0x10, 0x01, 0x00, 0x10, 0x01, 0x00, 0x10, 0x01,
 ];
 
-/// Octets, a width, whether in two dimensions, the room for runs, and the status of reading them.
-const READ_FAULTS: &[(&[u8], u16, bool, usize, u32)] = &[
-    (&[0xff], 1728, false, 4, 1),
-    (&[0x00, 0x14, 0x3f], 1728, false, 4, 2),
+/// Octets, a width, whether in two dimensions, the room for runs, the status of reading them, and the room
+/// that is wanted.
+const READ_FAULTS: &[(&[u8], u16, bool, usize, u32, usize)] = &[
+    (&[0xff], 1728, false, 4, 1, 0),
+    (&[0x00, 0x14, 0x3f], 1728, false, 4, 2, 0),
     // the white row and no more
     (
         &[
@@ -36,32 +37,44 @@ const READ_FAULTS: &[(&[u8], u16, bool, usize, u32)] = &[
         false,
         4,
         3,
+        0,
     ),
-    (&WHITE, 1729, false, 4, 8),
-    (&TWO_ROWS, 1728, true, 3, 7),
+    (&WHITE, 1729, false, 4, 8, 0),
+    (&TWO_ROWS, 1728, true, 3, 7, 4),
+    (&TWO_ROWS, 1728, true, 0, 7, 4),
     // the width comes first
-    (&[], 1729, false, 0, 8),
+    (&[], 1729, false, 0, 8, 0),
 ];
 
-/// Runs, a width, the least bits of a line, the room for octets, the status of writing them, and the row
-/// that is wrong.
-const WRITE_FAULTS: &[(&[u16], u16, u32, usize, u32, u32)] = &[
-    (&[1728], 1728, 0, 12, 7, 0),
-    (&[], 1728, 0, 12, 4, 0),
-    (&[1728, 1727], 1728, 0, 12, 9, 1),
-    (&[5, 0, 1723], 1728, 0, 12, 9, 0),
-    (&[1729], 1728, 0, 12, 9, 0),
+/// Runs, a width, the least bits of a line, the room for octets, the status of writing them, the row that is
+/// wrong, and the room that is wanted.
+const WRITE_FAULTS: &[(&[u16], u16, u32, usize, u32, u32, usize)] = &[
+    (&[1728], 1728, 0, 12, 7, 0, 13),
+    (&[], 1728, 0, 12, 4, 0, 0),
+    (&[1728, 1727], 1728, 0, 12, 9, 1, 0),
+    (&[5, 0, 1723], 1728, 0, 12, 9, 0, 0),
+    (&[1729], 1728, 0, 12, 9, 0, 0),
     // the width comes first, and then the least bits
-    (&[], 1729, 65_536, 0, 8, 0),
-    (&[], 1728, 65_536, 0, 10, 0),
-    (&[], 1728, 65_535, 0, 4, 0),
+    (&[], 1729, 65_536, 0, 8, 0, 0),
+    (&[], 1728, 65_536, 0, 10, 0, 0),
+    (&[], 1728, 65_535, 0, 4, 0, 0),
 ];
 
-fn outcome(status: u32, rows: u32, filled: usize) -> Outcome {
+fn done(rows: u32, filled: usize) -> Outcome {
+    Outcome {
+        status: 0,
+        rows,
+        filled,
+        wanted: 0,
+    }
+}
+
+fn refused(status: u32, rows: u32, wanted: usize) -> Outcome {
     Outcome {
         status,
         rows,
-        filled,
+        filled: 0,
+        wanted,
     }
 }
 
@@ -69,13 +82,13 @@ fn outcome(status: u32, rows: u32, filled: usize) -> Outcome {
 fn runs_are_read(rt: HostRuntime) {
     let mut runs = [7u16; 8];
     let read = fax_read_runs(rt.alloc(), &WHITE, 1728, false, &mut runs);
-    assert!(rt; read == outcome(0, 1, 1));
+    assert!(rt; read == done(1, 1));
     assert!(rt; runs == [1728, 7, 7, 7, 7, 7, 7, 7]);
     let read = fax_read_runs(rt.alloc(), &TWO_ROWS, 1728, true, &mut runs);
-    assert!(rt; read == outcome(0, 2, 4));
+    assert!(rt; read == done(2, 4));
     assert!(rt; runs == [1728, 0, 3, 1725, 7, 7, 7, 7]);
     let read = fax_read_runs(rt.alloc(), &BLACK, 1728, false, &mut runs);
-    assert!(rt; read == outcome(0, 1, 2));
+    assert!(rt; read == done(1, 2));
     assert!(rt; runs[0] == 0);
     assert!(rt; runs[1] == 1728);
 }
@@ -84,13 +97,13 @@ fn runs_are_read(rt: HostRuntime) {
 fn pixels_are_read(rt: HostRuntime) {
     let mut pixels = [0x55u8; 512];
     let read = fax_read_pixels(rt.alloc(), &TWO_ROWS, 1728, true, &mut pixels);
-    assert!(rt; read == outcome(0, 2, 432));
+    assert!(rt; read == done(2, 432));
     for i in 0..432 {
         assert!(rt; pixels[i] == if i == 216 { 0xe0 } else { 0 });
     }
     assert!(rt; pixels[432] == 0x55);
     let read = fax_read_pixels(rt.alloc(), &BLACK, 1728, false, &mut pixels);
-    assert!(rt; read == outcome(0, 1, 216));
+    assert!(rt; read == done(1, 216));
     for i in 0..216 {
         assert!(rt; pixels[i] == 0xff);
     }
@@ -101,7 +114,7 @@ fn pixels_are_read(rt: HostRuntime) {
 fn pages_are_written(rt: HostRuntime) {
     let mut octets = [0u8; 64];
     let written = fax_write_runs(rt.alloc(), &[1728], 1728, false, false, 0, &mut octets);
-    assert!(rt; written == outcome(0, 1, 13));
+    assert!(rt; written == done(1, 13));
     assert!(rt; octets[..13] == WHITE[..]);
     let written = fax_write_runs(
         rt.alloc(),
@@ -112,22 +125,22 @@ fn pages_are_written(rt: HostRuntime) {
         0,
         &mut octets,
     );
-    assert!(rt; written == outcome(0, 2, 17));
+    assert!(rt; written == done(2, 17));
     assert!(rt; octets[..17] == TWO_ROWS[..]);
     let written = fax_write_runs(rt.alloc(), &[2432], 2432, false, true, 0, &mut octets);
-    assert!(rt; written == outcome(0, 1, 13));
+    assert!(rt; written == done(1, 13));
     assert!(rt; octets[..13] == WIDE[..]);
 }
 
 #[test]
 fn reading_tells_its_faults(rt: HostRuntime) {
     let mut runs = [7u16; 4];
-    for (octets, width, two_dimensional, room, status) in READ_FAULTS {
+    for (octets, width, two_dimensional, room, status, wanted) in READ_FAULTS {
         let Some(front) = runs.get_mut(..*room) else {
             rt.abort()
         };
         let read = fax_read_runs(rt.alloc(), octets, *width, *two_dimensional, front);
-        assert!(rt; read == outcome(*status, 0, 0));
+        assert!(rt; read == refused(*status, 0, *wanted));
         // no refusal changes the slice
         assert!(rt; runs == [7, 7, 7, 7]);
     }
@@ -136,12 +149,12 @@ fn reading_tells_its_faults(rt: HostRuntime) {
 #[test]
 fn writing_tells_its_faults(rt: HostRuntime) {
     let mut octets = [0u8; 12];
-    for (runs, width, least_bits, room, status, rows) in WRITE_FAULTS {
+    for (runs, width, least_bits, room, status, rows, wanted) in WRITE_FAULTS {
         let Some(front) = octets.get_mut(..*room) else {
             rt.abort()
         };
         let written = fax_write_runs(rt.alloc(), runs, *width, false, false, *least_bits, front);
-        assert!(rt; written == outcome(*status, *rows, 0));
+        assert!(rt; written == refused(*status, *rows, *wanted));
     }
 }
 
@@ -149,13 +162,13 @@ fn writing_tells_its_faults(rt: HostRuntime) {
 fn reading_pixels_tells_its_faults(rt: HostRuntime) {
     let mut pixels = [0x55u8; 431];
     let read = fax_read_pixels(rt.alloc(), &TWO_ROWS, 1728, true, &mut pixels);
-    assert!(rt; read == outcome(7, 0, 0));
+    assert!(rt; read == refused(7, 0, 432));
     for pixel in &pixels {
         assert!(rt; *pixel == 0x55);
     }
     let mut pixels = [0u8; 215];
     let read = fax_read_pixels(rt.alloc(), &WHITE, 1728, false, &mut pixels);
-    assert!(rt; read == outcome(7, 0, 0));
+    assert!(rt; read == refused(7, 0, 216));
     let read = fax_read_pixels(rt.alloc(), &[], 1728, false, &mut []);
-    assert!(rt; read == outcome(1, 0, 0));
+    assert!(rt; read == refused(1, 0, 0));
 }

@@ -45,7 +45,7 @@ pub fn write_runs(
     let page = Page::new(Format { width, fine }, rows);
     let text = write_page(alloc, &page, coding_of(two_dimensional), least_bits)?;
     let Some(filled) = put(octets, 0, text.as_slice()) else {
-        return Err(Refusal::Room);
+        return Err(Refusal::Room(text.as_slice().len()));
     };
     Ok(Filled {
         rows: count,

@@ -1,6 +1,7 @@
-use Rattle.std.proofs.Common.{◌≡◌, ℕ, List, Bool, ◌+◌, ◌-◌, ◌*◌, ◌≤◌, ◌<◌, ◌∷◌, [], ◌++◌, length, take, drop, map, sym, ap, ◌∙◌, arith, add-one, All, subst, length-append, refl}
+use Rattle.std.proofs.Common.{◌≡◌, ℕ, List, Bool, ◌+◌, ◌-◌, ◌*◌, ◌≤◌, ◌<◌, ◌∷◌, [], ◌++◌, length, take, drop, map, sym, ap, ◌∙◌, arith, add-one, All, subst, length-append, refl, replicate, false}
 use Rattle.std.proofs.Math.Nat.{mul-suc}
 use borrow.Rule.Slice.PartMut.{put_mid, same_len_mid}
+use Rattle.std.proofs.lemmas.List.{length-replicate}
 use Rattle.std.proofs.lemmas.Slice.{take-put_mid, drop-put_mid}
 use Rattle.fax_bits.specs.Bits.{bits_of}
 use Rattle.fax_bits.proofs.BitsLemmas.{bits_of-nil, bits_of-append, length-bits_of}
@@ -15,8 +16,8 @@ use Rattle.fax_c.proofs.reading.fill_pixels.Goals as goal
 pub loop-i-init : goal.loop-i-init
 loop-i-init g c = record { bits = bits_of-nil; filled = grind arith; same = refl; behind = refl }
 
-pub returns-then-octets-len-clause-puts : goal.returns-then-octets-len-clause-puts
-returns-then-octets-len-clause-puts g c =
+pub returns-then-wanted-pixels-clause-puts : goal.returns-then-wanted-pixels-clause-puts
+returns-then-wanted-pixels-clause-puts g c =
     let rows = c.args.page.now.rows in
     let width = c.args.page.now.format.width in
     let octets = c.from-octets.result in
@@ -27,8 +28,9 @@ returns-then-octets-len-clause-puts g c =
     let all : length (pixels_of rows) ≡ 8 * (octets * length rows) = pixels_length octets rows each in
     let packed = bits_are_packed (pixels_of rows) in
     let size : length (bits_of packed.0) ≡ 8 * length packed.0 = length-bits_of packed.0 in
-    let bits : length (pixels_of rows) ≤ length (bits_of packed.0) = omega (arith, simp length-append at (ap length packed.1.2)) in
-    (packed.0, packed.1, omega (arith, c.if-octets-len.true))
+    let zeros : ℕ = packed.1.0 in
+    let bits : length (bits_of packed.0) ≡ length (pixels_of rows) + zeros = ap length packed.1.2 ∙ length-append (pixels_of rows) (replicate zeros false) ∙ ap (λ (n : ℕ). length (pixels_of rows) + n) (length-replicate zeros false) in
+    (packed.0, packed.1, omega (arith, packed.1.1), c.if-wanted-pixels.true)
 
 octets_fit : (pixels initial : List ℕ) (octets filled i n : ℕ) → octets * n ≤ length initial → length pixels ≡ length initial → filled ≡ octets * i → i < n → filled + octets ≤ length pixels
 octets_fit pixels initial octets filled i n room same is before = omega (arith, step_within octets i n before)
@@ -41,7 +43,7 @@ put_pixels-requires g c =
     let so_far = c.loop-i.invariant in
     let eight : elements_of width ≡ 8 * octets = octets_of_width width c.elements.result octets c.from-octets.ensures (c.elements.ensures ∙ ap (λ f. elements_of f.width) c.format.ensures) in
     let wide : length c.lend.result ≡ elements_of width = row_width rows c.loop-i.i c.lend.result (elements_of width) c.rows-rows.ensures.are_rows.each (rw c.rows-rows.ensures.same at c.lend.ensures) in
-    let fit : c.loop-i.filled + octets ≤ length c.loop-i.pixels = octets_fit c.loop-i.pixels c.args.pixels.now octets c.loop-i.filled c.loop-i.i c.len.result c.if-octets-len.false so_far.same so_far.filled (omega (arith, c.len.ensures, c.len-i-end.ensures, c.loop-i-test.true)) in
+    let fit : c.loop-i.filled + octets ≤ length c.loop-i.pixels = octets_fit c.loop-i.pixels c.args.pixels.now octets c.loop-i.filled c.loop-i.i c.len.result c.if-wanted-pixels.false so_far.same so_far.filled (omega (arith, c.len.ensures, c.len-i-end.ensures, c.loop-i-test.true)) in
     let part = part_length c.loop-i.pixels c.loop-i.filled octets fit in
     wide ∙ eight ∙ ap (λ (n : ℕ). 8 * n) (sym part)
 
@@ -66,7 +68,7 @@ loop-i-preserved g c =
     let so_far = c.loop-i.invariant in
     let next : take (i + 1) rows ≡ take i rows ++ c.lend.result ∷ [] = take_more_at rows i c.lend.result (rw c.rows-rows.ensures.same at c.lend.ensures) in
     let k : ℕ = filled + octets - filled in
-    let fit : filled + octets ≤ length pixels = octets_fit pixels c.args.pixels.now octets filled i c.len.result c.if-octets-len.false so_far.same so_far.filled (omega (arith, c.len.ensures, c.len-i-end.ensures, c.loop-i-test.true)) in
+    let fit : filled + octets ≤ length pixels = octets_fit pixels c.args.pixels.now octets filled i c.len.result c.if-wanted-pixels.false so_far.same so_far.filled (omega (arith, c.len.ensures, c.len-i-end.ensures, c.loop-i-test.true)) in
     let part : length (take k (drop filled pixels)) ≡ octets = part_length pixels filled octets fit in
     let size : length new ≡ octets = c.put_pixels.ensures.same_room ∙ part in
     record {

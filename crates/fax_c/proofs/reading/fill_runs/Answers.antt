@@ -10,11 +10,11 @@ put_row-filled-requires-clause-room g c =
     let row = c.lend-row.result in
     let so_far = c.loop-i.invariant in
     let same = c.rows-rows.ensures.same in
-    let (all, are_all, room) = c.if-not-have_room.ensures.room refl in
-    let (mine, are, size) = c.count_runs.ensures in
+    let (all, are_all, total) = c.count_all_runs-wanted.ensures in
+    let (mine, are, size) = c.count_runs.ensures.runs in
     let fit : c.loop-i.filled + length mine ≤ length c.loop-i.runs =
     row_fits rows c.loop-i.i row (elements_of width) all mine c.loop-i.runs c.loop-i.filled (some_width width) c.rows-rows.ensures.are_rows.each
-    (rw same at are_all) so_far.runs (rw same at c.lend-row.ensures) are so_far.filled (omega (arith, room, so_far.same)) in
+    are_all so_far.runs (rw same at c.lend-row.ensures) are so_far.filled (omega (arith, total, c.if-wanted-runs.false, so_far.same)) in
     omega (arith, fit, size)
 
 pub loop-i-preserved : goal.loop-i-preserved
