@@ -10,6 +10,8 @@ fn clocks_never_go_back(rt: HostRuntime) {
         (30, 40),
         (40, 40),
         (41, 41),
+        (100, 100),
+        (40, 100),
         (u64::MAX, u64::MAX),
         (7, u64::MAX),
     ] {
@@ -38,6 +40,9 @@ fn timers_fall_due(rt: HostRuntime) {
     timer.set(10_000, T1_MS);
     assert!(rt; !timer.due(44_999));
     assert!(rt; timer.due(45_000));
+    timer.set(10, 5);
+    assert!(rt; !timer.due(14));
+    assert!(rt; timer.due(15));
     timer.clear();
     assert!(rt; !timer.due(u64::MAX));
 }
@@ -45,9 +50,11 @@ fn timers_fall_due(rt: HostRuntime) {
 #[test]
 fn moments_stop_at_the_last_one(rt: HostRuntime) {
     let mut timer = Timer::new();
-    timer.set(u64::MAX - 5, 6000);
-    assert!(rt; !timer.due(u64::MAX - 1));
-    assert!(rt; timer.due(u64::MAX));
+    for (now, ms) in [(u64::MAX - 5, 6000), (u64::MAX - 1, 5)] {
+        timer.set(now, ms);
+        assert!(rt; !timer.due(u64::MAX - 1));
+        assert!(rt; timer.due(u64::MAX));
+    }
     timer.set(0, 0);
     assert!(rt; timer.due(0));
 }
