@@ -9,7 +9,7 @@ use Rattle.fax_ifp.specs.Elements.{Element, Missing, Signal, element_of, element
 use Rattle.fax_ifp.specs.declared.fault.IfpFault.{IfpFault}
 use Rattle.fax_ifp.specs.declared.fault.IfpFault.TheVariants as faults
 use Rattle.fax_ifp.specs.Pieces.{Image}
-use Rattle.fax_ifp.specs.Hearing.{images_in}
+use Rattle.fax_ifp.specs.Inside.Hearing.{images_in}
 
 -- the octets of a field, none where they are not present
 pub octets_or_none : (octets : Option (Bor (List ℕ))) (none : Bor (List ℕ)) → none.now ≡ [] → (unwrap_or octets none).now ≡ unwrap_or (octets_in octets) []

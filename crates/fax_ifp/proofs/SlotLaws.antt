@@ -3,7 +3,7 @@ use Rattle.std.proofs.Common.{◌≡◌, ℕ, zero, suc, ◌<◌, Bool, true, fa
 use Rattle.std.specs.List.{list_any, list_all}
 use Rattle.std.proofs.lemmas.List.{append-nil}
 use Rattle.fax_ifp.specs.Elements.{Slot, Element, Missing, elements, elements_of, elements_in}
-use Rattle.fax_ifp.specs.Hearing.{spoilt}
+use Rattle.fax_ifp.specs.Inside.Hearing.{spoilt}
 use Rattle.fax_ifp.specs.Pieces.{Piece, Gap, Image, Since, is_training, kind_of_training, is_image_end, is_image_octets, is_image_part, since_indicator, image_since, with_later, pieces, pieces_of, pieces_at}
 use Rattle.fax_ifp.specs.SignalLaws.{PiecesGoOn, LostSlotsAreGaps, ExtensionsSayNothing, TrackedIsUnique}
 use Rattle.fax_ifp.specs.Tracked.{Tracked, IsTracked, lost_slots}

@@ -8,7 +8,7 @@ use Rattle.std.specs.Option.{ForSome}
 use Rattle.fax_ifp.specs.declared.packet.Field.{Field}
 use Rattle.fax_ifp.specs.Packets.{FieldText}
 use Rattle.fax_ifp.specs.Seen.{text_of, texts_of}
-use Rattle.fax_ifp.specs.Waiting.{waiting, added}
+use Rattle.fax_ifp.specs.Inside.Halves.{half_behind, added}
 use Rattle.fax_ifp.specs.PacketLaws.{IndicatorsHaveOneOctet, FramesHaveSixMore, ImagesHaveFiveMore}
 use Rattle.fax_ifp.specs.WrittenPackets.{four_bits, counted, written_behind, written_fields, IsWritableField}
 
@@ -29,7 +29,7 @@ rest_is : (fields : List Field) (i : ℕ) → i < length fields → texts_of (dr
 rest_is fields i h = ap texts_of (drop-cons fields i (record { what = 0; octets = None }) h) ∙ rw add-one refl
 
 -- a field adds its octets, and the others stand behind it
-written_one : (half : Option ℕ) (field : FieldText) (rest : List FieldText) → written_behind half (field ∷ rest) ≡ added half field ++ written_behind (waiting half field) rest
+written_one : (half : Option ℕ) (field : FieldText) (rest : List FieldText) → written_behind half (field ∷ rest) ≡ added half field ++ written_behind (half_behind half field) rest
 unfolding written_behind
 written_one (Some bits) field rest = refl
 written_one None field rest = by (is_some field.octets) (16 * four_bits field ∷ counted field.octets)
@@ -40,7 +40,7 @@ written_one None field rest = by (is_some field.octets) (16 * four_bits field �
 
 pub written_step : (half : Option ℕ) (fields : List Field) (i : ℕ) → i < length fields →
     written_behind half (texts_of (drop i fields))
-    ≡ added half (text_of (field_of_index fields i)) ++ written_behind (waiting half (text_of (field_of_index fields i))) (texts_of (drop (i + 1) fields))
+    ≡ added half (text_of (field_of_index fields i)) ++ written_behind (half_behind half (text_of (field_of_index fields i))) (texts_of (drop (i + 1) fields))
 written_step half fields i h = ap (written_behind half) (rest_is fields i h) ∙ written_one half (text_of (field_of_index fields i)) (texts_of (drop (i + 1) fields))
 
 no_rest : (fields : List Field) (i : ℕ) → length fields ≤ i → texts_of (drop i fields) ≡ []
@@ -59,11 +59,11 @@ written_none (Some bits) = refl
 pub written_end : (half : Option ℕ) (fields : List Field) (i : ℕ) → length fields ≤ i → written_behind half (texts_of (drop i fields)) ≡ last_octet half
 written_end half fields i h = ap (written_behind half) (no_rest fields i h) ∙ written_none half
 
-pub waiting-bits : (half : Option ℕ) (field : FieldText) → IsWritableField field → ForSome (waiting half field) (λ bits. bits ≤ 7)
-waiting-bits (Some bits) field w = λ x e. cc
-waiting-bits None field w = by (is_some field.octets)
+pub half-few : (half : Option ℕ) (field : FieldText) → IsWritableField field → ForSome (half_behind half field) (λ half. half ≤ 7)
+half-few (Some bits) field w = λ x e. cc
+half-few None field w = by (is_some field.octets)
   where
-    by : (b : Bool) → ForSome (if◌then◌else◌ {A = Option ℕ} b None (Some field.what)) (λ bits. bits ≤ 7)
+    by : (b : Bool) → ForSome (if◌then◌else◌ {A = Option ℕ} b None (Some field.what)) (λ half. half ≤ 7)
     by true = λ x e. cc
     by false = λ x e. let same : x ≡ field.what = cc in omega (arith, w.what)
 

@@ -1,10 +1,9 @@
 pub mod CodeLaws
 pub mod Codes
-pub mod Content
 pub mod Elements
 pub mod FaultNumbers
-pub mod Hearing
 pub mod ImageOctets
+pub mod Inside
 pub mod PacketLaws
 pub mod Packets
 pub mod Pieces
@@ -12,5 +11,4 @@ pub mod Seen
 pub mod Shown
 pub mod SignalLaws
 pub mod Tracked
-pub mod Waiting
 pub mod WrittenPackets

@@ -1,7 +1,7 @@
 //! Packets that are read.
 ghost use Rattle.std.specs.Prelude.{ℕ, List, ◌≡◌, ◌≢◌, ◌<◌, ◌≤◌, IfOk, IfErr, OnOk};
 ghost use Rattle.fax_bits.specs.Bits.{bit};
-ghost use Rattle.fax_ifp.specs.Content.{seen_octets, seen_field};
+ghost use Rattle.fax_ifp.specs.Inside.Content.{seen_octets, seen_field};
 ghost use Rattle.fax_ifp.specs.Packets.{FieldText, octets_at, field_of, field_at, fields_at, fields_behind, packet_of, HasNinthField};
 ghost use Rattle.fax_ifp.specs.Seen.{texts_of, head_of, fields_in};
 
@@ -75,7 +75,7 @@ impl<'a> Model for Ifp<'a> {
 
     ghost Value = { Packet };
 
-    ghost use Rattle.fax_ifp.specs.Content.{packet_in};
+    ghost use Rattle.fax_ifp.specs.Inside.Content.{packet_in};
 
     ghost view = { λ p. packet_in p.content };
 }

@@ -6,7 +6,7 @@ ghost use Rattle.fax_ifp.specs.Seen.{text_of, texts_of};
 ghost use Rattle.fax_ifp.specs.Elements.{Missing, Signal, Field as FieldElement, element_of, elements_in, elements_of};
 ghost use Rattle.fax_ifp.specs.Pieces.{Gap, end_before, kind_of_training as kind_shown};
 ghost use Rattle.fax_ifp.specs.Tracked.{IsTracked, Tracks, Gives, lost_slots, TracksRun, GivesRun, HasFewFields, TakesNoMemory};
-ghost use Rattle.fax_ifp.specs.Hearing.{Hears, images_in, spoilt};
+ghost use Rattle.fax_ifp.specs.Inside.Hearing.{Hears, images_in, spoilt};
 ghost use Rattle.fax_ifp.specs.Shown.{slot_of, pieces_shown};
 
 use crate::frame::FrameSoFar;

@@ -3,7 +3,7 @@ ghost use Rattle.std.specs.Prelude.{ℕ, ◌≡◌, ◌+◌, ◌*◌, ◌≤◌,
 ghost use Rattle.std.specs.Option.{ForSome};
 ghost use Rattle.fax_ifp.specs.Packets.{FieldText};
 ghost use Rattle.fax_ifp.specs.Seen.{text_of, texts_of};
-ghost use Rattle.fax_ifp.specs.Waiting.{added, waiting};
+ghost use Rattle.fax_ifp.specs.Inside.Halves.{added, half_behind};
 ghost use Rattle.fax_ifp.specs.WrittenPackets.{counted, written_behind, written_fields, written_indicator, written_message, IsWritableField, IsWritable, frame_fields, image_fields};
 
 use crate::codes::{DataType, FieldType};
@@ -173,15 +173,15 @@ fn push_fields(octets: &mut Vec<u8>, fields: &[Field<'_>])
         push_field(octets, half, field);
         half = half_behind(half, field);
     }
-    if let Some(bits) = half {
-        octets.push_reserved(16 * bits);
+    if let Some(half) = half {
+        octets.push_reserved(16 * half);
     }
 }
 
-/// The four bits that wait behind a field for the other half of their octet, where some waited before it
-/// or not.
+/// The half octet that is left behind a field, where one was left before it or not: its other half is the
+/// next field's.
 fn half_behind(half: Option<u8>, field: &Field<'_>) -> Option<u8>
-    ensures { result ≡ waiting half (text_of field.now) }
+    ensures { result ≡ half_behind half (text_of field.now) }
 {
     match (half, field.octets) {
         (None, None) => Some(field.what),
@@ -204,20 +204,20 @@ fn length_behind(half: Option<u8>, field: &Field<'_>) -> usize
 /// Adds the octets of a field, for which there is room.
 fn push_field(octets: &mut Vec<u8>, half: Option<u8>, field: &Field<'_>)
     requires field { IsWritableField (text_of field.now) }
-    requires half { ForSome half (λ bits. bits ≤ 7) }
+    requires half { ForSome half (λ half. half ≤ 7) }
     requires room { vec_len octets.old + length (added half (text_of field.now)) ≤ vec_capacity octets.old }
     ensures items { octets.new.items ≡ octets.old.items ++ added half (text_of field.now) }
     ensures capacity { vec_capacity octets.new ≡ vec_capacity octets.old }
 {
     match (half, field.octets) {
         (None, None) => {}
-        (Some(bits), None) => octets.push_reserved(16 * bits + field.what),
+        (Some(half), None) => octets.push_reserved(16 * half + field.what),
         (None, Some(own)) => {
             octets.push_reserved(16 * (8 + field.what));
             push_counted(octets, own);
         }
-        (Some(bits), Some(own)) => {
-            octets.push_reserved(16 * bits + 8 + field.what);
+        (Some(half), Some(own)) => {
+            octets.push_reserved(16 * half + 8 + field.what);
             push_counted(octets, own);
         }
     }

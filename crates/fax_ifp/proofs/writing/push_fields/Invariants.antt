@@ -6,7 +6,7 @@ use Rattle.fax_ifp.proofs.writing.push_fields.Given as goal
 
 abbrev pub invariant-loop-field : goal.invariant-loop-field
 invariant-loop-field l = record {
-  bits : ForSome l.half (λ bits. bits ≤ 7);
+  few : ForSome l.half (λ half. half ≤ 7);
   room : vec_capacity l.octets ≡ vec_capacity l.initial.octets;
   text : l.octets.items ++ written_behind l.half (texts_of (drop l.field-index l.fields)) ≡ l.initial.octets.items ++ written_fields (texts_of l.fields);
 }

@@ -1,7 +1,7 @@
 use Rattle.std.proofs.Common.{◌≡◌, ◌++◌, ℕ, List, take, arith, subst, None}
 use Rattle.std.proofs.lemmas.List.{take_all}
 use Rattle.fax_ifp.specs.declared.packet.Field.{Field}
-use Rattle.fax_ifp.specs.Hearing.{HasGiven}
+use Rattle.fax_ifp.specs.Inside.Hearing.{HasGiven}
 use Rattle.fax_ifp.specs.Shown.{pieces_shown}
 use Rattle.fax_ifp.proofs.SignalsLemmas.{heard_of, heard_of-take}
 use Rattle.fax_ifp.proofs.signals.Signals.fields.Goals as goal

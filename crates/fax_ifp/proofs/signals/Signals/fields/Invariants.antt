@@ -2,7 +2,7 @@ use Rattle.std.proofs.Common.{◌+◌, ◌≤◌, List, ◌++◌, length, take}
 use Rattle.smallvec.specs.SmallVec.{small_vec_len}
 use Rattle.fax_ifp.specs.Elements.{Element}
 use Rattle.fax_ifp.specs.Pieces.{Piece}
-use Rattle.fax_ifp.specs.Hearing.{HasGiven, images_in}
+use Rattle.fax_ifp.specs.Inside.Hearing.{HasGiven, images_in}
 use Rattle.fax_ifp.specs.Shown.{pieces_shown}
 use Rattle.fax_ifp.proofs.SignalsLemmas.{heard_of}
 use Rattle.fax_ifp.proofs.signals.Signals.fields.Given as goal

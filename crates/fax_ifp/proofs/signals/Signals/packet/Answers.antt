@@ -5,7 +5,7 @@ use Rattle.fax_ifp.specs.declared.fault.IfpFault.TheVariants as faults
 use Rattle.fax_ifp.specs.Packets.{Packet, packet_of}
 use Rattle.fax_ifp.specs.Elements.{Element, elements_in}
 use Rattle.fax_ifp.specs.Pieces.{Piece}
-use Rattle.fax_ifp.specs.Hearing.{HasGiven}
+use Rattle.fax_ifp.specs.Inside.Hearing.{HasGiven}
 use Rattle.fax_ifp.specs.Shown.{pieces_shown}
 use Rattle.fax_ifp.proofs.signals.Signals.packet.Goals as goal
 

@@ -4,7 +4,7 @@ use Rattle.std.proofs.lemmas.Result.{on_ok_weaker}
 use Rattle.fax_ifp.specs.Elements.{Slot, elements}
 use Rattle.fax_ifp.specs.Pieces.{pieces}
 use Rattle.fax_ifp.specs.Tracked.{IsTracked}
-use Rattle.fax_ifp.specs.Hearing.{HasGiven}
+use Rattle.fax_ifp.specs.Inside.Hearing.{HasGiven}
 use Rattle.fax_ifp.specs.Shown.{pieces_shown}
 use Rattle.fax_ifp.proofs.signals.Signals.slot_into.Goals as goal
 use Rattle.fax_ifp.proofs.signals.Signals.slot_into.Goals.{After-take}

@@ -1,4 +1,4 @@
--- How a packet that was read is kept, and the packet that it is. No public clause cites this module.
+-- How a packet that was read is kept, and the packet that it is.
 use Rattle.std.specs.Prelude.{ℕ, List, Result, Ok, Err}
 use Rattle.std.specs.Borrow.{Bor}
 use Rattle.fax_ifp.specs.declared.fault.IfpFault.{IfpFault}

@@ -1,0 +1,4 @@
+-- Definitions that serve the inside: no public clause cites them.
+pub mod Content
+pub mod Halves
+pub mod Hearing
