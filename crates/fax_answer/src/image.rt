@@ -171,6 +171,7 @@ impl Image {
     {
         let begin = self.marks.begin;
         if begin > 0 {
+            // What is drained is not wanted any more.
             let _ = self.octets.drain(..begin);
             self.marks.end -= begin;
             self.marks.begin = 0;

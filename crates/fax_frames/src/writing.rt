@@ -69,6 +69,7 @@ fn frame_of_octets(octets: &[u8]) -> FrameBytes
     ensures { result.items ≡ octets.now }
 {
     let mut frame = FrameBytes::new();
+    // At most 256 octets have room.
     let _ = frame.try_extend_from_slice(octets);
     frame
 }

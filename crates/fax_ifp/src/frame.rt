@@ -43,6 +43,7 @@ impl FrameSoFar {
             return FrameSoFar { octets: None };
         };
         let mut copy = FrameBytes::new();
+        // As many octets as there were have room.
         let _ = copy.try_extend_from_slice(octets.as_slice());
         FrameSoFar { octets: Some(copy) }
     }
