@@ -63,6 +63,25 @@ const MANY_FIELDS: Slot<'static> = Slot::Packet(&[
     0, 6, 0xe0, 0, 0, 7, 0xe0, 0, 0, 8, 0xe0, 0, 0, 9, 0x70,
 ]);
 
+/// Four to seven fields of an octet each, and the end.
+const FIVE_FIELDS: Slot<'static> = Slot::Packet(&[
+    0xc2, 0x05, 0xe0, 0, 0, 1, 0xe0, 0, 0, 2, 0xe0, 0, 0, 3, 0xe0, 0, 0, 4, 0x70,
+]);
+
+const SIX_FIELDS: Slot<'static> = Slot::Packet(&[
+    0xc2, 0x06, 0xe0, 0, 0, 1, 0xe0, 0, 0, 2, 0xe0, 0, 0, 3, 0xe0, 0, 0, 4, 0xe0, 0, 0, 5, 0x70,
+]);
+
+const SEVEN_FIELDS: Slot<'static> = Slot::Packet(&[
+    0xc2, 0x07, 0xe0, 0, 0, 1, 0xe0, 0, 0, 2, 0xe0, 0, 0, 3, 0xe0, 0, 0, 4, 0xe0, 0, 0, 5, 0xe0, 0,
+    0, 6, 0x70,
+]);
+
+const EIGHT_FIELDS: Slot<'static> = Slot::Packet(&[
+    0xc2, 0x08, 0xe0, 0, 0, 1, 0xe0, 0, 0, 2, 0xe0, 0, 0, 3, 0xe0, 0, 0, 4, 0xe0, 0, 0, 5, 0xe0, 0,
+    0, 6, 0xe0, 0, 0, 7, 0x70,
+]);
+
 /// A frame whose check sequence is right, and the same where it is wrong, both with the signal's end.
 const FRAME: Slot<'static> = Slot::Packet(&[0xc0, 0x02, 0x80, 0x00, 0x02, 0xff, 0xc8, 0x21, 0x40]);
 
@@ -122,7 +141,7 @@ fn expect(
 }
 
 /// Images, whole.
-const CUT_IMAGES: [Case; 9] = [
+const CUT_IMAGES: [Case; 13] = [
     (
         &[TRAINING, WHOLE_PAGE],
         &[Told::Start(1), Told::Octets(PAGE), Told::End(true)],
@@ -168,6 +187,57 @@ const CUT_IMAGES: [Case; 9] = [
     (
         &[MORE, TRAINING, LAST_PART, MORE, PREAMBLE],
         &[Told::Start(1), Told::Octets(&[0xdd]), Told::End(true)],
+    ),
+    // in five to eight fields
+    (
+        &[TRAINING, FIVE_FIELDS],
+        &[
+            Told::Start(1),
+            Told::Octets(&[1]),
+            Told::Octets(&[2]),
+            Told::Octets(&[3]),
+            Told::Octets(&[4]),
+            Told::End(true),
+        ],
+    ),
+    (
+        &[TRAINING, SIX_FIELDS],
+        &[
+            Told::Start(1),
+            Told::Octets(&[1]),
+            Told::Octets(&[2]),
+            Told::Octets(&[3]),
+            Told::Octets(&[4]),
+            Told::Octets(&[5]),
+            Told::End(true),
+        ],
+    ),
+    (
+        &[TRAINING, SEVEN_FIELDS],
+        &[
+            Told::Start(1),
+            Told::Octets(&[1]),
+            Told::Octets(&[2]),
+            Told::Octets(&[3]),
+            Told::Octets(&[4]),
+            Told::Octets(&[5]),
+            Told::Octets(&[6]),
+            Told::End(true),
+        ],
+    ),
+    (
+        &[TRAINING, EIGHT_FIELDS],
+        &[
+            Told::Start(1),
+            Told::Octets(&[1]),
+            Told::Octets(&[2]),
+            Told::Octets(&[3]),
+            Told::Octets(&[4]),
+            Told::Octets(&[5]),
+            Told::Octets(&[6]),
+            Told::Octets(&[7]),
+            Told::End(true),
+        ],
     ),
     // in ten fields
     (
