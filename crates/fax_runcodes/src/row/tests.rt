@@ -7,7 +7,7 @@ use std::process::Abort;
 use std::test::Fail;
 
 /// Runs of a row, and the colours of its first and last elements.
-const ROWS: [(&[u16], Colour, Colour); 9] = [
+const ROWS: &[(&[u16], Colour, Colour)] = &[
     (&[1728], White, White),
     (&[0, 1728], Black, Black),
     (&[4, 1, 1723], White, White),
@@ -20,7 +20,7 @@ const ROWS: [(&[u16], Colour, Colour); 9] = [
 ];
 
 /// Runs of no row.
-const REFUSED: [&[u16]; 8] = [
+const REFUSED: &[&[u16]] = &[
     &[],
     &[1000],
     &[0],
@@ -32,7 +32,7 @@ const REFUSED: [&[u16]; 8] = [
 ];
 
 /// What is painted behind one another, how many elements that makes, and the runs of their row, if any.
-const PAINTED: [(&[(Colour, u16)], u16, &[u16]); 3] = [
+const PAINTED: &[(&[(Colour, u16)], u16, &[u16])] = &[
     (&[(White, 0), (Black, 0)], 0, &[]),
     (
         &[
@@ -53,7 +53,7 @@ const PAINTED: [(&[(Colour, u16)], u16, &[u16]); 3] = [
 ];
 
 /// Run lengths, a width, and those in front that are the row of the width, if any.
-const IN_FRONT: [(&[u16], Width, &[u16]); 6] = [
+const IN_FRONT: &[(&[u16], Width, &[u16])] = &[
     (&[0, 3, 1725, 1728, 5, 0, 1723], Width::W1728, &[0, 3, 1725]),
     (&[1728, 5, 0, 1723], Width::W1728, &[1728]),
     (&[5, 0, 1723], Width::W1728, &[]),
@@ -64,21 +64,21 @@ const IN_FRONT: [(&[u16], Width, &[u16]); 6] = [
 
 /// Fails unless a row has such runs.
 fn expect_runs(rt: &impl Abort, row: &Row, runs: &[u16]) -> Result<(), NoMemory> {
-    assert_eq!(rt; row.runs()?.as_slice(), runs);
+    assert!(rt; row.runs()?.as_slice() == runs);
     Ok(())
 }
 
 /// Fails unless a row begins and ends with these colours.
 fn expect_ends(rt: &impl Abort, row: &Row, first: Colour, last: Colour) {
     assert!(rt; row.width() > 0);
-    assert_eq!(rt; row.colour_at(0), first);
-    assert_eq!(rt; row.colour_at(row.width() - 1), last);
+    assert!(rt; row.colour_at(0) == first);
+    assert!(rt; row.colour_at(row.width() - 1) == last);
 }
 
 /// Fails unless a row has the colour at a place.
 fn expect_colour(rt: &impl Abort, row: &Row, place: u16, colour: Colour) {
     assert!(rt; place < row.width());
-    assert_eq!(rt; row.colour_at(place), colour, "at {place}");
+    assert!(rt; row.colour_at(place) == colour, "at {place}");
 }
 
 /// Adds elements of a colour, and fails where there are too many.
@@ -102,13 +102,30 @@ fn row_of(rt: &impl Abort, builder: &RowBuilder) -> Result<Row, NoMemory> {
     builder.row()
 }
 
+/// Fails unless the row so far puts these runs into a slice with so much room, which has nines before.
+fn expect_put(
+    rt: &impl Abort,
+    builder: &RowBuilder,
+    room: usize,
+    count: Option<usize>,
+    wanted: [u16; 8],
+) {
+    assert!(rt; is_width(builder.len()));
+    let mut runs = [9; 8];
+    let Some(front) = runs.get_mut(..room) else {
+        rt.abort()
+    };
+    assert!(rt; builder.lend().put_runs(front) == count);
+    assert!(rt; runs == wanted);
+}
+
 #[test]
 fn makes_a_row_of_runs_and_gives_them_back(rt: HostRuntime) -> Result<(), Fail> {
     for (runs, first, last) in ROWS {
         let row = Row::from_runs(rt.alloc(), runs)?;
         expect_runs(&rt, &row, runs)?;
         expect_runs(&rt, &row.copy()?, runs)?;
-        expect_ends(&rt, &row, first, last);
+        expect_ends(&rt, &row, *first, *last);
     }
     Ok(())
 }
@@ -117,7 +134,7 @@ fn makes_a_row_of_runs_and_gives_them_back(rt: HostRuntime) -> Result<(), Fail> 
 fn refuses_runs_that_are_no_rows(rt: HostRuntime) -> Result<(), Fail> {
     for runs in REFUSED {
         let fault = Row::from_runs(rt.alloc(), runs).err();
-        assert_eq!(rt; fault, Some(RowFault::BadRuns));
+        assert!(rt; fault == Some(RowFault::BadRuns), "at {runs:?}");
     }
     Ok(())
 }
@@ -125,24 +142,24 @@ fn refuses_runs_that_are_no_rows(rt: HostRuntime) -> Result<(), Fail> {
 #[test]
 fn gives_places_and_colours(rt: HostRuntime) -> Result<(), Fail> {
     let row = Row::from_runs(rt.alloc(), &[4, 1, 1723])?;
-    assert_eq!(rt; row.changes(), [4, 5].as_slice());
+    assert!(rt; row.changes() == [4, 5].as_slice());
     expect_colour(&rt, &row, 3, White);
     expect_colour(&rt, &row, 4, Black);
     expect_colour(&rt, &row, 5, White);
     let black = Row::from_runs(rt.alloc(), &[0, 1728])?;
-    assert_eq!(rt; black.changes(), [0].as_slice());
+    assert!(rt; black.changes() == [0].as_slice());
     Ok(())
 }
 
 #[test]
 fn numbers_colours_and_widths(rt: HostRuntime) -> Result<(), Fail> {
-    assert_eq!(rt; RowFault::BadRuns.number(), 1);
-    assert_eq!(rt; RowFault::NoMemory.number(), 2);
-    assert_eq!(rt; White.other(), Black);
-    assert_eq!(rt; Black.other(), White);
+    assert!(rt; RowFault::BadRuns.number() == 1);
+    assert!(rt; RowFault::NoMemory.number() == 2);
+    assert!(rt; White.other() == Black);
+    assert!(rt; Black.other() == White);
     for changes in [0, 2, 2431] {
         let colour = if changes == 2431 { Black } else { White };
-        assert_eq!(rt; Colour::after_changes(changes), colour);
+        assert!(rt; Colour::after_changes(changes) == colour);
     }
     let widths = [
         (Width::W1728, 1728),
@@ -150,7 +167,7 @@ fn numbers_colours_and_widths(rt: HostRuntime) -> Result<(), Fail> {
         (Width::W2432, 2432),
     ];
     for (width, elements) in widths {
-        assert_eq!(rt; width.elements(), elements);
+        assert!(rt; width.elements() == elements);
     }
     Ok(())
 }
@@ -160,13 +177,13 @@ fn builds_rows(rt: HostRuntime) -> Result<(), Fail> {
     let mut builder = RowBuilder::new(rt.alloc())?;
     for (painted, len, runs) in PAINTED {
         builder.clear();
-        for (colour, n) in painted {
+        for (colour, n) in *painted {
             paint(&rt, &mut builder, *colour, *n);
         }
-        assert_eq!(rt; builder.len(), len, "at {runs:?}");
-        if len > 0 {
+        assert!(rt; builder.len() == *len, "at {runs:?}");
+        if *len > 0 {
             let row = row_of(&rt, &builder)?;
-            assert_eq!(rt; row.width(), len, "at {runs:?}");
+            assert!(rt; row.width() == *len, "at {runs:?}");
             expect_runs(&rt, &row, runs)?;
         }
     }
@@ -181,22 +198,14 @@ fn paints_pairs_and_puts_runs(rt: HostRuntime) -> Result<(), Fail> {
     paint_pair(&rt, &mut builder, 2, 10);
     paint(&rt, &mut builder, White, 1000);
     paint_pair(&rt, &mut builder, 700, 7);
-    let row = row_of(&rt, &builder)?;
-    let mut runs = [9; 8];
-    assert_eq!(rt; row.lend().put_runs(&mut runs[..5]), None);
-    assert_eq!(rt; runs, [9; 8]);
-    assert_eq!(rt; row.lend().put_runs(&mut runs), Some(8));
-    assert_eq!(rt; runs, [0, 3, 5, 1, 2, 10, 1700, 7]);
+    expect_put(&rt, &builder, 5, None, [9; 8]);
+    expect_put(&rt, &builder, 8, Some(8), [0, 3, 5, 1, 2, 10, 1700, 7]);
     builder.clear();
     paint(&rt, &mut builder, White, 2432);
-    let row = row_of(&rt, &builder)?;
-    assert_eq!(rt; row.lend().put_runs(&mut runs), Some(1));
-    assert_eq!(rt; runs, [2432, 3, 5, 1, 2, 10, 1700, 7]);
+    expect_put(&rt, &builder, 8, Some(1), [2432, 9, 9, 9, 9, 9, 9, 9]);
     builder.clear();
     paint_pair(&rt, &mut builder, 2, 2046);
-    let row = row_of(&rt, &builder)?;
-    assert_eq!(rt; row.lend().put_runs(&mut runs), Some(2));
-    assert_eq!(rt; runs, [2, 2046, 5, 1, 2, 10, 1700, 7]);
+    expect_put(&rt, &builder, 3, Some(2), [2, 2046, 9, 9, 9, 9, 9, 9]);
     Ok(())
 }
 
@@ -208,15 +217,13 @@ fn turns_elements(rt: HostRuntime) -> Result<(), Fail> {
     builder.turn(0);
     builder.turn(3);
     builder.turn_at_all(&[5, 7, 8]);
-    assert_eq!(rt; builder.len(), 9);
+    assert!(rt; builder.len() == 9);
     builder.shorten(8);
-    assert_eq!(rt; builder.len(), 8);
+    assert!(rt; builder.len() == 8);
     builder.paint(White, 1720);
-    let mut runs = [9; 8];
-    assert_eq!(rt; builder.lend().put_runs(&mut runs), Some(5));
-    assert_eq!(rt; runs, [0, 3, 2, 2, 1721, 9, 9, 9]);
+    expect_put(&rt, &builder, 8, Some(5), [0, 3, 2, 2, 1721, 9, 9, 9]);
     builder.shorten(0);
-    assert_eq!(rt; builder.len(), 0);
+    assert!(rt; builder.len() == 0);
     Ok(())
 }
 
@@ -225,13 +232,13 @@ fn paints_the_row_in_front(rt: HostRuntime) -> Result<(), Fail> {
     let mut builder = RowBuilder::new(rt.alloc())?;
     builder.paint(Black, 3);
     for (runs, width, wanted) in IN_FRONT {
-        let count = builder.paint_row(runs, width);
+        let count = builder.paint_row(runs, *width);
         if wanted.is_empty() {
-            assert_eq!(rt; count, None, "at {runs:?}");
-            assert_eq!(rt; builder.len(), 0, "at {runs:?}");
+            assert!(rt; count.is_none(), "at {runs:?}");
+            assert!(rt; builder.len() == 0, "at {runs:?}");
         } else {
-            assert_eq!(rt; count, Some(wanted.len()), "at {runs:?}");
-            assert_eq!(rt; builder.len(), width.elements(), "at {runs:?}");
+            assert!(rt; count == Some(wanted.len()), "at {runs:?}");
+            assert!(rt; builder.len() == width.elements(), "at {runs:?}");
             expect_runs(&rt, &row_of(&rt, &builder)?, wanted)?;
         }
     }
@@ -252,12 +259,12 @@ fn puts_pixels(rt: HostRuntime) -> Result<(), Fail> {
     wanted[5] = 0xff;
     wanted[6] = 0xff;
     wanted[215] = 0x01;
-    assert_eq!(rt; octets, wanted);
+    assert!(rt; octets == wanted);
     let row = Row::from_runs(rt.alloc(), &[0, 1720, 8])?;
     row.lend().put_pixels(&mut octets);
     let mut wanted = [0xffu8; 216];
     wanted[215] = 0;
-    assert_eq!(rt; octets, wanted);
+    assert!(rt; octets == wanted);
     Ok(())
 }
 
@@ -265,8 +272,8 @@ fn puts_pixels(rt: HostRuntime) -> Result<(), Fail> {
 fn lends_rows(rt: HostRuntime) -> Result<(), Fail> {
     let row = Row::from_runs(rt.alloc(), &[3, 5, 2040])?;
     let lent = row.lend();
-    assert_eq!(rt; lent.width(), 2048);
-    assert_eq!(rt; lent.changes(), [3, 8].as_slice());
+    assert!(rt; lent.width() == 2048);
+    assert!(rt; lent.changes() == [3, 8].as_slice());
     expect_runs(&rt, &lent.to_row(rt.alloc())?, &[3, 5, 2040])?;
     let again = RowRef::from_changes(lent.changes(), lent.width());
     expect_runs(&rt, &again.to_row(rt.alloc())?, &[3, 5, 2040])?;

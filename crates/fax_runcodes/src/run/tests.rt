@@ -19,7 +19,7 @@ fn octets_of(alloc: Global, digits: &str) -> Result<Octets, NoMemory> {
 }
 
 /// Runs, and the digits of their words.
-const WRITTEN: [(Colour, u16, &str); 12] = [
+const WRITTEN: &[(Colour, u16, &str)] = &[
     (White, 0, "00110101"),
     (White, 2, "0111"),
     (White, 63, "00110100"),
@@ -35,7 +35,7 @@ const WRITTEN: [(Colour, u16, &str); 12] = [
 ];
 
 /// Digits, and the run that begins them or why none does.
-const READ: [(Colour, &str, Result<u16, RunFault>); 10] = [
+const READ: &[(Colour, &str, Result<u16, RunFault>)] = &[
     (White, "01001101100110101", Ok(1728)),
     // 1728, 704 and 0
     (White, "01001101101100110000110101", Ok(2432)),
@@ -64,16 +64,16 @@ fn expect_written(
     assert!(rt; run <= LONGEST_WRITTEN_RUN);
     let mut writer = BitWriter::new(alloc);
     write_run(&mut writer, colour, run)?;
-    assert_eq!(rt; writer.bits(), digits.len() as u128, "at {run}");
+    assert!(rt; writer.bits() == digits.len() as u128, "at {run}");
     let want = octets_of(alloc, digits)?;
-    assert_eq!(rt; writer.finish().as_slice(), want.as_slice(), "at {run}");
+    assert!(rt; writer.finish().as_slice() == want.as_slice(), "at {run}");
     Ok(())
 }
 
 #[test]
 fn writes_the_words_of_the_tables(rt: HostRuntime) -> Result<(), Fail> {
     for (colour, run, digits) in WRITTEN {
-        expect_written(&rt, rt.alloc(), colour, run, digits)?;
+        expect_written(&rt, rt.alloc(), *colour, *run, digits)?;
     }
     Ok(())
 }
@@ -83,7 +83,7 @@ fn reads_a_run_or_says_why_not(rt: HostRuntime) -> Result<(), Fail> {
     for (colour, digits, want) in READ {
         let octets = octets_of(rt.alloc(), digits)?;
         let mut reader = BitReader::new(octets.as_slice());
-        assert_eq!(rt; read_run(&mut reader, colour), want, "at {digits}");
+        assert!(rt; read_run(&mut reader, *colour) == *want, "at {digits}");
     }
     Ok(())
 }
@@ -98,7 +98,7 @@ fn reads_each_run_that_is_written(rt: HostRuntime) -> Result<(), Fail> {
         let octets = writer.finish();
         let mut reader = BitReader::new(octets.as_slice());
         for run in 0..=2432 {
-            assert_eq!(rt; read_run(&mut reader, colour), Ok(run));
+            assert!(rt; read_run(&mut reader, colour) == Ok(run));
         }
         assert!(rt; reader.left() < 8);
     }
