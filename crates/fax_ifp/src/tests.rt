@@ -12,6 +12,7 @@ use crate::{
 };
 use fax_bits::{NoMemory, Octets};
 use std::alloc::Global;
+use std::process::Abort;
 use std::test::Fail;
 
 /// The packet of data of a kind with fields.
@@ -37,6 +38,9 @@ const MOST: [Field<'static>; 127] = [Field {
     octets: None,
 }; 127];
 
+/// The packet of a frame of three octets.
+const FRAME_PACKET: &[u8] = &[0xc0, 0x02, 0x80, 0x00, 0x02, 0xff, 0xc8, 0x21, 0x40];
+
 /// The packet of a page of one white row, which ends its signal.
 const PAGE_PACKET: &[u8] = &[
     0xc2, 0x01, 0xf0, 0x00, 0x0c, 0x00, 0x14, 0xd9, 0xa8, 0x00, 0x80, 0x08, 0x00, 0x80, 0x08, 0x00,
@@ -53,7 +57,7 @@ const LAST_CHECK_PACKET: &[u8] = &[
     0xc2, 0x01, 0xf0, 0x00, 0x05, 0x00, 0x00, 0x00, 0x00, 0x00, 0x00,
 ];
 
-const WORKED: [Worked; 13] = [
+const WORKED: &[Worked] = &[
     Worked {
         octets: &[0x40],
         kind: 0,
@@ -82,7 +86,7 @@ const WORKED: [Worked; 13] = [
         }],
     },
     Worked {
-        octets: &[0xc0, 0x02, 0x80, 0x00, 0x02, 0xff, 0xc8, 0x21, 0x40],
+        octets: FRAME_PACKET,
         kind: 0,
         fields: &[
             Field {
@@ -205,7 +209,7 @@ const WORKED: [Worked; 13] = [
 ];
 
 /// The octets of images in data of kind 1, whether they end the signal, and their packets.
-const IMAGES: [(bool, &[u8], &[u8]); 3] = [
+const IMAGES: &[(bool, &[u8], &[u8])] = &[
     (
         true,
         &[
@@ -218,7 +222,7 @@ const IMAGES: [(bool, &[u8], &[u8]); 3] = [
 ];
 
 /// Octets that are no packet, and why.
-const REFUSED: [(&[u8], IfpFault); 18] = [
+const REFUSED: &[(&[u8], IfpFault)] = &[
     (&[], IfpFault::Short),
     (&[0xc0, 0x03, 0x24], IfpFault::Short),
     (&[0xe0], IfpFault::Extension),
@@ -241,7 +245,7 @@ const REFUSED: [(&[u8], IfpFault); 18] = [
 ];
 
 /// The faults by their numbers.
-const FAULTS: [(IfpFault, u8); 5] = [
+const FAULTS: &[(IfpFault, u8)] = &[
     (IfpFault::Short, 1),
     (IfpFault::Extension, 2),
     (IfpFault::BadValue, 3),
@@ -250,7 +254,7 @@ const FAULTS: [(IfpFault, u8); 5] = [
 ];
 
 /// Octets that are read, and never written so, with the packet and how many fields it has.
-const READ_ONLY: [(&[u8], Head, usize); 9] = [
+const READ_ONLY: &[(&[u8], Head, usize)] = &[
     // An indicator with no fields, with a field of either kind, and with an octet behind it.
     (&[0x86, 0x00], Head::Indicator(3), 0),
     (&[0x86, 0x01, 0x20], Head::Indicator(3), 0),
@@ -266,7 +270,7 @@ const READ_ONLY: [(&[u8], Head, usize); 9] = [
 ];
 
 /// Packets of two calls between two terminals of spandsp 0.0.6.
-const SENT: [&[u8]; 13] = [
+const SENT: &[&[u8]] = &[
     &[0x00],
     &[0x02],
     &[0x04],
@@ -323,34 +327,37 @@ fn is_writable_field(field: &Field<'_>) -> bool
     field.what <= 7 && few
 }
 
+/// Reads what is left of octets that are cut short, which does not fail whatever it answers.
+fn read_fronts(alloc: Global, octets: &[u8]) {
+    for end in 0..octets.len() {
+        let _ = Ifp::read(alloc, &octets[..end]);
+    }
+}
+
 #[test]
 fn worked_packets_are_read_and_written(rt: HostRuntime) -> Result<(), Fail> {
-    for packet in &WORKED {
+    for packet in WORKED {
         let read = Ifp::read(rt.alloc(), packet.octets)?;
-        assert_eq!(rt; read.head(), Head::Message { kind: packet.kind });
-        assert_eq!(rt; read.fields(), packet.fields);
+        assert!(rt; read.head() == Head::Message { kind: packet.kind });
+        assert!(rt; read.fields() == packet.fields);
         assert!(rt; is_writable(packet.kind, packet.fields));
-        assert_eq!(rt; data_length(packet.fields), packet.octets.len());
+        assert!(rt; data_length(packet.fields) == packet.octets.len());
         let written = write_data(rt.alloc(), packet.kind, packet.fields)?;
-        assert_eq!(rt; written.as_slice(), packet.octets);
-        for end in 0..packet.octets.len() {
-            let _ = Ifp::read(rt.alloc(), &packet.octets[..end]);
-        }
+        assert!(rt; written.as_slice() == packet.octets);
+        read_fronts(rt.alloc(), packet.octets);
     }
     Ok(())
 }
 
 #[test]
 fn refused_packets_are_told(rt: HostRuntime) -> Result<(), Fail> {
-    for (octets, fault) in &REFUSED {
+    for (octets, fault) in REFUSED {
         assert_eq!(rt;
             Ifp::read(rt.alloc(), octets).err(),
             Some(*fault),
             "{octets:?}"
         );
-        for end in 0..octets.len() {
-            let _ = Ifp::read(rt.alloc(), &octets[..end]);
-        }
+        read_fronts(rt.alloc(), octets);
     }
     Ok(())
 }
@@ -358,9 +365,9 @@ fn refused_packets_are_told(rt: HostRuntime) -> Result<(), Fail> {
 #[test]
 fn faults_have_numbers(rt: HostRuntime) -> Result<(), Fail> {
     for (fault, number) in FAULTS {
-        assert_eq!(rt; fault.number(), number);
+        assert!(rt; fault.number() == *number);
     }
-    assert_eq!(rt; IfpFault::from(NoMemory), IfpFault::NoMemory);
+    assert!(rt; IfpFault::from(NoMemory) == IfpFault::NoMemory);
     Ok(())
 }
 
@@ -368,9 +375,9 @@ fn faults_have_numbers(rt: HostRuntime) -> Result<(), Fail> {
 fn indicators_are_read_and_written(rt: HostRuntime) -> Result<(), Fail> {
     for code in 0..16 {
         let octets = write_indicator(code);
-        assert_eq!(rt; octets, [2 * code]);
+        assert!(rt; octets == [2 * code]);
         let read = Ifp::read(rt.alloc(), &octets)?;
-        assert_eq!(rt; read.head(), Head::Indicator(code));
+        assert!(rt; read.head() == Head::Indicator(code));
         assert!(rt; read.fields().is_empty());
     }
     Ok(())
@@ -378,7 +385,7 @@ fn indicators_are_read_and_written(rt: HostRuntime) -> Result<(), Fail> {
 
 #[test]
 fn padding_and_what_has_no_meaning_are_passed_over(rt: HostRuntime) -> Result<(), Fail> {
-    for (octets, head, count) in &READ_ONLY {
+    for (octets, head, count) in READ_ONLY {
         let read = Ifp::read(rt.alloc(), octets)?;
         assert_eq!(rt; read.head(), *head, "{octets:?}");
         assert_eq!(rt; read.fields().len(), *count, "{octets:?}");
@@ -390,10 +397,12 @@ fn padding_and_what_has_no_meaning_are_passed_over(rt: HostRuntime) -> Result<()
 #[test]
 fn frames_and_images_are_written(rt: HostRuntime) -> Result<(), Fail> {
     let frame = write_frame(rt.alloc(), &[0xff, 0xc8, 0x21])?;
-    assert_eq!(rt; frame.as_slice(), WORKED[3].octets);
+    assert_eq!(rt; frame.as_slice(), FRAME_PACKET);
     for (last, image, packet) in IMAGES {
-        let written = write_image(rt.alloc(), 1, last, image)?;
-        assert_eq!(rt; written.as_slice(), packet);
+        assert!(rt; !image.is_empty());
+        assert!(rt; image.len() <= 65_535);
+        let written = write_image(rt.alloc(), 1, *last, image)?;
+        assert_eq!(rt; written.as_slice(), *packet);
     }
     Ok(())
 }
@@ -414,34 +423,28 @@ fn longest_packet(alloc: Global) -> Result<Octets, NoMemory> {
 }
 
 #[test]
-fn the_longest_field_is_written(rt: HostRuntime) -> Result<(), Fail> {
+fn the_longest_field_is_written_and_read(rt: HostRuntime) -> Result<(), Fail> {
     let packet = longest_packet(rt.alloc())?;
-    assert_eq!(rt; packet.as_slice().len(), 65_540);
-    assert!(rt;
-        packet
-            .as_slice()
-            .starts_with(&[0xc8, 0x01, 0xe0, 0xff, 0xfe])
-    );
-    Ok(())
-}
-
-#[test]
-fn the_longest_field_is_read(rt: HostRuntime) -> Result<(), Fail> {
-    let packet = longest_packet(rt.alloc())?;
-    let read = Ifp::read(rt.alloc(), packet.as_slice())?;
-    assert_eq!(rt; read.head(), Head::Message { kind: 4 });
+    let octets = packet.as_slice();
+    assert!(rt; octets.len() == 65_540);
+    let (head, own) = octets.split_at(5);
+    assert!(rt; head == [0xc8, 0x01, 0xe0, 0xff, 0xfe].as_slice());
+    let read = Ifp::read(rt.alloc(), octets)?;
+    assert!(rt; read.head() == Head::Message { kind: 4 });
     for field in read.fields() {
-        assert_eq!(rt; field.what, 6);
-        assert_eq!(rt; field.octets, packet.as_slice().get(5..));
+        assert!(rt; field.what == 6);
+        assert!(rt; field.octets == Some(own));
     }
-    let (_, short) = packet.as_slice().split_last().ok_or("no octets")?;
-    assert_eq!(rt; Ifp::read(rt.alloc(), short).err(), Some(IfpFault::Short));
+    let Some(short) = octets.get(..65_539) else {
+        rt.abort()
+    };
+    assert!(rt; Ifp::read(rt.alloc(), short).err() == Some(IfpFault::Short));
     Ok(())
 }
 
 #[test]
 fn packets_of_others_are_read(rt: HostRuntime) -> Result<(), Fail> {
-    for octets in &SENT {
+    for octets in SENT {
         let read = Ifp::read(rt.alloc(), octets)?;
         match read.head() {
             Head::Indicator(_) => assert!(rt; read.fields().is_empty()),
