@@ -13,8 +13,8 @@ all:
 test:
 	$(RT) ci
 
-# Refuses each allocation of a run in turn, both ways and in both codings, of a script, and each of a whole call of the
-# answering and of the calling side, and of one through the gateway. It wants a C compiler, and a minute at most behind the
+# Refuses each allocation of a run in turn, both ways and in both codings, of a script, and each of a page that is read and
+# written in pieces, of a whole call of the answering and of the calling side, and of one through the gateway. It wants a C compiler, and a minute at most behind the
 # proofs of the crates.
 memory: all
 	tools/refuse-memory $(PROGRAM) samples/hello.hex page
@@ -23,6 +23,8 @@ memory: all
 	tools/refuse-memory $(PROGRAM) samples/text-mr.hex page --coding mr
 	tools/refuse-memory $(PROGRAM) samples/text-mr.runs page --back --coding mr --fine --least 96
 	tools/refuse-memory $(PROGRAM) samples/call.trace trace
+	cd crates/fax_pagestore && $(RT) test > /dev/null
+	tools/refuse-test-memory crates/fax_pagestore/out/fax_pagestore_tests tests::memory::a_page_that_is_refused_memory
 	cd crates/fax_answer && $(RT) test > /dev/null
 	tools/refuse-test-memory crates/fax_answer/out/fax_answer_tests tests::memory::a_call_that_is_refused_memory
 	cd crates/fax_call && $(RT) test > /dev/null

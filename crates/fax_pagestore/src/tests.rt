@@ -1,13 +1,21 @@
-//! Pages spelt by hand with the tables of ITU-T T.4.
+//! Pages spelt by hand with the tables of ITU-T T.4, and sample pages, read whole and in pieces and
+//! written back.
+mod memory;
+mod samples;
+
 use crate::{
     Coding, Format, PackedRows, Page, PageFault, PageReader, PageWriter, PlainRows, RowStore,
     read_page, write_page,
 };
 use fax_bits::{BitWriter, NoMemory, Octets};
 use fax_runcodes::{Row, RowFault, Width};
+use samples::SAMPLES;
 use std::alloc::Global;
 use std::process::Abort;
 use std::test::Fail;
+
+/// The octets of a piece.
+const CUTS: [usize; 4] = [1, 7, 100, 300];
 
 /// An EOL.
 const EOL: &str = "000000000001";
@@ -112,112 +120,288 @@ const WHITE_2048: &str = "00000001001100110101";
 /// A one-dimensional line of 2432 white elements.
 const WHITE_2432: &str = "00000001110100110101";
 
-/// Four white rows of each width, in each coding.
-const WHITE_PAGES: [(Width, Coding, &[&str]); 6] = [
+/// Rows by their runs, and the places at which they change colour.
+const ROWS: [(&[u16], &[u16]); 5] = [
+    (&[1728], &[]),
+    (&[4, 1, 1723], &[4, 5]),
+    (&[0, 2048], &[0]),
+    (&[0, 1, 2430, 1], &[0, 1, 2431]),
+    (&[2432], &[]),
+];
+
+/// The digits in which texts are told.
+#[derive(Clone, Copy)]
+enum Digits {
+    Binary,
+    Hex,
+}
+
+impl Digits {
+    ghost use Rattle.std.specs.Prelude.{◌≤◌};
+
+    /// The bits of a digit.
+    fn bits(self) -> u32
+        ensures { result ≤ 4 }
+    {
+        match self {
+            Digits::Binary => 1,
+            Digits::Hex => 4,
+        }
+    }
+}
+
+/// Pages by their texts, and the places at which their rows change colour.
+const PAGES: [(Width, Coding, Digits, &[&str], &[&[u16]]); 18] = [
+    // any bits before the first EOL, fill before another, and anything behind the sixth
+    (
+        Width::W1728,
+        Coding::Mh,
+        Digits::Binary,
+        &[
+            "1011", EOL, WHITE, "000", EOL, MARKED, EOL, EOL, EOL, EOL, EOL, EOL, "111",
+        ],
+        &[&[], &[1, 3]],
+    ),
     (
         Width::W1728,
         Coding::Mr,
+        Digits::Binary,
+        &[
+            EOL_1, MARKED, EOL_0, AS_MARKED, EOL_0, AS_MARKED, "0", EOL_1, WHITE, EOL_0, AS_WHITE,
+            EOL_1, EOL_1, EOL_1, EOL_1, EOL_1, EOL_1,
+        ],
+        &[&[1, 3], &[1, 3], &[1, 3], &[], &[]],
+    ),
+    (
+        Width::W1728,
+        Coding::Mr,
+        Digits::Binary,
         &[
             EOL_1, WHITE, EOL_0, AS_WHITE, EOL_0, AS_WHITE, "000", EOL_1, WHITE, EOL_1, EOL_1,
             EOL_1, EOL_1, EOL_1, EOL_1,
         ],
+        &[&[], &[], &[], &[]],
     ),
     (
         Width::W1728,
         Coding::Mh,
+        Digits::Binary,
         &[
             EOL, WHITE, EOL, WHITE, EOL, WHITE, "000", EOL, WHITE, EOL, EOL, EOL, EOL, EOL, EOL,
         ],
+        &[&[], &[], &[], &[]],
     ),
     (
         Width::W2048,
         Coding::Mr,
+        Digits::Binary,
         &[
             EOL_1, WHITE_2048, EOL_0, AS_WHITE, EOL_0, AS_WHITE, "000", EOL_1, WHITE_2048, EOL_1,
             EOL_1, EOL_1, EOL_1, EOL_1, EOL_1,
         ],
+        &[&[], &[], &[], &[]],
     ),
     (
         Width::W2048,
         Coding::Mh,
+        Digits::Binary,
         &[
             EOL, WHITE_2048, EOL, WHITE_2048, EOL, WHITE_2048, "000", EOL, WHITE_2048, EOL, EOL,
             EOL, EOL, EOL, EOL,
         ],
+        &[&[], &[], &[], &[]],
     ),
     (
         Width::W2432,
         Coding::Mr,
+        Digits::Binary,
         &[
             EOL_1, WHITE_2432, EOL_0, AS_WHITE, EOL_0, AS_WHITE, "000", EOL_1, WHITE_2432, EOL_1,
             EOL_1, EOL_1, EOL_1, EOL_1, EOL_1,
         ],
+        &[&[], &[], &[], &[]],
     ),
     (
         Width::W2432,
         Coding::Mh,
+        Digits::Binary,
         &[
             EOL, WHITE_2432, EOL, WHITE_2432, EOL, WHITE_2432, "000", EOL, WHITE_2432, EOL, EOL,
             EOL, EOL, EOL, EOL,
         ],
+        &[&[], &[], &[], &[]],
+    ),
+    (
+        Width::W1728,
+        Coding::Mh,
+        Digits::Binary,
+        FILLED,
+        &[&[], &[1, 3]],
+    ),
+    (
+        Width::W1728,
+        Coding::Mr,
+        Digits::Binary,
+        OF_TWO_FILLED,
+        &[&[], &[1, 3]],
+    ),
+    (
+        Width::W1728,
+        Coding::Mr,
+        Digits::Binary,
+        OF_FOUR,
+        &[&[], &[], &[], &[], &[], &[1, 3]],
+    ),
+    (
+        Width::W1728,
+        Coding::Mh,
+        Digits::Hex,
+        &["0014d9a8008008008008008008"],
+        &[&[]],
+    ),
+    (
+        Width::W1728,
+        Coding::Mh,
+        Digits::Hex,
+        &["0013503286e0020020020020020020"],
+        &[&[0]],
+    ),
+    (
+        Width::W2432,
+        Coding::Mh,
+        Digits::Hex,
+        &["0014db30d4004004004004004004"],
+        &[&[]],
+    ),
+    (
+        Width::W1728,
+        Coding::Mh,
+        Digits::Hex,
+        &["0011c3760d00040040040040040040"],
+        &[&[]],
+    ),
+    (
+        Width::W1728,
+        Coding::Mr,
+        Digits::Hex,
+        &["001a6cd4005001800c006003001800c0"],
+        &[&[], &[]],
+    ),
+    (
+        Width::W1728,
+        Coding::Mr,
+        Digits::Hex,
+        &["001a6cd40044d6800c006003001800c006"],
+        &[&[], &[0, 3]],
+    ),
+    (
+        Width::W1728,
+        Coding::Mh,
+        Digits::Hex,
+        &["a50014d9a80000001001001001001001"],
+        &[&[]],
     ),
 ];
 
 /// Why texts are no page.
-const REFUSED: [(Coding, &[&str], PageFault); 15] = [
-    (Coding::Mh, &[], PageFault::NoEol),
-    (Coding::Mh, &[WHITE], PageFault::NoEol),
-    (Coding::Mh, &["0000", EOL], PageFault::NoRtc),
+const REFUSED: [(Coding, Digits, &[&str], PageFault); 21] = [
+    (Coding::Mh, Digits::Binary, &[], PageFault::NoEol),
+    (Coding::Mh, Digits::Binary, &[WHITE], PageFault::NoEol),
+    (Coding::Mh, Digits::Binary, &["0000", EOL], PageFault::NoRtc),
     // an EOL without its tag
-    (Coding::Mr, &["0000", EOL], PageFault::NoEol),
+    (Coding::Mr, Digits::Binary, &["0000", EOL], PageFault::NoEol),
     (
         Coding::Mr,
+        Digits::Binary,
         &["0000000", EOL_1, "0000", EOL],
         PageFault::NoRtc,
     ),
     // no row before the first line
-    (Coding::Mr, &[EOL_0, AS_WHITE, EOL_1], PageFault::BadLine(0)),
+    (
+        Coding::Mr,
+        Digits::Binary,
+        &[EOL_0, AS_WHITE, EOL_1],
+        PageFault::BadLine(0),
+    ),
     // an extension behind the first line, and a 1
     (
         Coding::Mr,
+        Digits::Binary,
         &[EOL_1, WHITE, EOL_0, "0000001"],
         PageFault::BadLine(1),
     ),
     (
         Coding::Mr,
+        Digits::Binary,
         &[EOL_1, WHITE, "1", EOL_1],
         PageFault::BadLine(0),
     ),
     // only zeros behind a line
-    (Coding::Mr, &[EOL_1, WHITE], PageFault::NoRtc),
+    (
+        Coding::Mr,
+        Digits::Binary,
+        &[EOL_1, WHITE],
+        PageFault::NoRtc,
+    ),
     // an EOL without its tag behind a line
-    (Coding::Mr, &[EOL_1, WHITE, EOL], PageFault::NoRtc),
+    (
+        Coding::Mr,
+        Digits::Binary,
+        &[EOL_1, WHITE, EOL],
+        PageFault::NoRtc,
+    ),
     // an EOL behind one with tag 0, and the sixth with tag 0
     (
         Coding::Mr,
+        Digits::Binary,
         &[EOL_1, WHITE, EOL_0, EOL_1, EOL_1, EOL_1, EOL_1, EOL_1],
         PageFault::NoRtc,
     ),
     (
         Coding::Mr,
+        Digits::Binary,
         &[EOL_1, WHITE, EOL_1, EOL_1, EOL_1, EOL_1, EOL_1, EOL_0],
         PageFault::NoRtc,
     ),
     // a line behind two EOLs
     (
         Coding::Mr,
+        Digits::Binary,
         &[EOL_1, WHITE, EOL_1, EOL_1, WHITE, EOL_1],
         PageFault::NoRtc,
     ),
     (
         Coding::Mh,
+        Digits::Binary,
         &[EOL, EOL, EOL, EOL, EOL, EOL],
         PageFault::Empty,
     ),
     (
         Coding::Mr,
+        Digits::Binary,
         &[EOL_1, EOL_1, EOL_1, EOL_1, EOL_1, EOL_1],
         PageFault::Empty,
+    ),
+    (
+        Coding::Mh,
+        Digits::Hex,
+        &["0014d9a80080080080080080"],
+        PageFault::NoRtc,
+    ),
+    (
+        Coding::Mh,
+        Digits::Hex,
+        &["001001001001001001"],
+        PageFault::Empty,
+    ),
+    (Coding::Mh, Digits::Hex, &["ff"], PageFault::NoEol),
+    (Coding::Mh, Digits::Hex, &[""], PageFault::NoEol),
+    (Coding::Mh, Digits::Hex, &["00143f"], PageFault::BadLine(0)),
+    (
+        Coding::Mh,
+        Digits::Hex,
+        &["0014d9ac"],
+        PageFault::BadLine(0),
     ),
 ];
 
@@ -231,155 +415,38 @@ const WRITTEN: [(&[&str], bool, Coding, u32, &[&str]); 5] = [
     (FIVE_WHITE, true, Coding::Mr, 0, OF_FOUR),
 ];
 
-/// Pages that are read into either store.
-const EITHER: [(Coding, &[&str]); 3] = [
-    (Coding::Mh, FILLED),
-    (Coding::Mr, OF_TWO_FILLED),
-    (Coding::Mr, OF_FOUR),
-];
-
-/// Pages by their octets, and the places at which their rows change colour.
-const PAGES: [(Width, Coding, &[u8], &[&[u16]]); 7] = [
-    (
-        Width::W1728,
-        Coding::Mh,
-        &[
-            0x00, 0x14, 0xd9, 0xa8, 0x00, 0x80, 0x08, 0x00, 0x80, 0x08, 0x00, 0x80, 0x08,
-        ],
-        &[&[]],
-    ),
-    (
-        Width::W1728,
-        Coding::Mh,
-        &[
-            0x00, 0x13, 0x50, 0x32, 0x86, 0xe0, 0x02, 0x00, 0x20, 0x02, 0x00, 0x20, 0x02, 0x00,
-            0x20,
-        ],
-        &[&[0]],
-    ),
-    (
-        Width::W2432,
-        Coding::Mh,
-        &[
-            0x00, 0x14, 0xdb, 0x30, 0xd4, 0x00, 0x40, 0x04, 0x00, 0x40, 0x04, 0x00, 0x40, 0x04,
-        ],
-        &[&[]],
-    ),
-    (
-        Width::W1728,
-        Coding::Mh,
-        &[
-            0x00, 0x11, 0xc3, 0x76, 0x0d, 0x00, 0x04, 0x00, 0x40, 0x04, 0x00, 0x40, 0x04, 0x00,
-            0x40,
-        ],
-        &[&[]],
-    ),
-    (
-        Width::W1728,
-        Coding::Mr,
-        &[
-            0x00, 0x1a, 0x6c, 0xd4, 0x00, 0x50, 0x01, 0x80, 0x0c, 0x00, 0x60, 0x03, 0x00, 0x18,
-            0x00, 0xc0,
-        ],
-        &[&[], &[]],
-    ),
-    (
-        Width::W1728,
-        Coding::Mr,
-        &[
-            0x00, 0x1a, 0x6c, 0xd4, 0x00, 0x44, 0xd6, 0x80, 0x0c, 0x00, 0x60, 0x03, 0x00, 0x18,
-            0x00, 0xc0, 0x06,
-        ],
-        &[&[], &[0, 3]],
-    ),
-    (
-        Width::W1728,
-        Coding::Mh,
-        &[
-            0xa5, 0x00, 0x14, 0xd9, 0xa8, 0x00, 0x00, 0x00, 0x10, 0x01, 0x00, 0x10, 0x01, 0x00,
-            0x10, 0x01,
-        ],
-        &[&[]],
-    ),
-];
-
-/// Octets in one dimension that are no page.
-const NO_PAGES: [(&[u8], PageFault); 6] = [
-    (
-        &[
-            0x00, 0x14, 0xd9, 0xa8, 0x00, 0x80, 0x08, 0x00, 0x80, 0x08, 0x00, 0x80,
-        ],
-        PageFault::NoRtc,
-    ),
-    (
-        &[0x00, 0x10, 0x01, 0x00, 0x10, 0x01, 0x00, 0x10, 0x01],
-        PageFault::Empty,
-    ),
-    (&[0xff], PageFault::NoEol),
-    (&[], PageFault::NoEol),
-    (&[0x00, 0x14, 0x3f], PageFault::BadLine(0)),
-    (&[0x00, 0x14, 0xd9, 0xac], PageFault::BadLine(0)),
-];
-
-/// The octets of the bits that texts of the digits 0 and 1 show.
-fn octets_of(alloc: Global, texts: &[&str]) -> Result<Octets, NoMemory> {
+/// The octets that texts of digits show.
+fn octets_of(alloc: Global, digits: Digits, texts: &[&str]) -> Result<Octets, NoMemory> {
+    let bits = digits.bits();
     let mut writer = BitWriter::new(alloc);
     for text in texts {
         for digit in text.bytes() {
-            writer.put(u32::from(digit == b'1'), 1)?;
+            // the low bits of a digit's code are its value, and those of a letter 9 less
+            let code = u32::from(digit);
+            writer.put(if digit > b'9' { code + 9 } else { code }, bits)?;
         }
     }
     Ok(writer.finish())
 }
 
-/// Reads a page of the width 1728.
-fn read(
+/// Reads the page that comes in pieces of so many octets. Behind each of them others come, and are taken
+/// back.
+fn feed_in(
     alloc: Global,
-    texts: &[&str],
-    fine: bool,
+    octets: &[u8],
+    cut: usize,
+    format: Format,
     coding: Coding,
-) -> Result<Page<PlainRows>, PageFault> {
-    read_into(alloc, texts, fine, coding)
-}
-
-/// Reads a page of the width 1728 into a store.
-fn read_into<S: RowStore>(
-    alloc: Global,
-    texts: &[&str],
-    fine: bool,
-    coding: Coding,
-) -> Result<Page<S>, PageFault> {
-    let format = Format {
-        width: Width::W1728,
-        fine,
-    };
-    let octets = octets_of(alloc, texts)?;
-    read_page(alloc, octets.as_slice(), format, coding)
-}
-
-/// Fails unless the places at which the rows change colour are these.
-fn expect_rows(rt: &impl Abort, page: &Page<PlainRows>, wanted: &[&[u16]]) -> Result<(), NoMemory> {
-    let rows = page.rows();
-    assert_eq!(rt; rows.len() as usize, wanted.len());
-    let mut n = 0;
-    for changes in wanted {
-        if n < rows.len() {
-            let row = rows.row(n)?;
-            assert_eq!(rt; row.changes(), *changes, "in row {n}");
-            n += 1;
-        }
+) -> Result<Page<PackedRows>, PageFault> {
+    let mut reader = PageReader::new(alloc, format, coding);
+    for piece in octets.chunks(cut.max(1)) {
+        reader.feed(piece)?;
+        let mark = reader.mark()?;
+        reader.feed(&[0x5a, 0x00, 0x15])?;
+        reader.back(mark);
     }
-    Ok(())
-}
-
-/// Fails unless there are four rows, white and of such a width.
-fn expect_four_white(rt: &impl Abort, rows: &PackedRows, elements: u16) {
-    assert_eq!(rt; rows.len(), 4);
-    for i in 0..rows.len() {
-        let row = rows.lend(i);
-        assert_eq!(rt; row.width(), elements, "in row {i}");
-        assert_eq!(rt; row.changes().len(), 0, "in row {i} of {elements}");
-    }
+    reader.check()?;
+    reader.finish()
 }
 
 /// Fails unless both stores have rows of the same changes.
@@ -391,84 +458,50 @@ fn expect_same(rt: &impl Abort, packed: &PackedRows, plain: &PlainRows) {
     }
 }
 
-/// Adds a row of such runs, and fails where it is handed back.
-fn push_runs(
+/// Reads a page into either store and in pieces, and fails unless the rows are the same.
+fn read_each_way(
     rt: &impl Abort,
     alloc: Global,
-    rows: &mut PlainRows,
-    runs: &[u16],
-) -> Result<(), RowFault> {
-    let row = Row::from_runs(alloc, runs)?;
-    assert!(rt; rows.push(row).is_ok());
-    Ok(())
-}
-
-/// Fails unless a row has these changes, itself and lent.
-fn expect_changes(
-    rt: &impl Abort,
-    rows: &PlainRows,
-    i: u32,
-    changes: &[u16],
-) -> Result<(), NoMemory> {
-    assert!(rt; i < rows.len());
-    let row = rows.row(i)?;
-    assert_eq!(rt; row.changes(), changes);
-    assert_eq!(rt; rows.lend(i).changes(), changes);
-    Ok(())
-}
-
-#[test]
-fn reads_lines_in_one_dimension(rt: HostRuntime) -> Result<(), Fail> {
-    // any bits before the first EOL, fill before another, and anything behind the sixth
-    let texts = [
-        "1011", EOL, WHITE, "000", EOL, MARKED, EOL, EOL, EOL, EOL, EOL, EOL, "111",
-    ];
-    let page = read(rt.alloc(), &texts, true, Coding::Mh)?;
-    expect_rows(&rt, &page, &[&[], &[1, 3]])?;
-    Ok(())
-}
-
-#[test]
-fn reads_lines_in_two_dimensions(rt: HostRuntime) -> Result<(), Fail> {
-    let texts = [
-        EOL_1, MARKED, EOL_0, AS_MARKED, EOL_0, AS_MARKED, "0", EOL_1, WHITE, EOL_0, AS_WHITE,
-        EOL_1, EOL_1, EOL_1, EOL_1, EOL_1, EOL_1,
-    ];
-    let page = read(rt.alloc(), &texts, true, Coding::Mr)?;
-    assert!(rt; page.format().fine);
-    expect_rows(&rt, &page, &[&[1, 3], &[1, 3], &[1, 3], &[], &[]])?;
-    Ok(())
-}
-
-#[test]
-fn reads_white_rows_of_each_width(rt: HostRuntime) -> Result<(), Fail> {
-    for (width, coding, texts) in WHITE_PAGES {
-        let octets = octets_of(rt.alloc(), texts)?;
-        let format = Format { width, fine: true };
-        let page: Page<PackedRows> = read_page(rt.alloc(), octets.as_slice(), format, coding)?;
-        expect_four_white(&rt, page.rows(), width.elements());
+    octets: &[u8],
+    format: Format,
+    coding: Coding,
+) -> Result<Page<PlainRows>, PageFault> {
+    let page: Page<PlainRows> = read_page(alloc, octets, format, coding)?;
+    let packed: Page<PackedRows> = read_page(alloc, octets, format, coding)?;
+    expect_same(rt, packed.rows(), page.rows());
+    for cut in CUTS {
+        let fed = feed_in(alloc, octets, cut, format, coding)?;
+        expect_same(rt, fed.rows(), page.rows());
     }
-    Ok(())
+    Ok(page)
 }
 
-#[test]
-fn says_why_it_reads_no_page(rt: HostRuntime) -> Result<(), Fail> {
-    for (coding, texts, fault) in REFUSED {
-        let result = read(rt.alloc(), texts, true, coding);
-        assert_eq!(rt; result.err(), Some(fault), "at {texts:?}");
+/// Fails unless the rows have this width, and change colour at these places.
+fn expect_rows(rt: &impl Abort, rows: &PlainRows, width: Width, wanted: &[&[u16]]) {
+    assert_eq!(rt; rows.len() as usize, wanted.len());
+    let mut n = 0;
+    for changes in wanted {
+        if n < rows.len() {
+            let row = rows.lend(n);
+            assert_eq!(rt; row.width(), width.elements());
+            assert_eq!(rt; row.changes(), *changes, "in row {n}");
+            n += 1;
+        }
     }
-    Ok(())
 }
 
-#[test]
-fn writes_the_one_fixed_text(rt: HostRuntime) -> Result<(), Fail> {
-    for (texts, fine, coding, least_bits, written) in WRITTEN {
-        let page = read(rt.alloc(), texts, fine, Coding::Mh)?;
-        let octets = write_page(rt.alloc(), &page, coding, least_bits)?;
-        let wanted = octets_of(rt.alloc(), written)?;
-        assert_eq!(rt; octets.as_slice(), wanted.as_slice(), "at {written:?}");
+/// Fails unless octets, whole and in pieces, are no page of the width 1728 for this fault.
+fn expect_fault(rt: &impl Abort, alloc: Global, octets: &[u8], coding: Coding, fault: PageFault) {
+    let format = Format {
+        width: Width::W1728,
+        fine: true,
+    };
+    let read: Result<Page<PlainRows>, PageFault> = read_page(alloc, octets, format, coding);
+    assert_eq!(rt; read.err(), Some(fault), "at {octets:?}");
+    for cut in CUTS {
+        let fed = feed_in(alloc, octets, cut, format, coding);
+        assert_eq!(rt; fed.err(), Some(fault), "at {cut} of {octets:?}");
     }
-    Ok(())
 }
 
 /// The text of a page, written in pieces of so many octets.
@@ -491,15 +524,126 @@ fn write_in_pieces(
     Ok(text)
 }
 
+/// Fails unless a page is written as these octets, whole and in pieces.
+fn expect_written(
+    rt: &impl Abort,
+    alloc: Global,
+    page: &Page<PlainRows>,
+    coding: Coding,
+    least_bits: u32,
+    wanted: &[u8],
+) -> Result<(), NoMemory> {
+    let whole = write_page(alloc, page, coding, least_bits)?;
+    assert_eq!(rt; whole.as_slice(), wanted);
+    for n in [1, 7, 100] {
+        let text = write_in_pieces(alloc, page, coding, least_bits, n)?;
+        assert_eq!(rt; text.as_slice(), wanted, "in pieces of {n}");
+    }
+    Ok(())
+}
+
+/// Adds a row of such runs twice, lent and itself.
+fn push_twice<S: RowStore>(
+    rt: &impl Abort,
+    alloc: Global,
+    rows: &mut S,
+    runs: &[u16],
+) -> Result<(), RowFault> {
+    let row = Row::from_runs(alloc, runs)?;
+    assert!(rt; rows.push_lent(&row.lend()).is_ok());
+    assert!(rt; rows.push(row).is_ok());
+    Ok(())
+}
+
+/// Fails unless a row has these changes, itself and lent.
+fn expect_changes<S: RowStore>(
+    rt: &impl Abort,
+    rows: &S,
+    i: u32,
+    changes: &[u16],
+) -> Result<(), NoMemory> {
+    assert!(rt; i < rows.len());
+    let row = rows.row(i)?;
+    assert_eq!(rt; row.changes(), changes, "in row {i}");
+    assert_eq!(rt; rows.lend(i).changes(), changes, "in row {i}");
+    Ok(())
+}
+
+/// Keeps rows in a store, cuts it, and adds others behind the rows that stay.
+fn keep_rows<S: RowStore>(rt: &impl Abort, mut rows: S, alloc: Global) -> Result<(), RowFault> {
+    assert_eq!(rt; rows.len(), 0);
+    for (runs, _) in ROWS {
+        push_twice(rt, alloc, &mut rows, runs)?;
+    }
+    assert_eq!(rt; rows.len(), 10);
+    for i in 0..10 {
+        expect_changes(rt, &rows, i, ROWS[i as usize / 2].1)?;
+    }
+    assert!(rt; rows.len() >= 3);
+    rows.cut(3);
+    push_twice(rt, alloc, &mut rows, ROWS[3].0)?;
+    assert_eq!(rt; rows.len(), 5);
+    for (i, changes) in [
+        (1, ROWS[0].1),
+        (2, ROWS[1].1),
+        (3, ROWS[3].1),
+        (4, ROWS[3].1),
+    ] {
+        expect_changes(rt, &rows, i, changes)?;
+    }
+    Ok(())
+}
+
 #[test]
-fn writes_the_same_text_in_pieces(rt: HostRuntime) -> Result<(), Fail> {
+fn reads_pages_whole_and_in_pieces(rt: HostRuntime) -> Result<(), Fail> {
+    for (width, coding, digits, texts, wanted) in PAGES {
+        let octets = octets_of(rt.alloc(), digits, texts)?;
+        let format = Format { width, fine: true };
+        let page = read_each_way(&rt, rt.alloc(), octets.as_slice(), format, coding)?;
+        assert!(rt; page.format().fine);
+        expect_rows(&rt, page.rows(), width, wanted);
+    }
+    Ok(())
+}
+
+#[test]
+fn reads_sample_pages_in_pieces(rt: HostRuntime) -> Result<(), Fail> {
+    for (width, coding, count, texts) in SAMPLES {
+        let octets = octets_of(rt.alloc(), Digits::Hex, texts)?;
+        let format = Format { width, fine: true };
+        let page = read_each_way(&rt, rt.alloc(), octets.as_slice(), format, coding)?;
+        assert_eq!(rt; page.rows().len(), count);
+    }
+    Ok(())
+}
+
+#[test]
+fn says_why_it_reads_no_page(rt: HostRuntime) -> Result<(), Fail> {
+    for (coding, digits, texts, fault) in REFUSED {
+        let octets = octets_of(rt.alloc(), digits, texts)?;
+        expect_fault(&rt, rt.alloc(), octets.as_slice(), coding, fault);
+    }
+    Ok(())
+}
+
+#[test]
+fn writes_the_one_fixed_text(rt: HostRuntime) -> Result<(), Fail> {
     for (texts, fine, coding, least_bits, written) in WRITTEN {
-        let page = read(rt.alloc(), texts, fine, Coding::Mh)?;
-        let wanted = octets_of(rt.alloc(), written)?;
-        for n in [1, 7, 100] {
-            let text = write_in_pieces(rt.alloc(), &page, coding, least_bits, n)?;
-            assert_eq!(rt; text.as_slice(), wanted.as_slice(), "at {n} of {written:?}");
-        }
+        let octets = octets_of(rt.alloc(), Digits::Binary, texts)?;
+        let format = Format {
+            width: Width::W1728,
+            fine,
+        };
+        let page = read_page(rt.alloc(), octets.as_slice(), format, Coding::Mh)?;
+        let wanted = octets_of(rt.alloc(), Digits::Binary, written)?;
+        expect_written(
+            &rt,
+            rt.alloc(),
+            &page,
+            coding,
+            least_bits,
+            wanted.as_slice(),
+        )?;
     }
     Ok(())
 }
@@ -513,8 +657,14 @@ fn gives_five_octets_at_a_time(rt: HostRuntime) -> Result<(), Fail> {
         &[0x10, 0x01, 0x00, 0x10, 0x01],
         &[],
     ];
-    let texts = [EOL, WHITE, EOL, EOL, EOL, EOL, EOL, EOL];
-    let page = read(rt.alloc(), &texts, false, Coding::Mh)?;
+    let text = [
+        0x00, 0x14, 0xd9, 0xa8, 0x00, 0x80, 0x08, 0x00, 0x80, 0x08, 0x00, 0x80, 0x08,
+    ];
+    let format = Format {
+        width: Width::W1728,
+        fine: false,
+    };
+    let page: Page<PlainRows> = read_page(rt.alloc(), &text, format, Coding::Mh)?;
     let mut writer = PageWriter::new(rt.alloc(), page.format(), Coding::Mh, 48);
     for piece in pieces {
         assert_eq!(rt; writer.ended(), piece.is_empty());
@@ -522,58 +672,6 @@ fn gives_five_octets_at_a_time(rt: HostRuntime) -> Result<(), Fail> {
         assert_eq!(rt; given.as_slice(), piece);
     }
     Ok(())
-}
-
-/// Reads octets of a page that come whole.
-fn feed_whole(
-    alloc: Global,
-    octets: &[u8],
-    width: Width,
-    coding: Coding,
-) -> Result<Page<PlainRows>, PageFault> {
-    let mut reader = PageReader::new(alloc, Format { width, fine: true }, coding);
-    reader.feed(octets)?;
-    reader.check()?;
-    reader.finish()
-}
-
-/// Reads octets of a page that come one by one. Behind each of them others come, and are taken back.
-fn feed_each(
-    alloc: Global,
-    octets: &[u8],
-    width: Width,
-    coding: Coding,
-) -> Result<Page<PlainRows>, PageFault> {
-    let mut reader = PageReader::new(alloc, Format { width, fine: true }, coding);
-    for octet in octets {
-        reader.feed(&[*octet])?;
-        let mark = reader.mark()?;
-        reader.feed(&[0x5a, 0x00, 0x15])?;
-        reader.back(mark);
-    }
-    reader.check()?;
-    reader.finish()
-}
-
-#[test]
-fn reads_pages_as_they_come(rt: HostRuntime) -> Result<(), Fail> {
-    for (width, coding, octets, wanted) in PAGES {
-        let page = feed_whole(rt.alloc(), octets, width, coding)?;
-        expect_rows(&rt, &page, wanted)?;
-        let page = feed_each(rt.alloc(), octets, width, coding)?;
-        expect_rows(&rt, &page, wanted)?;
-    }
-    Ok(())
-}
-
-#[test]
-fn says_why_what_came_is_no_page(rt: HostRuntime) {
-    for (octets, fault) in NO_PAGES {
-        let whole = feed_whole(rt.alloc(), octets, Width::W1728, Coding::Mh);
-        assert_eq!(rt; whole.err(), Some(fault), "at {octets:?}");
-        let each = feed_each(rt.alloc(), octets, Width::W1728, Coding::Mh);
-        assert_eq!(rt; each.err(), Some(fault), "at {octets:?}");
-    }
 }
 
 #[test]
@@ -592,26 +690,7 @@ fn faults_have_numbers(rt: HostRuntime) {
 
 #[test]
 fn stores_keep_rows(rt: HostRuntime) -> Result<(), Fail> {
-    let mut rows = PlainRows::empty(rt.alloc());
-    assert_eq!(rt; rows.len(), 0);
-    push_runs(&rt, rt.alloc(), &mut rows, &[2048])?;
-    push_runs(&rt, rt.alloc(), &mut rows, &[0, 2048])?;
-    assert_eq!(rt; rows.len(), 2);
-    expect_changes(&rt, &rows, 0, &[])?;
-    expect_changes(&rt, &rows, 1, &[0])?;
-    assert!(rt; rows.len() >= 1);
-    rows.cut(1);
-    assert_eq!(rt; rows.len(), 1);
-    expect_changes(&rt, &rows, 0, &[])?;
-    Ok(())
-}
-
-#[test]
-fn reads_into_either_store(rt: HostRuntime) -> Result<(), Fail> {
-    for (coding, texts) in EITHER {
-        let plain = read(rt.alloc(), texts, true, coding)?;
-        let packed: Page<PackedRows> = read_into(rt.alloc(), texts, true, coding)?;
-        expect_same(&rt, packed.rows(), plain.rows());
-    }
+    keep_rows(&rt, PlainRows::empty(rt.alloc()), rt.alloc())?;
+    keep_rows(&rt, PackedRows::empty(rt.alloc()), rt.alloc())?;
     Ok(())
 }

@@ -1,9 +1,6 @@
 //! Rows kept side by side, in two vectors for all of them.
 ghost use Rattle.std.specs.Prelude.{◌≡◌, ◌++◌, OnOk, OnErr};
 
-#[cfg(test)]
-mod tests;
-
 use super::RowStore;
 use fax_bits::NoMemory;
 use fax_runcodes::{Row, RowRef};
