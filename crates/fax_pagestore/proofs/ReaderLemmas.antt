@@ -1,5 +1,5 @@
 -- Pages that are read as their octets come.
-use Rattle.std.proofs.Common.{◌≡◌, ℕ, zero, suc, ◌+◌, ◌-◌, ◌*◌, ◌/◌, ◌%◌, ◌<◌, ◌≤◌, Bool, true, false, List, [], ◌∷◌, ◌++◌, All, Option, Some, None, length, take, drop, replicate, slice_get, slice_index_or, IfSome, IsNone, zero-add, refl, sym, ◌∙◌, ap, subst, arith, append_assoc, append-nil, length-append, inl, inr}
+use Rattle.std.proofs.Common.{◌≡◌, ℕ, zero, suc, ◌+◌, ◌-◌, ◌*◌, ◌/◌, ◌%◌, ◌<◌, ◌≤◌, Bool, true, false, List, [], ◌∷◌, ◌++◌, All, Option, Some, None, length, take, drop, replicate, slice_get, slice_index_or, IfSome, IsSome, IsNone, zero-add, refl, sym, ◌∙◌, ap, subst, arith, append_assoc, append-nil, length-append, length-drop, inl, inr}
 use Rattle.std.proofs.lemmas.List.{nil_from_length, length_push, drop_at, drop-drop, drop-append-le, take-append-drop, append_cancel_left, length-replicate, replicate-append-replicate, get_or-replicate}
 use Rattle.std.proofs.lemmas.List.Elements.{All-push}
 use Rattle.std.proofs.Math.Seq.{drop-length}
@@ -18,12 +18,12 @@ use Rattle.fax_runcodes.proofs.PaintedLemmas.{rising_le}
 use Rattle.fax_runcodes.proofs.TurningLemmas.{turned_at_all}
 use Rattle.fax_mhcode.proofs.LineLaws.{IsWidth-elements}
 use Rattle.fax_pagestore.specs.declared.fault.PageFault.{PageFault}
-use Rattle.fax_pagestore.specs.declared.fault.PageFault.TheVariants.{NoEol, Empty}
+use Rattle.fax_pagestore.specs.declared.fault.PageFault.TheVariants.{NoEol, BadLine, NoRtc, Empty, TooManyRows, NoMemory}
 use Rattle.fax_pagestore.specs.PageRows.{most_rows}
 use Rattle.fax_pagestore.specs.Pages.{PageValue}
 use Rattle.fax_pagestore.specs.PageTexts.{IsFront, IsSeparator, InARow, SpellsRow, SpellsRows, ReadSoFar, MeansRows, MeansPage}
-use Rattle.fax_pagestore.specs.PageFaults.{Stops, FailsPage, HasNoEol, last_of, row_before}
-use Rattle.fax_pagestore.specs.Readers.{ReadsOne, ReaderValue, HasRead, IsReadUpTo, AreJudged, new_reader}
+use Rattle.fax_pagestore.specs.PageFaults.{LineBegins, Stops, FailsPage, HasNoEol, last_of, row_before}
+use Rattle.fax_pagestore.specs.Readers.{ReadsOne, ReaderValue, HasRead, IsReadUpTo, AreJudged, is_settled, new_reader}
 use Rattle.fax_pagestore.proofs.FrontLemmas.{FewZeros-no_eol}
 use Rattle.fax_pagestore.proofs.PageLaws.{pages_are_unique, pages_dont_fail, faults_are_unique}
 use Rattle.fax_pagestore.proofs.ReadLemmas.{SpellsRow-length, ReadSoFar-lengths}
@@ -92,12 +92,12 @@ pub record RowsRead (coding : Coding) (width : ℕ) (first : Bool) (base : List 
   pub read : (octets : List ℕ) → ReadSoFar coding width octets base 0 first old.left → ReadSoFar coding width octets rows 0 tag new.left
 
 pub RowsRead-none : (coding : Coding) (width : ℕ) (first : Bool) (base : List Elements) (old : Place) (kept : Elements) → length base ≤ most_rows
-    → All (λ row. length row ≡ width) base → (0 < length base → last_of base ≡ Some kept) → RowsRead coding width first base old first kept base old
+    → All (λ row. length row ≡ width) base → Keeps first kept base → RowsRead coding width first base old first kept base old
 RowsRead-none coding width first base old kept few each keeps = record {
   same = ([], sym (append-nil base));
   few = few;
   each = each;
-  keeps = λ two some. keeps some;
+  keeps = keeps;
   passes = ([], Passes-none old);
   read = λ octets read. read;
 }
@@ -249,9 +249,13 @@ drop_place octets place le =
     let whole : 8 * (place / 8) + place % 8 ≡ place = omega arith in
     ap (drop (place % 8)) (sym (drop-bits_of (place / 8) octets inside)) ∙ drop-drop (place % 8) (8 * (place / 8)) (bits_of octets) ∙ ap (λ n. drop n (bits_of octets)) whole
 
+-- behind all octets
+pub nothing_left : (octets : List ℕ) (place : ℕ) → place ≡ 8 * length octets → drop place (bits_of octets) ≡ []
+nothing_left octets place all = nil_from_length (drop place (bits_of octets)) (omega (arith, length-drop place (bits_of octets), length-bits_of octets))
+
 -- ---- more octets
 
-ReadSoFar-octets : (coding : Coding) (width : ℕ) (octets piece : List ℕ) (rows : List Elements) (tag : Bool) (left : List Bool)
+pub ReadSoFar-octets : (coding : Coding) (width : ℕ) (octets piece : List ℕ) (rows : List Elements) (tag : Bool) (left : List Bool)
     → ReadSoFar coding width octets rows 0 tag left → ReadSoFar coding width (octets ++ piece) rows 0 tag (left ++ bits_of piece)
 ReadSoFar-octets coding width octets piece rows tag left r = record {
   front = r.front;
@@ -281,6 +285,71 @@ IsReadUpTo-more coding width octets piece held all used rows tag le e read =
     sym (drop-append-le used (bits_of held) (bits_of piece) (omega (arith, length-bits_of held))) ∙ ap (drop used) (sym (bits_of-append held piece)) ∙ ap (λ o. drop used (bits_of o)) (sym e) in
     subst (IsReadUpTo coding width (octets ++ piece) rows tag) bits (IsReadUpTo-octets coding width octets piece rows tag (drop used (bits_of held)) read)
 
+-- ---- what stays so whatever follows
+
+Passes-more : (old new : Place) (text more : List Bool) → Passes old new text
+    → (let before : Place = record { passed = old.passed; left = old.left ++ more } in
+    let behind : Place = record { passed = new.passed; left = new.left ++ more } in
+    Passes before behind text)
+Passes-more old new text more p = record { bits = ap (λ b. b ++ more) p.bits ∙ append_assoc text new.left more; place = p.place }
+
+LineBegins-more : (bits more : List Bool) → LineBegins bits → LineBegins (bits ++ more)
+LineBegins-more bits more (zeros, rest, few, e) = (zeros, rest ++ more, few, ap (λ b. b ++ more) e ∙ append_assoc (replicate zeros false) (true ∷ rest) more)
+
+-- a line behind so many rows
+too_many_stay : (coding : Coding) (width : ℕ) (octets more : List ℕ) (rows : List Elements) (tag : Bool) (bits : List Bool) → length rows ≤ most_rows
+    → ReadSoFar coding width octets rows 0 tag bits → Stops coding width rows 0 tag bits TooManyRows → FailsPage width coding (octets ++ more) TooManyRows
+too_many_stay coding width octets more rows tag bits few read (one, begins, full) =
+    stops_fail coding width (octets ++ more) rows tag (bits ++ bits_of more) TooManyRows few (ReadSoFar-octets coding width octets more rows tag bits read)
+    (one, LineBegins-more bits (bits_of more) begins, full)
+
+-- where a line begins and no row can be read
+pub halt_stays : (coding : Coding) (width : ℕ) (octets more : List ℕ) (rows : List Elements) (tag : Bool) (bits : List Bool) (fault : Option PageFault) → IsSome fault
+    → is_settled fault ≡ true → length rows ≤ most_rows → ReadSoFar coding width octets rows 0 tag bits → IfSome fault (λ met. Stops coding width rows 0 tag bits met)
+    → AreJudged coding width (octets ++ more) rows fault
+halt_stays coding width octets more rows tag bits None some settled few read stops = absurd (cc)
+halt_stays coding width octets more rows tag bits (Some NoEol) some settled few read stops = absurd (cc)
+halt_stays coding width octets more rows tag bits (Some (BadLine n)) some settled few read stops = absurd (cc)
+halt_stays coding width octets more rows tag bits (Some NoRtc) some settled few read stops = absurd (cc)
+halt_stays coding width octets more rows tag bits (Some Empty) some settled few read stops = absurd (cc stops.0)
+halt_stays coding width octets more rows tag bits (Some TooManyRows) some settled few read stops = too_many_stay coding width octets more rows tag bits few read stops
+halt_stays coding width octets more rows tag bits (Some NoMemory) some settled few read stops = absurd (cc)
+
+-- what breaks a return to control does not stay so
+pub broken_not_settled : (coding : Coding) (bits : List Bool) (tag : Bool) (fault : PageFault)
+    → ((n : ℕ) × (text rest : List Bool) × (last : Bool) × (n ≤ 5) × InARow coding tag n text last × (bits ≡ text ++ rest)
+    × ((width : ℕ) (rows : List Elements) → Stops coding width rows n last rest fault)) → is_settled (Some fault) ≡ true → ⊥
+broken_not_settled coding bits tag NoEol (n, text, rest, last, le, in_a_row, e, stops) settled = absurd (cc)
+broken_not_settled coding bits tag (BadLine k) (n, text, rest, last, le, in_a_row, e, stops) settled = absurd (cc)
+broken_not_settled coding bits tag NoRtc (n, text, rest, last, le, in_a_row, e, stops) settled = absurd (cc)
+broken_not_settled coding bits tag Empty (n, text, rest, last, le, in_a_row, e, stops) settled = absurd (cc ((stops 0 ([] ∷ [])).2))
+broken_not_settled coding bits tag TooManyRows (n, text, rest, last, le, in_a_row, e, stops) settled = absurd (omega (arith, (stops 0 []).2))
+broken_not_settled coding bits tag NoMemory (n, text, rest, last, le, in_a_row, e, stops) settled = absurd (cc)
+
+pub none_stay : (coding : Coding) (width : ℕ) (octets more : List ℕ) (rows : List Elements) (tag : Bool) (old new : Place) → length rows ≡ 0
+    → ReadSoFar coding width octets rows 0 tag old.left → (text : List Bool) × InARow coding tag 5 text true × Passes old new text → FailsPage width coding (octets ++ more) Empty
+none_stay coding width octets more rows tag old new none read (text, in_a_row, p) =
+    none_fail coding width (octets ++ more) rows tag (record { passed = old.passed; left = old.left ++ bits_of more }) (record { passed = new.passed; left = new.left ++ bits_of more }) none
+    (ReadSoFar-octets coding width octets more rows tag old.left read) (text, in_a_row, Passes-more old new text (bits_of more) p)
+
+pub rows_stay : (coding : Coding) (width : ℕ) (octets more : List ℕ) (rows : List Elements) (tag : Bool) (old new : Place) → 0 < length rows → length rows ≤ most_rows
+    → ReadSoFar coding width octets rows 0 tag old.left → (text : List Bool) × InARow coding tag 5 text true × Passes old new text → MeansRows width coding (octets ++ more) rows
+rows_stay coding width octets more rows tag old new some few read (text, in_a_row, p) =
+    some_mean coding width (octets ++ more) rows tag (record { passed = old.passed; left = old.left ++ bits_of more }) (record { passed = new.passed; left = new.left ++ bits_of more }) some few
+    (ReadSoFar-octets coding width octets more rows tag old.left read) (text, in_a_row, Passes-more old new text (bits_of more) p)
+
+-- a reader of which it is settled takes any octets
+pub HasRead-settled : (octets piece : List ℕ) (reader : ReaderValue) → is_settled reader.fault ≡ true → HasRead octets reader → HasRead (octets ++ piece) reader
+HasRead-settled octets piece reader settled has = record {
+  read = λ not_yet. absurd (cc (settled, not_yet));
+  judged = (has.settled settled).1 piece;
+  settled = λ yes. (
+    (has.settled yes).0,
+    λ more. subst (λ all. AreJudged reader.coding (elements_of reader.format.width) all reader.rows reader.fault)
+        (sym (append_assoc octets piece more)) ((has.settled yes).1 (piece ++ more)),
+  );
+}
+
 -- ---- the front
 
 pub front_read : (coding : Coding) (width : ℕ) (octets : List ℕ) (rows : List Elements) (tag : Bool) (old new : Place) → rows ≡ [] → old.left ≡ bits_of octets
@@ -303,7 +372,11 @@ nothing_has_eol coding = λ tag front rest is e.
     FewZeros-no_eol [] is.front (is.tag_text ++ rest) tt is.ends (sym bits_of-nil ∙ e ∙ ap (λ b. b ++ rest) is.text_is ∙ append_assoc is.front is.tag_text rest)
 
 pub nothing_read : (format : Format) (coding : Coding) → HasRead [] (new_reader format coding)
-nothing_read format coding = record { read = (refl, sym bits_of-nil); judged = inl (refl, nothing_has_eol coding) }
+nothing_read format coding = record {
+  read = λ not_yet. (refl, sym bits_of-nil);
+  judged = inl (refl, nothing_has_eol coding);
+  settled = λ none. absurd (cc);
+}
 
 pub new_is : (format : Format) (coding : Coding) (rows : List Elements) (items : List ℕ) → rows ≡ [] → items ≡ []
     → (let made : ReaderValue = record { format = format; coding = coding; rows = rows; tag = None; left = drop 0 (bits_of items); fault = Some NoEol } in made ≡ new_reader format coding)

@@ -1,5 +1,5 @@
 -- Pages that are read as their octets come: what a reader is, and which octets have come to it.
-use Rattle.std.specs.Prelude.{◌≡◌, ℕ, Bool, List, [], ◌∷◌, ◌++◌, Option, Some, None, length, take}
+use Rattle.std.specs.Prelude.{◌≡◌, ℕ, Bool, true, false, List, [], ◌∷◌, ◌++◌, Option, Some, None, length, take}
 use Rattle.fax_bits.specs.Bits.{bits_of}
 use Rattle.fax_bits.specs.Reading.{Place, Passes}
 use Rattle.fax_runcodes.specs.declared.format.Coding.{Coding}
@@ -7,7 +7,7 @@ use Rattle.fax_runcodes.specs.declared.format.Format.{Format}
 use Rattle.fax_runcodes.specs.Rows.{Elements}
 use Rattle.fax_runcodes.specs.Widths.{elements_of}
 use Rattle.fax_pagestore.specs.declared.fault.PageFault.{PageFault}
-use Rattle.fax_pagestore.specs.declared.fault.PageFault.TheVariants.{NoEol}
+use Rattle.fax_pagestore.specs.declared.fault.PageFault.TheVariants.{NoEol, Empty, TooManyRows}
 use Rattle.fax_pagestore.specs.PageTexts.{IsSeparator, SpellsRow, ReadSoFar, MeansRows}
 use Rattle.fax_pagestore.specs.PageFaults.{FailsPage, last_of}
 
@@ -35,10 +35,20 @@ abbrev pub AreJudged : Coding → ℕ → List ℕ → List Elements → Option 
 AreJudged coding width octets rows None = MeansRows width coding octets rows
 AreJudged coding width octets rows (Some fault) = FailsPage width coding octets fault
 
--- These octets came to a reader, whatever the pieces in which they came.
+-- What stays so whatever follows: a page, since its end was read; no line before that; too many rows.
+abbrev pub is_settled : Option PageFault → Bool
+is_settled None = true
+is_settled (Some Empty) = true
+is_settled (Some TooManyRows) = true
+is_settled (Some fault) = false
+
+-- These octets came to a reader, whatever the pieces in which they came. Once it is settled what they are, no
+-- bits are kept, and they are that with any octets behind them.
 pub record HasRead (octets : List ℕ) (reader : ReaderValue) : Type 0 where
-  pub read : IsReadUpTo reader.coding (elements_of reader.format.width) octets reader.rows reader.tag reader.left
+  pub read : is_settled reader.fault ≡ false → IsReadUpTo reader.coding (elements_of reader.format.width) octets reader.rows reader.tag reader.left
   pub judged : AreJudged reader.coding (elements_of reader.format.width) octets reader.rows reader.fault
+  pub settled : is_settled reader.fault ≡ true
+      → (reader.left ≡ []) × ((more : List ℕ) → AreJudged reader.coding (elements_of reader.format.width) (octets ++ more) reader.rows reader.fault)
 
 -- What a mark keeps of a reader: how many rows it has, and all else.
 pub record MarkValue : Type 0 where

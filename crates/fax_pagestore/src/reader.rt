@@ -7,6 +7,7 @@ ghost use Rattle.fax_runcodes.specs.Widths.{elements_of};
 ghost use Rattle.fax_pagestore.specs.Pages.{PageValue};
 ghost use Rattle.fax_pagestore.specs.PageTexts.{ReadSoFar, MeansRows, MeansPage};
 ghost use Rattle.fax_pagestore.specs.PageFaults.{FailsPage, HasNoEol, LineBegins, Stops, last_of};
+ghost use Rattle.fax_pagestore.specs.Readers as spec;
 ghost use Rattle.fax_pagestore.specs.Readers.{ReadsOne, IsReadUpTo, AreJudged};
 
 use crate::reading::{MOST_ROWS, line_ahead, pass_front, pass_return_to_control, read_row};
@@ -19,7 +20,7 @@ use std::marker::Model;
 use std::mem;
 
 /// Reads a page whose octets come in pieces, as [`crate::read_page`] reads them at once. It keeps the rows
-/// that are read, and the octets behind the last separator.
+/// that are read, and the octets behind the last separator, until it is settled what they all are.
 #[derive(Drop)]
 pub struct PageReader<S: RowStore> {
     format: Format,
@@ -33,6 +34,24 @@ pub struct PageReader<S: RowStore> {
     tag: Option<bool>,
     /// Why the octets so far are no page.
     fault: Option<PageFault>,
+    /// Room for lines, from the first piece on.
+    room: Option<Room>,
+}
+
+/// Room for the line that is read, and for the row before.
+#[derive(Drop)]
+struct Room {
+    line: RowBuilder,
+    kept: RowBuilder,
+}
+
+impl Room {
+    fn new(alloc: Global) -> Result<Self, NoMemory> {
+        Ok(Room {
+            line: RowBuilder::new(alloc)?,
+            kept: RowBuilder::new(alloc)?,
+        })
+    }
 }
 
 impl<S: RowStore> Model for PageReader<S> {
@@ -50,7 +69,7 @@ impl<S: RowStore> Model for PageReader<S> {
 }
 
 impl<S: RowStore> PageReader<S> {
-    ghost use Rattle.fax_pagestore.specs.Readers.{HasRead, new_reader, mark_of, reader_at};
+    ghost use Rattle.fax_pagestore.specs.Readers.{HasRead, is_settled, new_reader, mark_of, reader_at};
 
     /// A reader to which nothing came. It takes no memory.
     pub fn new(alloc: Global, format: Format, coding: Coding) -> Self
@@ -65,22 +84,32 @@ impl<S: RowStore> PageReader<S> {
             used: 0,
             tag: None,
             fault: Some(PageFault::NoEol),
+            room: None,
         }
     }
 
-    /// Takes the next octets, and reads each row of which the line and the separator are there. An `Err` is
-    /// that of memory, and changes nothing.
+    /// Takes the next octets, and reads each row of which the line and the separator are there. Behind the end
+    /// of a page, and where a line begins behind 20,000 rows, it takes nothing and no memory. An `Err` is that of
+    /// memory, and changes nothing.
     pub fn feed(&mut self, piece: &[u8]) -> Result<(), PageFault>
         ensures read { OnOk result ((octets : List ℕ) → HasRead octets self.old → HasRead (octets ++ piece.now) self.new) }
         ensures rows { OnOk result ((more : List Elements) × (self.new.rows ≡ self.old.rows ++ more)) }
         ensures same { OnOk result ((self.new.format ≡ self.old.format) × (self.new.coding ≡ self.old.coding)) }
+        ensures settled { is_settled self.old.fault ≡ true → IsOk result × (self.new ≡ self.old) }
         ensures fault { IfErr result (λ fault. fault ≡ PageFault.NoMemory) }
         ensures err { OnErr result (self.new ≡ self.old) }
     {
+        if is_settled(self.fault) {
+            return Ok(());
+        }
         let (alloc, len, count) = (*self.octets.allocator(), self.octets.len(), self.rows.len());
+        let mut room = match self.room.take() {
+            Some(room) => room,
+            None => Room::new(alloc)?,
+        };
         append(&mut self.octets, piece)?;
         let Ok(reached) = read_up_to(
-            alloc,
+            &mut room,
             &mut self.rows,
             self.octets.as_slice(),
             self.used,
@@ -96,6 +125,7 @@ impl<S: RowStore> PageReader<S> {
         self.used = (reached.place % 8) as u32;
         self.tag = reached.tag;
         self.fault = reached.fault;
+        self.room = Some(room);
         Ok(())
     }
 
@@ -218,8 +248,18 @@ fn drop_front(octets: &mut Vec<u8>, n: usize)
     octets.truncate(left);
 }
 
-/// How far octets were read: how many of their bits, the tag of the last separator, and why they are no
-/// page where no more come.
+/// Whether what octets are stays so whatever follows them.
+fn is_settled(fault: Option<PageFault>) -> bool
+    ensures { result ≡ spec.is_settled fault }
+{
+    matches!(
+        fault,
+        None | Some(PageFault::Empty | PageFault::TooManyRows)
+    )
+}
+
+/// How far octets were read: how many of their bits, or all where it is settled what they are; the tag of the
+/// last separator; and why they are no page where no more come.
 #[derive(Clone, Copy)]
 struct Reached {
     place: u128,
@@ -229,7 +269,7 @@ struct Reached {
 
 /// Reads on from the bits of octets that are not used.
 fn read_up_to<S: RowStore>(
-    alloc: Global,
+    room: &mut Room,
     rows: &mut S,
     octets: &[u8],
     used: u32,
@@ -245,23 +285,34 @@ fn read_up_to<S: RowStore>(
     ensures each { All (λ row. length row ≡ elements_of width) (S.rows rows.new) }
     ensures place { IfOk result (λ reached. reached.place ≤ 8 * length octets.now) }
     ensures some { IfOk result (λ reached. reached.fault ≡ None → 0 < length (S.rows rows.new)) }
-    ensures read { IfOk result (λ reached. (all : List ℕ) → IsReadUpTo coding (elements_of width) all (S.rows rows.old) tag (drop used (bits_of octets.now))
+    ensures read { IfOk result (λ reached. spec.is_settled reached.fault ≡ false → (all : List ℕ) → IsReadUpTo coding (elements_of width) all (S.rows rows.old) tag (drop used (bits_of octets.now))
         → IsReadUpTo coding (elements_of width) all (S.rows rows.new) reached.tag (drop reached.place (bits_of octets.now))) }
     ensures judged { IfOk result (λ reached. (all : List ℕ) → IsReadUpTo coding (elements_of width) all (S.rows rows.old) tag (drop used (bits_of octets.now))
         → AreJudged coding (elements_of width) all (S.rows rows.new) reached.fault) }
+    ensures all { IfOk result (λ reached. spec.is_settled reached.fault ≡ true → reached.place ≡ 8 * length octets.now) }
+    ensures settled { IfOk result (λ reached. spec.is_settled reached.fault ≡ true → (all more : List ℕ) → IsReadUpTo coding (elements_of width) all (S.rows rows.old) tag (drop used (bits_of octets.now))
+        → AreJudged coding (elements_of width) (all ++ more) (S.rows rows.new) reached.fault) }
 {
     let mut reader = BitReader::new(octets);
     reader.skip(used);
     let Some(first) = begin(&mut reader, coding, tag) else {
+        let fault = Some(PageFault::NoEol);
         return Ok(Reached {
             place: u128::from(used),
             tag: None,
-            fault: Some(PageFault::NoEol),
+            fault,
         });
     };
-    let halt = read_rows_on(alloc, rows, &mut reader, width, coding, first)?;
+    let halt = read_rows_on(room, rows, &mut reader, width, coding, first)?;
     let place = reader.place();
     let fault = judge(&mut reader, coding, &halt, rows.len());
+    if is_settled(fault) {
+        return Ok(Reached {
+            place: 8 * octets.len() as u128,
+            tag: Some(halt.tag),
+            fault,
+        });
+    }
     Ok(Reached {
         place,
         tag: Some(halt.tag),
@@ -347,7 +398,7 @@ struct Halt {
 
 /// Reads the rows behind this tag of which the lines and the separators are whole.
 fn read_rows_on<S: RowStore>(
-    alloc: Global,
+    room: &mut Room,
     rows: &mut S,
     reader: &mut BitReader,
     width: Width,
@@ -365,12 +416,11 @@ fn read_rows_on<S: RowStore>(
     ensures stops { IfOk result (λ halt. IfSome halt.fault (λ fault. Stops coding (elements_of width) (S.rows rows.new) 0 halt.tag reader.new.left fault)) }
     ensures no_line { IfOk result (λ halt. IsNone halt.fault → LineBegins reader.new.left → ⊥) }
 {
-    let mut line = RowBuilder::new(alloc)?;
-    let mut kept = RowBuilder::new(alloc)?;
-    keep_last(&mut kept, rows, width);
+    let Room { line, kept } = room;
+    keep_last(kept, rows, width, first);
     let mut tag = first;
     loop {
-        match read_next(rows, &mut line, &mut kept, reader, width, coding, tag)? {
+        match read_next(rows, line, kept, reader, width, coding, tag)? {
             Next::Row(next) => tag = next,
             Next::NoLine => return Ok(Halt { tag, fault: None }),
             Next::Fault(fault) => {
@@ -383,13 +433,13 @@ fn read_rows_on<S: RowStore>(
     }
 }
 
-/// Keeps the last of rows, if there is one.
-fn keep_last<S: RowStore>(kept: &mut RowBuilder, rows: &S, width: Width)
+/// Keeps the last of rows, if there is one, where this tag says that the next line is two-dimensional.
+fn keep_last<S: RowStore>(kept: &mut RowBuilder, rows: &S, width: Width, tag: bool)
     requires { All (λ row. length row ≡ elements_of width) (S.rows rows.now) }
-    ensures { 0 < length (S.rows rows.now) → last_of (S.rows rows.now) ≡ Some kept.new }
+    ensures { tag ≡ false → 0 < length (S.rows rows.now) → last_of (S.rows rows.now) ≡ Some kept.new }
 {
     let count = rows.len();
-    if count > 0 {
+    if !tag && count > 0 {
         let last = rows.lend(count - 1);
         kept.clear();
         kept.paint(Colour::White, width.elements());
@@ -407,6 +457,9 @@ fn judge(reader: &mut BitReader, coding: Coding, halt: &Halt, count: u32) -> Opt
     ensures whole { IsNone result → (width : ℕ) (octets : List ℕ) (rows : List Elements) → count ≡ length rows → length rows ≤ 20000
         → ReadSoFar coding width octets rows 0 halt.now.tag reader.old.left → MeansRows width coding octets rows }
     ensures some { IsNone result → 0 < count }
+    ensures settled { spec.is_settled result ≡ true → (width : ℕ) (octets more : List ℕ) (rows : List Elements) → count ≡ length rows → length rows ≤ 20000
+        → ReadSoFar coding width octets rows 0 halt.now.tag reader.old.left
+        → IfSome halt.now.fault (λ met. Stops coding width rows 0 halt.now.tag reader.old.left met) → AreJudged coding width (octets ++ more) rows result }
 {
     if halt.fault.is_some() {
         return halt.fault;

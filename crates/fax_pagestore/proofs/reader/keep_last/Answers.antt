@@ -24,7 +24,7 @@ turn_at_all-requires-clause-same g c =
     white_may_turn c.paint.new.self (elements_of c.args.width) c.changes.result.now (white g at) (subst (AreRising 0 c.changes.result.now) (wide g at) c.changes.ensures.rising)
 
 pub returns-then-count-gt0 : goal.returns-then-count-gt0
-returns-then-count-gt0 g c = λ some.
+returns-then-count-gt0 g c = λ two some.
     let at = (goal.at.returns-then-count-gt0 g c).After-paint in
     let index : c.len-count.result - 1 + 1 ≡ length (g.S.RowStore.rows c.args.rows.now) = omega (arith, c.len-count.ensures, c.if-count-gt0.true) in
     last_of_at (g.S.RowStore.rows c.args.rows.now) (c.len-count.result - 1) c.lend-last.result index c.lend-last.ensures
