@@ -14,8 +14,8 @@ test:
 	$(RT) ci
 
 # Refuses each allocation of a run in turn, both ways and in both codings, of a script, and each of a page that is read and
-# written in pieces, of a whole call of the answering and of the calling side, and of one through the gateway. It wants a C compiler, and a minute at most behind the
-# proofs of the crates.
+# written in pieces, of a whole call of the answering and of the calling side, and of one through the gateway. It wants a
+# C compiler, and a minute at most behind the proofs of the crates.
 memory: all
 	tools/refuse-memory $(PROGRAM) samples/hello.hex page
 	tools/refuse-memory $(PROGRAM) samples/hello.hex page --pbm
@@ -53,6 +53,8 @@ bench: all bench/example bench/bench
 	bench/example
 	bench/bench bench/pages
 	bench/gateway $(PROGRAM) bench/pages/text-1728.mr
+	cd crates/fax_pagestore && $(RT) test > /dev/null
+	FAX_PAGE=bench/pages/text-1728.mr crates/fax_pagestore/out/fax_pagestore_tests tests::speed::times_pieces
 
 # Calls between two T.38 terminals of spandsp through the gateway: see docs/INTEROP.md. It wants a C compiler, libspandsp-dev
 # and libtiff-dev, and some minutes.

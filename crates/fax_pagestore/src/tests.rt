@@ -2,6 +2,7 @@
 //! written back.
 mod memory;
 mod samples;
+mod speed;
 
 use crate::{
     Coding, Format, PackedRows, Page, PageFault, PageReader, PageWriter, PlainRows, RowStore,
