@@ -1,8 +1,8 @@
 -- What one more datagram brings to a leg, and what a side makes of it.
-use Rattle.std.proofs.Common.{◌≡◌, ℕ, zero, suc, ◌+◌, ◌<◌, ◌↔◌, Bool, true, false, not, ◌&&◌, nat_lt, IsTrue, List, [], ◌∷◌, ◌++◌, length, drop, map, reverse, replicate, Option, Some, None, option_map, Result, Ok, Err, refl, sym, ◌∙◌, ap, subst, arith, length-append, if◌then◌else◌}
+use Rattle.std.proofs.Common.{◌≡◌, ℕ, zero, suc, ◌+◌, ◌↔◌, Bool, true, false, not, nat_lt, List, [], ◌∷◌, ◌++◌, length, drop, map, reverse, replicate, Option, Some, None, option_map, Result, Ok, Err, refl, sym, ◌∙◌, ap, subst, arith, length-append, if◌then◌else◌}
 use Rattle.std.proofs.Math.Seq.{drop-append_seam}
 use Rattle.std.proofs.lemmas.List.{reverse-append, length-reverse}
-use Rattle.std.specs.Result.{OnOk, OnErr, IsOk}
+use Rattle.std.specs.Result.{OnErr, IsOk}
 use Rattle.fax_udptl.specs.declared.fault.UdptlFault.{UdptlFault}
 use Rattle.fax_udptl.specs.Datagrams.{DatagramValue, datagram_of}
 use Rattle.fax_udptl.specs.Sending.{SenderValue, HasSent}
@@ -30,7 +30,7 @@ use Rattle.fax_gateway.specs.CallingLegs as calling_legs
 use Rattle.fax_gateway.specs.CallingLegs.{CallingLeg, is_idle, idle_after, decided_calling, asked_by}
 use Rattle.fax_gateway.specs.CalledLegs as called_legs
 use Rattle.fax_gateway.specs.CalledLegs.{CalledLeg, begun_core, comes_to, decided_called, hears}
-use Rattle.fax_gateway.specs.Reached.{CallingValue, IsCalling, HearsCalling, IsLeg, IsCalled}
+use Rattle.fax_gateway.specs.Reached.{CallingValue, IsCalling, HearsCalling, IsCalled}
 
 -- ONE MORE DATAGRAM
 newest_more : (arrived : List DatagramValue) (d : DatagramValue) (x : DecidedValue) → Decides arrived d x → newest_slots (d ∷ arrived) ≡ reverse (slots_in x) ++ newest_slots arrived

@@ -1,12 +1,12 @@
 -- What a side makes of a tick, and of the call that begins.
-use Rattle.std.proofs.Common.{◌≡◌, ℕ, Bool, List, [], ◌∷◌, length, Option, Some, None, option_map, refl, sym, ◌∙◌, ap, subst}
+use Rattle.std.proofs.Common.{◌≡◌, ℕ, List, [], length, Option, Some, None, option_map, refl, sym, ◌∙◌, ap, subst}
 use Rattle.fax_udptl.specs.Datagrams.{DatagramValue}
 use Rattle.fax_udptl.specs.Slots.{slots, newest_slots}
 use Rattle.fax_ifp.specs.Elements.{Slot}
 use Rattle.fax_runcodes.specs.declared.format.Format.{Format}
 use Rattle.fax_jobs.specs.Jobs.{JobValue}
 use Rattle.fax_answer.specs.declared.step.Step.{Step}
-use Rattle.fax_answer.specs.Replies.{ConfirmedPage, Waiting}
+use Rattle.fax_answer.specs.Replies.{Waiting}
 use Rattle.fax_answer.specs.Calls as answer_calls
 use Rattle.fax_answer.specs.Calls.{Answering, new_answering}
 use Rattle.fax_answer.specs.Reached as answer
@@ -17,7 +17,6 @@ use Rattle.fax_call.specs.Calls.{Calling, new_calling, started, Ticked, ticked}
 use Rattle.fax_call.specs.Reached as call
 use Rattle.fax_gateway.specs.declared.leg.Leg.{Leg}
 use Rattle.fax_gateway.specs.declared.called.CalledSide.{CalledSide}
-use Rattle.fax_gateway.specs.Legs.{sent}
 use Rattle.fax_gateway.specs.CallingLegs as calling_legs
 use Rattle.fax_gateway.specs.CallingLegs.{CallingLeg, packets_with, confirmed_by}
 use Rattle.fax_gateway.specs.CalledLegs as called_legs

@@ -1,13 +1,12 @@
 -- One more event leads a gateway on.
-use Rattle.std.proofs.Common.{◌≡◌, ℕ, max, Bool, true, false, not, ◌&&◌, List, ◌∷◌, Option, Some, None, refl, sym, ◌∙◌, ap, subst, if◌then◌else◌}
+use Rattle.std.proofs.Common.{◌≡◌, ℕ, max, Bool, true, false, not, ◌&&◌, List, Option, Some, None, refl, sym, ◌∙◌, ap, subst, if◌then◌else◌}
 use Rattle.fax_jobs.specs.Books.{Book, closed}
 use Rattle.fax_jobs.specs.Pasts.{Step, new_past, after_steps}
-use Rattle.fax_answer.specs.Table.{Reading, Question}
-use Rattle.fax_answer.specs.Confirmation.{IsRead}
+use Rattle.fax_answer.specs.Table.{Reading}
 use Rattle.fax_call.specs.Writings.{Writing}
 use Rattle.fax_gateway.specs.declared.called.CalledSide.{CalledSide}
 use Rattle.fax_gateway.specs.Events.{Event, FromCalling, clock}
-use Rattle.fax_gateway.specs.CallingLegs.{CallingLeg, idle_after, calling_after, calling_leg, decided_calling, question}
+use Rattle.fax_gateway.specs.CallingLegs.{CallingLeg, idle_after, calling_after, calling_leg, decided_calling}
 use Rattle.fax_gateway.specs.Sides.{book_of, ends_if, sides}
 use Rattle.fax_gateway.specs.Reached.{IsCalling, IsCalled, heard_on, HearsCalling, GatewayValue, IsReachedBy, HearsFrom}
 

@@ -1,23 +1,23 @@
 -- A tick leads a gateway on: what the book hears of the calling leg, the job that is sent, and how the called leg is served.
-use Rattle.std.proofs.Common.{◌≡◌, ℕ, max, Bool, true, false, is_some, List, [], ◌∷◌, Option, Some, None, option_map, refl, sym, ◌∙◌, ap, subst, if◌then◌else◌}
+use Rattle.std.proofs.Common.{◌≡◌, ℕ, max, Bool, true, false, List, ◌∷◌, Option, Some, None, refl, sym, ◌∙◌, ap, subst, if◌then◌else◌}
 use Rattle.fax_jobs.specs.declared.outcome.Outcome.{Outcome}
 use Rattle.fax_jobs.specs.declared.report.Report.{Report}
 use Rattle.fax_jobs.specs.Jobs.{JobValue}
-use Rattle.fax_jobs.specs.Books.{Book, taken, ended, report_of}
+use Rattle.fax_jobs.specs.Books.{Book, taken, ended}
 use Rattle.fax_jobs.specs.Pasts as pasts
 use Rattle.fax_jobs.specs.Pasts.{Step, Sends, Past, new_past, sent_if, after_steps}
 use Rattle.fax_answer.specs.Replies.{ConfirmedPage}
 use Rattle.fax_call.specs.declared.procedure.Procedure.{Procedure}
 use Rattle.fax_call.specs.declared.state.State.{State}
 use Rattle.fax_call.specs.Writings.{Writing}
-use Rattle.fax_call.specs.Calls.{Calling, Ticked}
+use Rattle.fax_call.specs.Calls.{Ticked}
 use Rattle.fax_call.specs.Delivery.{is_over}
 use Rattle.fax_call.specs.Table.{Counts}
 use Rattle.fax_gateway.specs.declared.called.CalledSide.{CalledSide}
 use Rattle.fax_gateway.specs.Events.{Event, Tick, Given, clock}
 use Rattle.fax_gateway.specs.CallingLegs.{CallingLeg, answers, confirmed_by, calling_after, calling_leg, told_calling}
-use Rattle.fax_gateway.specs.CalledLegs.{CalledLeg, is_free, core_left, begun_leg, calls, outcome_of, with_tick, leg_ticked, told_by, told_called, outcome_told, delivered_told, report_by, told_report}
-use Rattle.fax_gateway.specs.Sides.{Sides, book_of, confirms_if, ends_if, heard_in_tick, leg_of, sends, sends_if, enters, serves, sides, in_tick}
+use Rattle.fax_gateway.specs.CalledLegs.{CalledLeg, is_free, core_left, begun_leg, calls, outcome_of, with_tick, told_by, told_called, report_by, told_report}
+use Rattle.fax_gateway.specs.Sides.{Sides, book_of, confirms_if, ends_if, heard_in_tick, leg_of, sends, enters, serves, sides, in_tick}
 use Rattle.fax_gateway.specs.Reports.{job_sent, HaveStates}
 use Rattle.fax_gateway.specs.Reached.{HasNumber, confirmed_if, closed_if, confirmed_on, ended_on, ticked_on, IsCalling, IsCalled, TicksOn, Begins, outcome_kept, report_if, ended_with, ended_if, GatewayValue, IsReachedBy}
 use Rattle.fax_gateway.proofs.InCalls.{heard_sends}

@@ -1,4 +1,4 @@
-use Rattle.std.proofs.Common.{◌≡◌, Option, refl, subst}
+use Rattle.std.proofs.Common.{Option, refl, subst}
 use Rattle.fax_jobs.specs.Jobs.{JobValue}
 use Rattle.fax_gateway.specs.CalledLegs.{begun_leg, core_left}
 use Rattle.fax_gateway.specs.Reached.{Begins}

@@ -1,4 +1,4 @@
-use Rattle.std.proofs.Common.{◌≡◌, ℕ, Option, refl, sym, ◌∙◌, subst, rules}
+use Rattle.std.proofs.Common.{◌≡◌, ℕ, Option, refl, sym, subst, rules}
 use Rattle.fax_udptl.specs.Taking.{Takes, slots_in}
 use Rattle.fax_call.specs.declared.state.State.TheVariants.{Idle}
 use Rattle.fax_call.specs.Writings.{Writing}

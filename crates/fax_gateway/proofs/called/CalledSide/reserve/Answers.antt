@@ -1,4 +1,4 @@
-use Rattle.std.proofs.Common.{◌≡◌, ap}
+use Rattle.std.proofs.Common.{ap}
 use Rattle.fax_call.specs.Reached as call
 use Rattle.fax_gateway.specs.declared.called.CalledSide.{CalledSide}
 use Rattle.fax_gateway.proofs.Serving.{side_keeps}

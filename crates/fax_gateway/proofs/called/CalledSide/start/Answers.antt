@@ -1,4 +1,3 @@
-use Rattle.std.proofs.Common.{◌≡◌, refl}
 use Rattle.fax_gateway.specs.declared.called.CalledSide.{CalledSide}
 use Rattle.fax_gateway.proofs.Serving.{side_starts}
 use Rattle.fax_gateway.proofs.called.CalledSide.start.Goals as goal

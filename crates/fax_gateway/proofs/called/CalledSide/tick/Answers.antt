@@ -1,4 +1,3 @@
-use Rattle.std.proofs.Common.{◌≡◌, refl}
 use Rattle.fax_gateway.specs.declared.called.CalledSide.{CalledSide}
 use Rattle.fax_gateway.proofs.Serving.{side_ticks_on}
 use Rattle.fax_gateway.proofs.called.CalledSide.tick.Goals as goal

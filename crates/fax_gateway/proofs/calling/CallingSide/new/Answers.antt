@@ -1,4 +1,3 @@
-use Rattle.std.proofs.Common.{refl}
 use Rattle.fax_udptl.specs.Slots.{slots, newest_slots}
 use Rattle.fax_gateway.proofs.calling.CallingSide.new.Goals as goal
 

@@ -1,6 +1,5 @@
 use Rattle.std.proofs.Common.{refl, sym, subst}
 use Rattle.fax_udptl.specs.Slots.{slots, newest_slots}
-use Rattle.fax_gateway.specs.CallingLegs.{CallingLeg}
 use Rattle.fax_gateway.specs.Reached.{CallingValue, IsCalling, answering_of, arrived_on}
 use Rattle.fax_gateway.proofs.calling.CallingSide.ring.Goals as goal
 

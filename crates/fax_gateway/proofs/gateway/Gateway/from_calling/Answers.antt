@@ -1,5 +1,4 @@
-use Rattle.std.proofs.Common.{◌≡◌, ℕ, true, false, Bool, not, ◌&&◌, Option, refl, sym, ◌∙◌, ap, subst}
-use Rattle.fax_call.specs.Writings.{Writing}
+use Rattle.std.proofs.Common.{ℕ, true, false, Bool, not, ◌&&◌, Option, refl, sym, ◌∙◌, ap, subst}
 use Rattle.fax_gateway.specs.CallingLegs.{CallingLeg, calling_leg, idle_after}
 use Rattle.fax_gateway.specs.Reached.{GatewayValue, IsCalling, IsReachedBy, HearsCalling}
 use Rattle.fax_gateway.proofs.Steps.{hears_from}

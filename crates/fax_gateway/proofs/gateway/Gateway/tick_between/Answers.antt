@@ -1,5 +1,4 @@
-use Rattle.std.proofs.Common.{◌≡◌, ℕ, max, Option, Some, refl, sym, ◌∙◌, ap, subst}
-use Rattle.fax_jobs.specs.Jobs.{JobValue}
+use Rattle.std.proofs.Common.{◌≡◌, ℕ, max, Option, refl, sym, ◌∙◌, ap, subst}
 use Rattle.fax_jobs.specs.Books.{Book, taken}
 use Rattle.fax_gateway.specs.declared.called.CalledSide.{CalledSide}
 use Rattle.fax_gateway.specs.Events.{clock}
