@@ -1,18 +1,207 @@
 //! A wire over memory, for tests.
-ghost use Rattle.std.specs.Prelude.{◌≡◌, ◌+◌, ◌≤◌, length, min, IfSome};
-ghost use Rattle.fax_gateway.specs.Wires.{greatest_count};
+ghost use Rattle.std.specs.Prelude.{◌≡◌, ◌+◌, ◌<◌, ◌≤◌, ℕ, List, [], ◌∷◌, ◌++◌, Option, Some, None, IfOk, IfSome, MatchOption, length, take, reverse, min, cond};
+ghost use Rattle.fax_gateway.specs.Wires.{Grows, failures_after, greatest_count, receipt_of};
 
 use crate::side::Side;
 use crate::wire::{Wire, WireFault};
 use fax_bits::NoMemory;
 use std::alloc::Global;
+use std::marker::Model;
 
-/// A datagram that comes in a turn, or that was sent.
+/// The most octets that are held.
+const MOST_OCTETS: usize = 320;
+
+/// At most 320 octets, in place.
+#[derive(Drop)]
+pub(crate) struct ShortOctets {
+    octets: [u8; 320],
+    count: usize,
+}
+
+impl Model for ShortOctets {
+    ghost Value = { List ℕ };
+
+    ghost view = { λ s. take s.count s.octets };
+
+    ghost invariant = { λ s. s.count ≤ 320 };
+}
+
+impl ShortOctets {
+    pub fn new() -> Self
+        ensures { result ≡ [] }
+    {
+        ShortOctets {
+            octets: [0; 320],
+            count: 0,
+        }
+    }
+
+    /// These octets, where they are not more than 320.
+    pub fn of(octets: &[u8]) -> Option<Self>
+        ensures { IfSome result (λ held. held ≡ octets.now) }
+    {
+        if octets.len() > MOST_OCTETS {
+            return None;
+        }
+        let mut held = [0; MOST_OCTETS];
+        held[..octets.len()].copy_from_slice(octets);
+        Some(ShortOctets {
+            octets: held,
+            count: octets.len(),
+        })
+    }
+
+    /// Puts an octet behind these, where there is room.
+    pub fn push(&mut self, octet: u8) {
+        if self.count < MOST_OCTETS {
+            self.octets[self.count] = octet;
+            self.count += 1;
+        }
+    }
+
+    /// The first of these.
+    pub fn cut(&self, count: usize) -> Self {
+        ShortOctets {
+            octets: self.octets,
+            count: count.min(self.count),
+        }
+    }
+
+    /// These with one of them set.
+    pub fn with(&self, i: usize, octet: u8) -> Self {
+        let mut octets = self.octets;
+        if i < MOST_OCTETS {
+            octets[i] = octet;
+        }
+        ShortOctets {
+            octets,
+            count: self.count,
+        }
+    }
+
+    pub fn len(&self) -> usize {
+        self.count
+    }
+
+    pub fn as_slice(&self) -> &[u8]
+        ensures { result.now ≡ self.now }
+    {
+        &self.octets[..self.count]
+    }
+}
+
+/// A datagram that comes in a turn, or that was given or sent in it.
 #[derive(Drop)]
 pub(crate) struct OnWire {
-    pub side: Side,
     pub turn: u32,
-    pub octets: Vec<u8>,
+    pub side: Side,
+    pub octets: ShortOctets,
+}
+
+impl Model for OnWire {
+    ghost use Rattle.fax_gateway.specs.Wires.{Handed};
+
+    ghost Value = { Handed };
+
+    ghost view = { λ on. record { side = on.side; octets = on.octets } };
+}
+
+impl OnWire {
+    /// A datagram of a turn, where it can be held.
+    pub fn of(turn: u32, side: Side, octets: &[u8]) -> Option<Self>
+        ensures { IfSome result (λ on. on ≡ record { side = side; octets = octets.now }) }
+    {
+        let octets = ShortOctets::of(octets)?;
+        Some(OnWire { turn, side, octets })
+    }
+
+    pub fn is_like(&self, other: &OnWire) -> bool {
+        self.turn == other.turn
+            && self.side == other.side
+            && self.octets.as_slice() == other.octets.as_slice()
+    }
+}
+
+/// What a receive answered.
+#[derive(Drop)]
+struct Received {
+    side: Side,
+    came: Option<ShortOctets>,
+    failed: bool,
+}
+
+impl Model for Received {
+    ghost use Rattle.fax_gateway.specs.Wires.{Receipt, Came, Nothing, Failed};
+    ghost use Rattle.std.specs.Prelude.{cond, option_map, unwrap_or};
+
+    ghost Value = { Receipt };
+
+    ghost view = { λ r. cond r.failed (Failed r.side) (unwrap_or (option_map (Came r.side) r.came) (Nothing r.side)) };
+}
+
+impl Received {
+    /// What a receive on a leg answered, where a datagram that came can be held.
+    fn of(side: Side, buffer: &[u8], answer: &Result<Option<usize>, WireFault>) -> Option<Self>
+        requires { IfOk answer.now (λ came. IfSome came (λ count. count ≤ length buffer.now)) }
+        ensures { IfSome result (λ received. received ≡ receipt_of side buffer.now answer.now) }
+    {
+        match *answer {
+            Ok(Some(count)) => {
+                let came = ShortOctets::of(&buffer[..count])?;
+                Some(Received {
+                    side,
+                    came: Some(came),
+                    failed: false,
+                })
+            }
+            Ok(None) => Some(Received {
+                side,
+                came: None,
+                failed: false,
+            }),
+            Err(WireFault) => Some(Received {
+                side,
+                came: None,
+                failed: true,
+            }),
+        }
+    }
+}
+
+/// What went over a wire, the oldest first, until something could not be held.
+#[derive(Drop)]
+struct Told<T> {
+    items: Vec<T>,
+    is_whole: bool,
+}
+
+impl<T> Model for Told<T> {
+    ghost Value = { Option (List T) };
+
+    ghost view = { λ told. cond told.is_whole (Some (reverse told.items.items)) None };
+}
+
+impl<T: Drop> Told<T> {
+    /// Nothing, with the memory for so many.
+    fn with_room(alloc: Global, room: usize) -> Result<Self, NoMemory> {
+        Ok(Told {
+            items: Vec::with_capacity(alloc, room)?,
+            is_whole: true,
+        })
+    }
+
+    /// One more is told, where it can be held.
+    fn note(&mut self, item: Option<T>)
+        ensures { MatchOption item (self.new ≡ None) (λ item. Grows (item ∷ []) self.old self.new) }
+    {
+        let Some(item) = item else {
+            self.is_whole = false;
+            return;
+        };
+        if self.items.push(item).is_err() {
+            self.is_whole = false;
+        }
+    }
 }
 
 /// Calls that fail: from this on, so many of them.
@@ -73,14 +262,14 @@ impl Line {
     }
 }
 
-/// A wire over memory: what comes, by leg and turn, what was sent, and which receives and sends fail, counted from 0. A
-/// receive that fails brings nothing in its turn.
+/// A wire over memory, which tells what goes over it: what comes, by leg and turn, what was sent, and which receives and
+/// sends fail, counted from 0. A receive that fails brings nothing in its turn.
 #[derive(Drop)]
 pub(crate) struct ListWire {
-    alloc: Global,
     calling: Line,
     called: Line,
-    sent: Vec<OnWire>,
+    received: Told<Received>,
+    sent: Told<OnWire>,
     failing_receives: Fails,
     failing_sends: Fails,
     receives: u32,
@@ -91,26 +280,31 @@ pub(crate) struct ListWire {
 }
 
 impl ListWire {
-    /// A wire on which nothing comes.
-    pub fn new(alloc: Global, failing_receives: Fails, failing_sends: Fails) -> Self {
-        ListWire {
-            alloc,
+    /// A wire on which nothing comes. It takes memory for 128 receives and 64 sends; more take more.
+    pub fn new(
+        alloc: Global,
+        failing_receives: Fails,
+        failing_sends: Fails,
+    ) -> Result<Self, NoMemory> {
+        let received = Told::with_room(alloc, 128)?;
+        let sent = Told::with_room(alloc, 64)?;
+        Ok(ListWire {
             calling: Line::new(alloc),
             called: Line::new(alloc),
-            sent: Vec::new(alloc),
+            received,
+            sent,
             failing_receives,
             failing_sends,
             receives: 0,
             sends: 0,
             failures: 0,
             room: 0,
-        }
+        })
     }
 
     /// A datagram comes, behind those that come before.
-    pub fn put(&mut self, side: Side, turn: u32, octets: Vec<u8>) -> Result<(), NoMemory> {
-        let datagram = OnWire { side, turn, octets };
-        let line = match side {
+    pub fn put(&mut self, datagram: OnWire) -> Result<(), NoMemory> {
+        let line = match datagram.side {
             Side::Calling => &mut self.calling,
             Side::Called => &mut self.called,
         };
@@ -128,36 +322,39 @@ impl ListWire {
         self.room
     }
 
-    /// What was sent, in order.
+    /// What was sent, in order, in the turns that receives ended.
     pub fn sent(&self) -> &[OnWire] {
-        self.sent.as_slice()
+        self.sent.items.as_slice()
     }
 
-    fn keep(&mut self, side: Side, octets: &[u8]) -> Result<(), NoMemory>
-        ensures { self.new.failures ≡ self.old.failures }
+    /// What is received next on a leg.
+    fn next(&mut self, side: Side, buffer: &mut [u8]) -> Result<Option<usize>, WireFault>
+        ensures fits { IfOk result (λ came. IfSome came (λ count. count ≤ length buffer.new)) }
+        ensures failures { self.new.failures ≡ failures_after self.old.failures result }
+        ensures received { self.new.received ≡ self.old.received }
+        ensures sent { self.new.sent ≡ self.old.sent }
     {
-        let mut kept = Vec::new(self.alloc);
-        kept.extend_from_slice(octets)?;
-        self.sent.push(OnWire {
-            side,
-            turn: 0,
-            octets: kept,
-        })?;
-        Ok(())
-    }
-
-    fn end_turn(&mut self, side: Side)
-        ensures { self.new.failures ≡ self.old.failures }
-    {
-        match side {
-            Side::Calling => self.calling.end_turn(),
-            Side::Called => self.called.end_turn(),
+        let fails = self.failing_receives.has(self.receives);
+        self.receives = self.receives.saturating_add(1);
+        match (side, fails) {
+            (Side::Calling, false) => Ok(self.calling.receive(buffer)),
+            (Side::Called, false) => Ok(self.called.receive(buffer)),
+            (Side::Calling, true) => {
+                self.calling.end_turn();
+                Err(self.fail())
+            }
+            (Side::Called, true) => {
+                self.called.end_turn();
+                Err(self.fail())
+            }
         }
     }
 
     /// One more call failed.
     fn fail(&mut self) -> WireFault
-        ensures { self.new.failures ≡ min (self.old.failures + 1) greatest_count }
+        ensures failures { self.new.failures ≡ min (self.old.failures + 1) greatest_count }
+        ensures received { self.new.received ≡ self.old.received }
+        ensures sent { self.new.sent ≡ self.old.sent }
     {
         self.failures = self.failures.saturating_add(1);
         WireFault
@@ -165,31 +362,21 @@ impl ListWire {
 }
 
 impl Wire for ListWire {
-    ghost use Rattle.std.specs.Prelude.{None};
-
-    ghost known = { λ wire. record { failures = wire.failures; received = None; sent = None } };
+    ghost known = { λ wire. record { failures = wire.failures; received = wire.received; sent = wire.sent } };
 
     fn receive(&mut self, side: Side, buffer: &mut [u8]) -> Result<Option<usize>, WireFault> {
         self.room = buffer.len();
-        let fails = self.failing_receives.has(self.receives);
-        self.receives = self.receives.saturating_add(1);
-        if fails {
-            self.end_turn(side);
-            return Err(self.fail());
-        }
-        match side {
-            Side::Calling => Ok(self.calling.receive(buffer)),
-            Side::Called => Ok(self.called.receive(buffer)),
-        }
+        let answer = self.next(side, buffer);
+        self.received.note(Received::of(side, buffer, &answer));
+        answer
     }
 
     fn send(&mut self, side: Side, octets: &[u8]) -> Result<(), WireFault> {
+        let turn = self.called.turn.saturating_sub(1);
+        self.sent.note(OnWire::of(turn, side, octets));
         let fails = self.failing_sends.has(self.sends);
         self.sends = self.sends.saturating_add(1);
-        if self.keep(side, octets).is_err() || fails {
-            return Err(self.fail());
-        }
-        Ok(())
+        if fails { Err(self.fail()) } else { Ok(()) }
     }
 }
 

@@ -1,9 +1,13 @@
 //! Runs of turns over a wire.
-use super::{BEGINS, COMES, DELIVERED, Event, GOES, zeros_between};
+use super::call::{
+    COMES, Change, DELIVERED, SENDS, TURNS, gateway_of, gives, is_whole_call, octets_of,
+};
+use super::refused;
 use crate::list_wire::{Fails, ListWire, OnWire};
-use crate::{Driven, Gateway, Side, Wire, drive};
+use crate::{Driven, Gateway, drive};
 use fax_bits::NoMemory;
-use fax_pagestore::{PlainRows, RowStore};
+use fax_jobs::Report;
+use fax_pagestore::PlainRows;
 use std::alloc::Global;
 use std::process::Abort;
 use std::test::Fail;
@@ -11,34 +15,26 @@ use std::test::Fail;
 /// A run, and what it comes to.
 #[derive(Clone, Copy)]
 struct Run {
-    /// Whether what the scripts of a whole call hand in comes between the ticks.
+    /// Whether what comes in a whole call does.
     is_call: bool,
+    /// Whether all is sent that is given in a whole call.
+    delivers: bool,
     failing_receives: Fails,
     failing_sends: Fails,
     rings: &'static [u32],
-    turns: u32,
     driven: Driven,
 }
 
-/// How many turns a whole call has.
-const TURNS: u32 = 55;
-
-/// How many receives: ten bring a datagram, and two in each turn none.
-const RECEIVES: u32 = 10 + 2 * TURNS;
-
-/// How many datagrams are sent, on the calling and on the called leg.
-const SENDS: u32 = 7 + 49;
-
-/// The scripts of a whole call on both legs.
-const SCRIPTS: &[&[Event]] = &[COMES, BEGINS, GOES];
+/// How many receives a whole call has: some bring a datagram, and two in each turn none.
+const RECEIVES: u32 = COMES.len() as u32 + 2 * TURNS;
 
 /// A whole call.
 const CALL: Run = Run {
     is_call: true,
+    delivers: true,
     failing_receives: Fails::NONE,
     failing_sends: Fails::NONE,
     rings: &[0],
-    turns: TURNS,
     driven: Driven {
         turns: TURNS,
         rings_refused: 0,
@@ -49,51 +45,17 @@ const CALL: Run = Run {
     },
 };
 
-/// All receives fail: the last 100 are those of 50 turns.
-const DEAF: Run = Run {
+/// Nobody calls, in 1000 turns.
+const STILL: Run = Run {
     is_call: false,
-    failing_receives: Fails::ALL,
+    delivers: false,
+    failing_receives: Fails::NONE,
     failing_sends: Fails::NONE,
     rings: &[],
-    turns: 1000,
-    driven: Driven {
-        turns: 50,
-        rings_refused: 0,
-        events_refused: 0,
-        sends_failed: 0,
-        receives_failed: 100,
-        stopped: true,
-    },
-};
-
-/// All sends fail, and nobody answers: three datagrams, then two every 3,040 ms, and two where T1 is due.
-const MUTE: Run = Run {
-    is_call: false,
-    failing_receives: Fails::NONE,
-    failing_sends: Fails::ALL,
-    rings: &[0],
-    turns: 1000,
     driven: Driven {
         turns: 1000,
         rings_refused: 0,
         events_refused: 0,
-        sends_failed: 3 + 2 * 11 + 2,
-        receives_failed: 0,
-        stopped: false,
-    },
-};
-
-/// It rings once more while the call is on.
-const RINGS_TWICE: Run = Run {
-    is_call: true,
-    failing_receives: Fails::NONE,
-    failing_sends: Fails::NONE,
-    rings: &[0, 1],
-    turns: TURNS,
-    driven: Driven {
-        turns: TURNS,
-        rings_refused: 1,
-        events_refused: 0,
         sends_failed: 0,
         receives_failed: 0,
         stopped: false,
@@ -101,183 +63,194 @@ const RINGS_TWICE: Run = Run {
 };
 
 #[test]
-fn runs_come_to_this(rt: HostRuntime) -> Result<(), Fail> {
-    for run in [DEAF, MUTE, RINGS_TWICE] {
-        comes_to(&rt, rt.alloc(), run)?;
-    }
-    Ok(())
+fn runs_over_a_broken_wire(rt: HostRuntime) {
+    // all receives fail: the last 100 are those of 50 turns
+    let mut deaf = STILL;
+    deaf.failing_receives = Fails::ALL;
+    deaf.driven.turns = 50;
+    deaf.driven.receives_failed = 100;
+    deaf.driven.stopped = true;
+    comes_to(&rt, rt.alloc(), deaf, 1000);
+    // all sends fail, and nobody answers: three datagrams, then two every 3,040 ms, and two where T1 is due
+    let mut mute = STILL;
+    mute.failing_sends = Fails::ALL;
+    mute.rings = &[0];
+    mute.driven.sends_failed = 3 + 2 * 11 + 2;
+    comes_to(&rt, rt.alloc(), mute, 1000);
 }
 
 #[test]
-fn a_page_goes_over_a_wire(rt: HostRuntime) -> Result<(), Fail> {
-    delivers(&rt, rt.alloc(), CALL)?;
-    Ok(())
+fn a_page_goes_over_a_wire(rt: HostRuntime) {
+    comes_to(&rt, rt.alloc(), CALL, TURNS);
 }
 
 #[test]
-fn each_receive_fails(rt: HostRuntime) -> Result<(), Fail> {
-    for from in 0..RECEIVES {
-        comes_to(&rt, rt.alloc(), without_receive(from))?;
-    }
-    Ok(())
-}
-
-#[test]
-fn each_send_fails(rt: HostRuntime) -> Result<(), Fail> {
-    for from in 0..SENDS {
-        delivers(&rt, rt.alloc(), without_send(from))?;
-    }
-    Ok(())
-}
-
-/// The call with a receive that fails, which is counted.
-fn without_receive(from: u32) -> Run {
+fn a_ring_while_a_call_is_on(rt: HostRuntime) {
     let mut run = CALL;
-    run.failing_receives = Fails { from, count: 1 };
+    run.rings = &[0, 1];
+    run.driven.rings_refused = 1;
+    comes_to(&rt, rt.alloc(), run, TURNS);
+}
+
+#[test]
+fn each_receive_fails(rt: HostRuntime) {
+    let mut run = CALL;
+    run.delivers = false;
     run.driven.receives_failed = 1;
-    run
+    for from in 0..RECEIVES {
+        run.failing_receives = Fails { from, count: 1 };
+        comes_to(&rt, rt.alloc(), run, TURNS);
+    }
 }
 
-/// The call with a send that fails, which is counted, and changes nothing else.
-fn without_send(from: u32) -> Run {
+#[test]
+fn each_send_fails(rt: HostRuntime) {
     let mut run = CALL;
-    run.failing_sends = Fails { from, count: 1 };
     run.driven.sends_failed = 1;
-    run
+    for from in 0..SENDS {
+        run.failing_sends = Fails { from, count: 1 };
+        comes_to(&rt, rt.alloc(), run, TURNS);
+    }
 }
 
-/// Makes a run. It fails unless it comes to what is told.
-fn comes_to(rt: &impl Abort, alloc: Global, run: Run) -> Result<(), NoMemory> {
-    let mut gateway: Gateway<PlainRows> = Gateway::new(alloc)?;
-    let mut wire = wire_of(alloc, run)?;
-    play(rt, alloc, &mut gateway, &mut wire, run)
+/// Makes a run of at most so many turns. It fails unless it comes to what is told.
+fn comes_to(rt: &impl Abort, alloc: Global, run: Run, turns: u32) {
+    let mut ends = Ends::new(rt, alloc, run);
+    ends.run(rt, alloc, run, turns);
 }
 
-/// Makes a run that delivers the page. It fails unless every datagram is handed over to be sent.
-fn delivers(rt: &impl Abort, alloc: Global, run: Run) -> Result<(), NoMemory> {
-    let mut gateway: Gateway<PlainRows> = Gateway::new(alloc)?;
-    let mut wire = wire_of(alloc, run)?;
-    play(rt, alloc, &mut gateway, &mut wire, run)?;
-    assert!(rt; gateway.report(0) == Some(DELIVERED));
-    is_delivered(rt, alloc, &wire)
+#[test]
+fn a_run_that_is_refused_memory(rt: HostRuntime) -> Result<(), Fail> {
+    println!(rt; "refused: {}", refused_in_a_run(&rt, rt.alloc()))?;
+    Ok(())
 }
 
-/// Makes a run over a wire. It fails unless it comes to what is told.
-fn play<S: RowStore, W: Wire>(
+/// Makes the run of a whole call. Where memory is refused, that alone is left out.
+fn refused_in_a_run(rt: &impl Abort, alloc: Global) -> &'static str {
+    let mut ends = Ends::new(rt, alloc, CALL);
+    let calls = ends.run_again(rt, alloc);
+    refused(rt, calls, ends.refused)
+}
+
+/// A gateway and the wire of a run. What is refused memory is asked for again once.
+#[derive(Drop)]
+struct Ends {
+    gateway: Gateway<PlainRows>,
+    wire: ListWire,
+    refused: u64,
+}
+
+impl Ends {
+    fn new(rt: &impl Abort, alloc: Global, run: Run) -> Self {
+        let (gateway, refused_gateways) = gateway_of(rt, alloc);
+        let (wire, refused_wires) = wire_of(rt, alloc, run);
+        Ends {
+            gateway,
+            wire,
+            refused: refused_gateways.saturating_add(refused_wires),
+        }
+    }
+
+    fn drive(&mut self, alloc: Global, rings: &[u32], turns: u32) -> Result<Driven, NoMemory> {
+        drive(alloc, &mut self.gateway, &mut self.wire, 0, rings, turns)
+    }
+
+    /// Makes the run. It fails unless it comes to what is told.
+    fn run(&mut self, rt: &impl Abort, alloc: Global, run: Run, turns: u32) {
+        assert!(rt; self.drive(alloc, run.rings, turns) == Ok(run.driven));
+        if run.delivers {
+            assert!(rt; self.delivers());
+            assert!(rt; self.wire.receives() == RECEIVES);
+            assert!(rt; self.wire.room() == 65_536);
+        }
+    }
+
+    /// Makes the run of a whole call, and says how many of its calls were refused memory. Where it is refused at once, nothing
+    /// has happened, and it is made again. It fails unless what is refused later is told and left out, and nothing else
+    /// differs.
+    fn run_again(&mut self, rt: &impl Abort, alloc: Global) -> u64 {
+        let mut calls = 0u64;
+        let mut driven = self.drive(alloc, CALL.rings, TURNS);
+        if driven == Err(NoMemory) {
+            assert!(rt; self.wire.receives() == 0 && self.wire.sent().is_empty());
+            calls = 1;
+            driven = self.drive(alloc, CALL.rings, TURNS);
+        }
+        let driven = driven.expect(rt, "a run");
+        assert!(rt; is_told(driven));
+        assert!(rt; self.is_left_out(rt, alloc, driven));
+        calls
+            .saturating_add(driven.rings_refused)
+            .saturating_add(driven.events_refused)
+    }
+
+    /// Whether the page was delivered, and each datagram handed over.
+    fn delivers(&self) -> bool {
+        self.gateway.report(0) == Some(DELIVERED) && is_whole_call(self.wire.sent())
+    }
+
+    /// Whether what was refused was left out, and nothing else: a ring, so that nothing was sent; or a datagram or a tick.
+    fn is_left_out(&self, rt: &impl Abort, alloc: Global, driven: Driven) -> bool {
+        let report = self.gateway.report(0);
+        match (driven.rings_refused, driven.events_refused) {
+            (0, 0) => self.delivers(),
+            (1, 0) => self.wire.sent().is_empty() && report.is_none(),
+            (0, 1) => is_without_one(rt, alloc, self.wire.sent(), report),
+            _ => false,
+        }
+    }
+}
+
+/// Whether a run tells nothing but what is refused otherwise than that of a whole call.
+fn is_told(driven: Driven) -> bool {
+    let mut otherwise = CALL.driven;
+    otherwise.rings_refused = driven.rings_refused;
+    otherwise.events_refused = driven.events_refused;
+    driven == otherwise
+}
+
+/// Whether this is given in a call without one of the datagrams that come, or without one of the ticks.
+fn is_without_one(
     rt: &impl Abort,
     alloc: Global,
-    gateway: &mut Gateway<S>,
-    wire: &mut W,
-    run: Run,
-) -> Result<(), NoMemory> {
-    let driven = drive(alloc, gateway, wire, 0, run.rings, run.turns)?;
-    assert!(rt; driven == run.driven);
-    Ok(())
-}
-
-/// Fails unless the call went over the wire, with room for any datagram.
-fn is_delivered(rt: &impl Abort, alloc: Global, wire: &ListWire) -> Result<(), NoMemory> {
-    let all = are_sent(alloc, wire.sent(), SCRIPTS)?;
-    assert!(rt; all);
-    assert!(rt; wire.receives() == RECEIVES);
-    assert!(rt; wire.room() == 65_536);
-    Ok(())
-}
-
-/// The wire of a run.
-fn wire_of(alloc: Global, run: Run) -> Result<ListWire, NoMemory> {
-    let mut wire = ListWire::new(alloc, run.failing_receives, run.failing_sends);
-    if run.is_call {
-        put_all(alloc, &mut wire, SCRIPTS)?;
-    }
-    Ok(wire)
-}
-
-/// Puts what scripts hand in on a wire: what happens between two ticks comes in the turn of the second.
-fn put_all(alloc: Global, wire: &mut ListWire, scripts: &[&[Event]]) -> Result<(), NoMemory> {
-    let mut turn = 0;
-    for script in scripts {
-        for event in *script {
-            put(alloc, wire, *event, turn)?;
-            turn = turn_behind(*event, turn);
+    given: &[OnWire],
+    report: Option<Report>,
+) -> bool {
+    for place in 0..COMES.len() {
+        if gives(rt, alloc, Change::WithoutDatagram(place), given, report) {
+            return true;
         }
     }
+    for turn in 0..TURNS {
+        if gives(rt, alloc, Change::WithoutTick(turn), given, report) {
+            return true;
+        }
+    }
+    false
+}
+
+/// The wire of a run, asked for again where it is refused, and how often it was.
+fn wire_of(rt: &impl Abort, alloc: Global, run: Run) -> (ListWire, u64) {
+    match wire_once(alloc, run) {
+        Ok(wire) => (wire, 0),
+        Err(NoMemory) => (wire_once(alloc, run).expect(rt, "a wire"), 1),
+    }
+}
+
+fn wire_once(alloc: Global, run: Run) -> Result<ListWire, NoMemory> {
+    let mut wire = ListWire::new(alloc, run.failing_receives, run.failing_sends)?;
+    let is_put = !run.is_call || put_all(&mut wire).is_ok();
+    if is_put { Ok(wire) } else { Err(NoMemory) }
+}
+
+/// What comes in a whole call comes on a wire.
+fn put_all(wire: &mut ListWire) -> Result<(), NoMemory> {
+    for (turn, side, head, zeros, tail) in COMES {
+        wire.put(OnWire {
+            turn: *turn,
+            side: *side,
+            octets: octets_of(*head, *zeros, *tail),
+        })?;
+    }
     Ok(())
-}
-
-/// Puts a datagram on a wire, where the event is one.
-fn put(alloc: Global, wire: &mut ListWire, event: Event, turn: u32) -> Result<(), NoMemory> {
-    let (side, head, zeros, tail) = match event {
-        Event::Calling(text) => (Side::Calling, text, 0, ""),
-        Event::CallingZeros(head, zeros, tail) => (Side::Calling, head, zeros, tail),
-        Event::Called(text) => (Side::Called, text, 0, ""),
-        _ => return Ok(()),
-    };
-    wire.put(side, turn, zeros_between(alloc, head, zeros, tail)?)
-}
-
-/// The turn behind an event that happens in this one.
-fn turn_behind(event: Event, turn: u32) -> u32 {
-    match event {
-        Event::Tick(..) | Event::Delivers(_) => turn.saturating_add(1),
-        Event::Ticks(_, count) => turn.saturating_add(u32::try_from(count).unwrap_or(u32::MAX)),
-        _ => turn,
-    }
-}
-
-/// Whether those were sent, and no others, that the ticks are to give.
-fn are_sent(alloc: Global, sent: &[OnWire], scripts: &[&[Event]]) -> Result<bool, NoMemory> {
-    let mut place = Some(0);
-    for script in scripts {
-        for event in *script {
-            place = place_behind(alloc, sent, *event, place)?;
-        }
-    }
-    Ok(place == Some(sent.len()))
-}
-
-/// The place behind what the ticks of an event give, where it was sent from this place on.
-fn place_behind(
-    alloc: Global,
-    sent: &[OnWire],
-    event: Event,
-    place: Option<usize>,
-) -> Result<Option<usize>, NoMemory> {
-    match event {
-        Event::Tick(_, calling, called) => {
-            let place = one_behind(alloc, sent, Side::Calling, calling, place)?;
-            one_behind(alloc, sent, Side::Called, called, place)
-        }
-        Event::Ticks(_, count) => Ok(behind(place, count as usize)),
-        Event::Delivers(_) => Ok(behind(place, 1)),
-        _ => Ok(place),
-    }
-}
-
-/// The place so many behind a place.
-fn behind(place: Option<usize>, count: usize) -> Option<usize> {
-    Some(place?.saturating_add(count))
-}
-
-/// The place behind a datagram of a leg that begins so, where it was sent there. There is none where the text is empty.
-fn one_behind(
-    alloc: Global,
-    sent: &[OnWire],
-    side: Side,
-    text: &str,
-    place: Option<usize>,
-) -> Result<Option<usize>, NoMemory> {
-    if text.is_empty() {
-        return Ok(place);
-    }
-    let wanted = zeros_between(alloc, text, 0, "")?;
-    let Some(at) = place else {
-        return Ok(None);
-    };
-    match sent.get(at) {
-        Some(datagram)
-            if datagram.side == side && datagram.octets.as_slice().starts_with(wanted.as_slice()) =>
-            { Ok(Some(at.saturating_add(1))) }
-        _ => Ok(None),
-    }
 }

@@ -1,0 +1,54 @@
+//! Hostile datagrams, each in place of one of a whole call.
+use super::call::{COMES, Change, Playing, octets_of};
+use crate::list_wire::ShortOctets;
+use fax_udptl::read;
+use std::alloc::Global;
+use std::process::Abort;
+
+#[test]
+fn hostile_datagrams(rt: HostRuntime) {
+    let alloc = rt.alloc();
+    let mut undisturbed = Playing::new(&rt, alloc);
+    undisturbed.play(&rt, Change::None);
+    for (place, (_, _, head, zeros, tail)) in COMES.iter().enumerate() {
+        let original = octets_of(*head, *zeros, *tail);
+        for i in 0..original.len() {
+            let cut = is_malformed(&rt, alloc, place, &original.cut(i), &undisturbed);
+            assert!(rt; cut);
+            is_malformed(&rt, alloc, place, &original.with(i, 0x00), &undisturbed);
+            is_malformed(&rt, alloc, place, &original.with(i, 0xff), &undisturbed);
+        }
+    }
+}
+
+/// Whether octets in place of a datagram of the call are malformed. It fails unless the gateway bears them.
+fn is_malformed(
+    rt: &impl Abort,
+    alloc: Global,
+    place: usize,
+    octets: &ShortOctets,
+    undisturbed: &Playing,
+) -> bool {
+    let is_malformed = read(octets.as_slice()).is_err();
+    let bears = has_borne(
+        rt,
+        alloc,
+        Change::Instead(place, octets),
+        is_malformed,
+        undisturbed,
+    );
+    assert!(rt; bears);
+    is_malformed
+}
+
+fn has_borne(
+    rt: &impl Abort,
+    alloc: Global,
+    change: Change<'_>,
+    is_malformed: bool,
+    undisturbed: &Playing,
+) -> bool {
+    let mut playing = Playing::new(rt, alloc);
+    playing.play(rt, change);
+    playing.has_borne(is_malformed, undisturbed)
+}
