@@ -103,7 +103,8 @@ pub(super) enum Change<'a> {
     WithoutDatagram(usize),
     /// There is no tick in a turn.
     WithoutTick(u32),
-    /// These octets come in place of a datagram of those that come. Where they decide no slot, the datagram comes next.
+    /// These octets come in place of a datagram of those that come. Where they decide no slot, the datagram before it comes
+    /// again, which is late, and then the datagram itself.
     Instead(usize, &'a ShortOctets),
 }
 
@@ -226,12 +227,22 @@ impl Playing {
             Change::WithoutDatagram(left_out) => left_out != place,
             Change::Instead(of, octets) if of == place => {
                 self.is_taken = self.hear(rt, side, octets, turn);
-                !self.is_taken
+                !self.is_taken && self.is_late_before(rt, place, side, turn)
             }
             _ => true,
         };
         if comes && self.hear(rt, side, datagram, turn) {
             self.decided = self.decided.saturating_add(1);
+        }
+    }
+
+    /// Whether the datagram before one of a leg is late when it comes again, where there is one.
+    fn is_late_before(&mut self, rt: &impl Abort, place: usize, side: Side, turn: u32) -> bool {
+        match COMES.get(place.wrapping_sub(1)) {
+            Some((_, on, head, zeros, tail)) if *on == side => {
+                !self.hear(rt, side, &octets_of(*head, *zeros, *tail), turn)
+            }
+            _ => true,
         }
     }
 
