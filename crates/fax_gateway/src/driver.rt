@@ -48,7 +48,7 @@ impl Driver {
     pub fn new(alloc: Global) -> Result<Self, NoMemory>
         ensures { IfOk result (λ driver. HasMade [] driver) }
     {
-        let buffer = vec![in alloc; 0; MOST_OCTETS]?;
+        let buffer = buffer_of(alloc)?;
         Ok(Driver {
             buffer,
             failed_in_a_row: 0,
@@ -185,6 +185,11 @@ impl Driver {
             Err(WireFault) => self.sends_failed = self.sends_failed.saturating_add(1),
         }
     }
+}
+
+/// A buffer for one datagram.
+fn buffer_of(alloc: Global) -> Result<Vec<u8>, NoMemory> {
+    Ok(vec![in alloc; 0; MOST_OCTETS]?)
 }
 
 /// Hands a datagram of a leg on to the gateway. It answers whether it was accepted.
