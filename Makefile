@@ -13,9 +13,10 @@ all:
 test:
 	$(RT) ci
 
-# Refuses each allocation of a run in turn, both ways and in both codings, of a script, and each of a page that is read and
-# written in pieces, of a whole call of the answering and of the calling side, and of one through the gateway. It wants a
-# C compiler, and a minute at most behind the proofs of the crates.
+# Refuses each allocation of a run in turn, both ways and in both codings, of a script, of a page over sockets, and each of a
+# page that is read and written in pieces, of a whole call of the answering and of the calling side, of one through the
+# gateway, and of one that is driven over a wire. It wants a C compiler, and a minute at most behind the proofs of the
+# crates.
 memory: all
 	tools/refuse-memory $(PROGRAM) samples/hello.hex page
 	tools/refuse-memory $(PROGRAM) samples/hello.hex page --pbm
@@ -23,6 +24,7 @@ memory: all
 	tools/refuse-memory $(PROGRAM) samples/text-mr.hex page --coding mr
 	tools/refuse-memory $(PROGRAM) samples/text-mr.runs page --back --coding mr --fine --least 96
 	tools/refuse-memory $(PROGRAM) samples/call.trace trace
+	tools/refuse-memory $(PROGRAM) samples/hello.hex loop
 	cd crates/fax_pagestore && $(RT) test > /dev/null
 	tools/refuse-test-memory crates/fax_pagestore/out/fax_pagestore_tests tests::memory::a_page_that_is_refused_memory
 	cd crates/fax_answer && $(RT) test > /dev/null
@@ -31,6 +33,7 @@ memory: all
 	tools/refuse-test-memory crates/fax_call/out/fax_call_tests tests::memory::a_call_that_is_refused_memory
 	cd crates/fax_gateway && $(RT) test > /dev/null
 	tools/refuse-test-memory crates/fax_gateway/out/fax_gateway_tests tests::a_page_goes_through_the_gateway
+	tools/refuse-test-memory crates/fax_gateway/out/fax_gateway_tests tests::driving::a_run_that_is_refused_memory
 
 # Checks that the tables of code words are those that tools/code-tables makes of the words of ITU-T T.4. It wants
 # Python 3 and no `rt`.
