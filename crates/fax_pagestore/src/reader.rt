@@ -244,7 +244,12 @@ fn drop_front(octets: &mut Vec<u8>, n: usize)
     ensures { octets.new.items ≡ drop n octets.old.items }
 {
     let left = octets.len() - n;
-    octets.rotate_left(n);
+    if left <= n {
+        let (front, back) = octets.split_at_mut(n);
+        front[..left].copy_from_slice(back);
+    } else {
+        octets.rotate_left(n);
+    }
     octets.truncate(left);
 }
 
