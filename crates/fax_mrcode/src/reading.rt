@@ -2,7 +2,7 @@
 ghost use Rattle.std.specs.Prelude.{List, Bool, true, ℕ, Ok, Err, ◌⊎◌, ◌++◌, ◌+◌, ◌<◌, ◌≤◌, ◌≡◌, ◌≢◌, [], length, replicate, IfOk, IfErr, IfSome, IsNone, OnOk, OnErr, IsOk, IsTrue, ◌^◌, ◌/◌};
 ghost use Rattle.fax_bits.specs.Reading.{Place, Passes};
 ghost use Rattle.fax_runcodes.specs.Rows.{Elements, other};
-ghost use Rattle.fax_runcodes.specs.Painted.{painted, AreRising, colour_after_changes};
+ghost use Rattle.fax_runcodes.specs.Painted.{painted, AreRising};
 ghost use Rattle.fax_runcodes.specs.Spelling.{SpellsRun};
 ghost use Rattle.fax_runcodes.specs.declared.Colour.{Colour};
 ghost use Rattle.fax_mhcode.specs.declared.fault.LineFault.{LineFault};
