@@ -29,7 +29,7 @@ fn is_malformed(
     octets: &ShortOctets,
     undisturbed: &Playing,
 ) -> bool {
-    let is_malformed = read(octets.as_slice()).is_err();
+    let is_malformed = cannot_be_read(octets);
     let bears = has_borne(
         rt,
         alloc,
@@ -39,6 +39,10 @@ fn is_malformed(
     );
     assert!(rt; bears);
     is_malformed
+}
+
+fn cannot_be_read(octets: &ShortOctets) -> bool {
+    read(octets.as_slice()).is_err()
 }
 
 fn has_borne(
