@@ -12,18 +12,34 @@ pub(crate) enum LoopError {
 }
 
 impl From<NoMemory> for LoopError {
+    ghost use Rattle.std.specs.Prelude.{◌≡◌};
+    ghost use Rattle.fax_loop.specs.declared.loop_error.LoopError.TheVariants as loop_errors;
+
+    ghost from_gives = { λ _ e. e ≡ loop_errors.NoMemory };
+
     fn from(_: NoMemory) -> Self {
         LoopError::NoMemory
     }
 }
 
+/// A new gateway is neither busy nor short of numbers.
 impl From<RingFault> for LoopError {
+    ghost use Rattle.std.specs.Prelude.{◌≡◌};
+    ghost use Rattle.fax_loop.specs.declared.loop_error.LoopError.TheVariants as loop_errors;
+
+    ghost from_gives = { λ _ e. e ≡ loop_errors.NoMemory };
+
     fn from(_: RingFault) -> Self {
         LoopError::NoMemory
     }
 }
 
 impl From<io::Error> for LoopError {
+    ghost use Rattle.std.specs.Prelude.{◌≡◌};
+    ghost use Rattle.fax_loop.specs.declared.loop_error.LoopError.TheVariants as loop_errors;
+
+    ghost from_gives = { λ _ e. e ≡ loop_errors.Socket };
+
     fn from(_: io::Error) -> Self {
         LoopError::Socket
     }

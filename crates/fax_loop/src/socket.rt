@@ -3,17 +3,27 @@ ghost use Rattle.std.specs.Prelude.{◌≤◌, length, IfOk, IfSome};
 
 use std::io;
 use std::io::ErrorKind;
-use std::net::{Ipv4Addr, Net, UdpSocket};
+use std::net::{IpAddr, Ipv4Addr, Net, SocketAddr, UdpSocket};
 
 /// Two sockets of the loopback interface, each of which is the other's only peer.
 pub(crate) fn socket_pair<R: Net>(net: &R) -> io::Result<(UdpSocket, UdpSocket)> {
-    let here = UdpSocket::bind(net, (Ipv4Addr::LOCALHOST, 0))?;
-    let there = UdpSocket::bind(net, (Ipv4Addr::LOCALHOST, 0))?;
-    here.connect(there.local_addr()?)?;
-    there.connect(here.local_addr()?)?;
-    here.set_nonblocking(true)?;
-    there.set_nonblocking(true)?;
+    let here = loopback_socket(net)?;
+    let there = loopback_socket(net)?;
+    connect(&here, &there)?;
+    connect(&there, &here)?;
     Ok((here, there))
+}
+
+/// A socket of the loopback interface that does not wait.
+fn loopback_socket<R: Net>(net: &R) -> io::Result<UdpSocket> {
+    let socket = net.bind_udp(SocketAddr::new(IpAddr::V4(Ipv4Addr::LOCALHOST), 0))?;
+    socket.set_nonblocking(true)?;
+    Ok(socket)
+}
+
+/// Makes a socket the only peer of another.
+fn connect(socket: &UdpSocket, peer: &UdpSocket) -> io::Result<()> {
+    socket.connect(peer.local_addr()?)
 }
 
 /// Receives a datagram into the front of the buffer, and says how many octets it has. `None`: nothing has come.
