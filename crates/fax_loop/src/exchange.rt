@@ -1,6 +1,9 @@
 //! A call from machine to machine, through a gateway.
-ghost use Rattle.std.specs.Prelude.{IfOk, OnOk};
+ghost use Rattle.std.specs.Prelude.{List, IfOk, OnOk};
 ghost use Rattle.fax_call.specs.Following.{IsJobOfCall};
+ghost use Rattle.fax_call.specs.Writings.{Writing};
+ghost use Rattle.fax_gateway.specs.Events.{Event};
+ghost use Rattle.fax_gateway.specs.Reached.{IsReachedBy};
 ghost use Rattle.fax_loop.specs.Answers.{IsFirstReport};
 ghost use Rattle.fax_loop.specs.Kept.{IsDriven};
 
@@ -60,6 +63,15 @@ pub(crate) fn send_page<R: Net>(
     Ok(exchange.end())
 }
 
+/// A gateway that rings at moment 0.
+fn rung_gateway(alloc: Global) -> Result<Gateway<PackedRows>, LoopError>
+    ensures { IfOk result (λ gateway. (writes : Writing) → (trace : List Event) × IsReachedBy writes trace gateway) }
+{
+    let mut gateway = Gateway::new(alloc)?;
+    gateway.ring(0)?;
+    Ok(gateway)
+}
+
 impl Exchange {
     /// The machines and the gateway, which rings at moment 0.
     fn new<R: Net>(net: &R, alloc: Global, job: &Job<PackedRows>) -> Result<Self, LoopError>
@@ -68,12 +80,11 @@ impl Exchange {
     {
         let (caller, calling) = socket_pair(net)?;
         let (called, answerer) = socket_pair(net)?;
-        let mut gateway = Gateway::new(alloc)?;
-        gateway.ring(0)?;
-        let driver = Driver::new(alloc)?;
         let wire = UdpWire::new(calling, called)?;
         let caller = CallingMachine::new(alloc, caller, job)?;
         let answerer = AnsweringMachine::new(alloc, answerer)?;
+        let driver = Driver::new(alloc)?;
+        let gateway = rung_gateway(alloc)?;
         Ok(Exchange {
             caller,
             gateway,
