@@ -32,7 +32,7 @@ abbrev pub IsFirstReport : Option Report → Type 0
 IsFirstReport report = (writes : Writing) → IsWriting writes
     → (trace : List Event) × IsTrace writes trace × (report ≡ slice_get (book_of (sides writes trace)).reports 0)
 
--- How a run ends: the gateway reports the job, and the machine that it called confirmed these rows; it reports none; or
+-- How a run ends: the gateway reports the job, and these rows are told, of which nothing is said here; it reports none; or
 -- something is wrong with the input, or memory is wanted.
 pub data Outcome : Type 0 where
   Reports : (report : Report) → (rows : List Elements) → Outcome
@@ -60,7 +60,7 @@ status_of (Reports report rows) = job_status report.outcome
 status_of ReportsNone = 5
 status_of (Refuses fault) = fault_status fault
 
--- the line of the job, and of each row that was confirmed; or that of the fault
+-- the line of the job, and of each row that is told; or that of the fault
 abbrev pub IsTextOf : Outcome → List ℕ → Type 0
 IsTextOf (Reports report rows) text = (lines : List (List ℕ)) × TellRows lines rows × (text ≡ text_of_lines (job_line report ∷ lines))
 IsTextOf ReportsNone text = text ≡ []
