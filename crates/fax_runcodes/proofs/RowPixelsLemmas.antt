@@ -1,12 +1,12 @@
 -- The picture elements of a row, black run by black run.
-use Rattle.std.proofs.Common.{◌≡◌, ℕ, zero, suc, ◌+◌, ◌-◌, ◌*◌, ◌%◌, ◌<◌, ◌≤◌, Bool, true, false, List, [], ◌∷◌, ◌++◌, length, take, drop, get_or, map, replicate, length-append, ◌≢◌, refl, sym, ◌∙◌, ap, subst, arith, append_assoc}
+use Rattle.std.proofs.Common.{◌≡◌, ℕ, zero, suc, ◌+◌, ◌-◌, ◌*◌, ◌%◌, ◌<◌, ◌≤◌, Bool, true, false, List, [], ◌∷◌, ◌++◌, length, take, drop, get_or, map, replicate, length-append, ◌≢◌, inl, inr, refl, sym, ◌∙◌, ap, subst, arith, append_assoc}
 use Rattle.std.proofs.lemmas.List.{take_more, take_at, drop_at, take_all, get_or-take, length-take-le, length-replicate, replicate-append-replicate, append-nil, map-append, take-map, drop-map}
 use Rattle.fax_bits.specs.Bits.{bits_of}
 use Rattle.fax_bits.proofs.CutLemmas.{bits_of-zeros}
 use Rattle.fax_runcodes.specs.declared.Colour.{Colour}
 use Rattle.fax_runcodes.specs.declared.Colour.TheVariants.{White, Black}
 use Rattle.fax_runcodes.specs.Pixels.{pixel}
-use Rattle.fax_runcodes.specs.Rows.{Elements, other}
+use Rattle.fax_runcodes.specs.Rows.{Elements, IsWidth, other}
 use Rattle.fax_runcodes.specs.Painted.{painted, AreRising}
 use Rattle.fax_runcodes.proofs.PaintedLemmas.{after_even, after_odd, painted-same, painted-other, length-painted_all, rising_le, rising_push}
 
@@ -141,3 +141,9 @@ last_pixels bits new ps i end last even r so_far is =
     is ∙ set_is_blackened bits (painted White 0 (take i ps) end) a end so_far
     ∙ ap (map pixel) (painted_black (take i ps) a end (rising_front 0 ps end i here r) (ap (λ n. n % 2) size ∙ even) (omega arith))
     ∙ ap (λ (qs : List ℕ). map pixel (painted White 0 qs end)) all
+
+-- ---- the octets of a row come in fours
+pub in_fours : (octets width : ℕ) → IsWidth width → width ≡ 8 * octets → octets % 4 ≡ 0
+in_fours octets width (inl is) e = omega arith
+in_fours octets width (inr (inl is)) e = omega arith
+in_fours octets width (inr (inr is)) e = omega arith

@@ -3,6 +3,7 @@ pub mod Entries
 pub mod FaultNumbers
 pub mod Laws
 pub mod Lookups
+pub mod Masks
 pub mod Painted
 pub mod Pairs
 pub mod Pixels

@@ -1,10 +1,10 @@
-use Rattle.std.proofs.Common.{◌≡◌, ◌+◌, ◌*◌, ◌-◌, ◌<◌, length, get_or, take, map, replicate, sym, ◌∙◌, ap, arith, refl}
+use Rattle.std.proofs.Common.{◌≡◌, ◌+◌, ◌*◌, ◌-◌, ◌%◌, ◌<◌, length, get_or, take, map, replicate, sym, ◌∙◌, ap, arith, refl}
 use Rattle.fax_bits.specs.Bits.{bits_of}
 use Rattle.fax_runcodes.specs.declared.Colour.TheVariants.{White}
 use Rattle.fax_runcodes.specs.Pixels.{pixel}
 use Rattle.fax_runcodes.specs.Painted.{painted}
 use Rattle.fax_runcodes.proofs.PaintedLemmas.{length-painted_all}
-use Rattle.fax_runcodes.proofs.RowPixelsLemmas.{no_pixels, pair_of_pixels, last_pixels, rising_next, rising_before_end}
+use Rattle.fax_runcodes.proofs.RowPixelsLemmas.{no_pixels, pair_of_pixels, last_pixels, rising_next, rising_before_end, in_fours}
 use Rattle.fax_runcodes.proofs.row.RowRef.put_pixels.Goals as goal
 
 pub loop-i-init : goal.loop-i-init
@@ -28,6 +28,12 @@ set_bits-requires-clause-within c =
     let size : length c.args.self.now ≡ c.self.inside.elements = rw (← c.self.view_is) (length-painted_all c.self.inside.places.now c.self.inside.elements c.self.invariant.0) in
     omega (arith, c.loop-i.invariant.same_room, c.fill.ensures.len, c.requires)
 
+pub set_bits-requires-clause-fours : goal.set_bits-requires-clause-fours
+set_bits-requires-clause-fours c =
+    let size : length c.args.self.now ≡ c.self.inside.elements = rw (← c.self.view_is) (length-painted_all c.self.inside.places.now c.self.inside.elements c.self.invariant.0) in
+    let fours : length c.args.octets.now % 4 ≡ 0 = in_fours (length c.args.octets.now) c.self.inside.elements c.self.invariant.1 (sym size ∙ c.requires) in
+    omega (arith, c.loop-i.invariant.same_room, c.fill.ensures.len, fours)
+
 pub loop-i-preserved : goal.loop-i-preserved
 loop-i-preserved c =
     let within : 2 * c.loop-i.i + 1 < length c.self.inside.places.now = omega arith in
@@ -47,6 +53,12 @@ pub set_bits-requires-then-places-eq1-clause-within : goal.set_bits-requires-the
 set_bits-requires-then-places-eq1-clause-within c =
     let size : length c.args.self.now ≡ c.self.inside.elements = rw (← c.self.view_is) (length-painted_all c.self.inside.places.now c.self.inside.elements c.self.invariant.0) in
     omega (arith, c.loop-i.invariant.same_room, c.fill.ensures.len, c.requires)
+
+pub set_bits-requires-then-places-eq1-clause-fours : goal.set_bits-requires-then-places-eq1-clause-fours
+set_bits-requires-then-places-eq1-clause-fours c =
+    let size : length c.args.self.now ≡ c.self.inside.elements = rw (← c.self.view_is) (length-painted_all c.self.inside.places.now c.self.inside.elements c.self.invariant.0) in
+    let fours : length c.args.octets.now % 4 ≡ 0 = in_fours (length c.args.octets.now) c.self.inside.elements c.self.invariant.1 (sym size ∙ c.requires) in
+    omega (arith, c.loop-i.invariant.same_room, c.fill.ensures.len, fours)
 
 pub returns-then-places-eq1-clause-bits : goal.returns-then-places-eq1-clause-bits
 returns-then-places-eq1-clause-bits c =
