@@ -62,12 +62,6 @@ most_elements n (inl e) = omega arith
 most_elements n (inr (inl e)) = omega arith
 most_elements n (inr (inr e)) = omega arith
 
--- no more places rise than there are numbers up to their end
-pub rising_length : (from : ℕ) (ps : List ℕ) (end : ℕ) → AreRising from ps end → from + length ps ≤ end
-unfolding AreRising
-rising_length from [] end r = omega (arith, r)
-rising_length from (p ∷ ps) end r = omega (arith, r.0, rising_length (p + 1) ps end r.1)
-
 -- two more changing places, and the runs up to them
 pub record TwoMore (from : ℕ) (ps : List ℕ) (end : ℕ) : Type 0 where
   pub first : from ≤ get_or ps 0 0

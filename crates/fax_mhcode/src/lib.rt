@@ -14,6 +14,7 @@ ghost use Rattle.fax_mhcode.specs.LineFaults.{FailsLine};
 mod fault;
 pub mod laws;
 mod pairs;
+mod passing;
 #[cfg(test)]
 mod tests;
 mod writing;
@@ -22,6 +23,7 @@ pub use fault::LineFault;
 use fax_bits::BitReader;
 use fax_runcodes::{Colour, Row, RowBuilder, Width, read_run};
 use pairs::read_pairs;
+pub use passing::pass_line_1d;
 use std::alloc::Global;
 pub use writing::{write_lent_line_1d, write_line_1d};
 

@@ -1,5 +1,7 @@
 //! One-dimensional lines, by the tables of ITU-T T.4.
-use super::{LineFault, read_line_1d, read_line_1d_into, write_lent_line_1d, write_line_1d};
+use super::{
+    LineFault, pass_line_1d, read_line_1d, read_line_1d_into, write_lent_line_1d, write_line_1d,
+};
 use fax_bits::{BitReader, BitWriter, NoMemory, Octets};
 use fax_runcodes::Colour::{Black, White};
 use fax_runcodes::Width::{W1728, W2048, W2432};
@@ -15,6 +17,44 @@ fn octets_of(alloc: Global, digits: &str) -> Result<Octets, NoMemory> {
         writer.put(u32::from(digit == b'1'), 1)?;
     }
     Ok(writer.finish())
+}
+
+/// Asserts that the bits that were written are these digits.
+fn assert_bits(
+    rt: &impl Abort,
+    alloc: Global,
+    writer: BitWriter,
+    digits: &str,
+) -> Result<(), NoMemory> {
+    assert_eq!(rt; writer.bits(), digits.len() as u128, "at {digits}");
+    let want = octets_of(alloc, digits)?;
+    assert_eq!(rt; writer.finish().as_slice(), want.as_slice(), "at {digits}");
+    Ok(())
+}
+
+/// What a call answers, and where the reader stands then.
+type Answer = (Result<(), LineFault>, u128);
+
+/// Reads the line of these octets into a builder, and passes it.
+fn read_and_pass(line: &mut RowBuilder, octets: &[u8], width: Width) -> [Answer; 2] {
+    line.clear();
+    let mut reading = BitReader::new(octets);
+    let read = read_line_1d_into(line, &mut reading, width);
+    let mut passing = BitReader::new(octets);
+    let passed = pass_line_1d(&mut passing, width);
+    [(read, reading.place()), (passed, passing.place())]
+}
+
+/// Asserts that a line of these digits was read and passed with this answer.
+fn assert_answers(rt: &impl Abort, answers: [Answer; 2], want: Answer, digits: &str) {
+    assert_eq!(rt; answers, [want; 2], "at {digits}");
+}
+
+/// Asserts that a builder has the row of this width and these changing elements.
+fn assert_row(rt: &impl Abort, line: &RowBuilder, width: Width, changes: &[u16]) {
+    assert!(rt; matches!(line.len(), 1728 | 2048 | 2432));
+    let row = line.lend();
+    assert_eq!(rt; (row.width(), row.changes()), (width.elements(), changes));
 }
 
 /// The octets in which a row is written.
@@ -53,17 +93,20 @@ fn alternating(rt: &impl Abort, alloc: Global, width: Width) -> Result<Row, NoMe
 fn reads_and_writes_a_white_line(rt: HostRuntime) -> Result<(), Fail> {
     let mut reader = BitReader::new(&[0x4d, 0x9a, 0x80]);
     let row = read_line_1d(rt.alloc(), &mut reader, W1728)?;
-    assert_eq!(rt; row.width(), 1728);
-    assert!(rt; row.changes().is_empty());
-    assert_eq!(rt; reader.place(), 17);
+    assert_eq!(rt;
+        (reader.place(), row.width(), row.changes()),
+        (17, 1728, [].as_slice())
+    );
     let octets = octets_of_row(rt.alloc(), &row)?;
     assert_eq!(rt; octets.as_slice(), [0x4d, 0x9a, 0x80].as_slice());
     Ok(())
 }
 
 #[test]
-fn reads_line_after_line_into_one_builder(rt: HostRuntime) -> Result<(), Fail> {
-    let cases: [(Width, &str, &[u16]); 6] = [
+fn reads_and_passes_line_after_line(rt: HostRuntime) -> Result<(), Fail> {
+    let cases: [(Width, &str, &[u16]); 7] = [
+        // white 1728 + 0
+        (W1728, "01001101100110101", &[]),
         // white 1, black 0 and white 1664 + 63
         (W1728, "000111000011011101100000110100", &[]),
         // white 0, black 1728 + 0
@@ -79,21 +122,16 @@ fn reads_line_after_line_into_one_builder(rt: HostRuntime) -> Result<(), Fail> {
     ];
     let mut line = RowBuilder::new(rt.alloc())?;
     for (width, digits, changes) in cases {
-        line.clear();
         let octets = octets_of(rt.alloc(), digits)?;
-        let mut reader = BitReader::new(octets.as_slice());
-        read_line_1d_into(&mut line, &mut reader, width)?;
-        assert_eq!(rt; reader.place(), digits.len() as u128, "at {digits}");
-        assert!(rt; matches!(line.len(), 1728 | 2048 | 2432));
-        let row = line.row()?;
-        assert_eq!(rt; row.width(), width.elements(), "at {digits}");
-        assert_eq!(rt; row.changes(), changes, "at {digits}");
+        let answers = read_and_pass(&mut line, octets.as_slice(), width);
+        assert_answers(&rt, answers, (Ok(()), digits.len() as u128), digits);
+        assert_row(&rt, &line, width, changes);
     }
     Ok(())
 }
 
 #[test]
-fn says_why_it_reads_no_line(rt: HostRuntime) -> Result<(), Fail> {
+fn says_why_it_reads_and_passes_no_line(rt: HostRuntime) -> Result<(), Fail> {
     let cases = [
         (W1728, "00000000", LineFault::Run(RunFault::NoWord)),
         // white 1, and then no word
@@ -116,13 +154,10 @@ fn says_why_it_reads_no_line(rt: HostRuntime) -> Result<(), Fail> {
     ];
     let mut line = RowBuilder::new(rt.alloc())?;
     for (width, digits, fault) in cases {
-        line.clear();
         let octets = octets_of(rt.alloc(), digits)?;
-        let mut reader = BitReader::new(octets.as_slice());
-        let result = read_line_1d_into(&mut line, &mut reader, width);
-        assert_eq!(rt; result, Err(fault), "at {digits}");
-        assert_eq!(rt; reader.place(), 0, "at {digits}");
-        assert_eq!(rt; line.len(), 0, "at {digits}");
+        let answers = read_and_pass(&mut line, octets.as_slice(), width);
+        assert_answers(&rt, answers, (Err(fault), 0), digits);
+        assert!(rt; line.len() == 0, "at {digits}");
     }
     Ok(())
 }
@@ -141,13 +176,10 @@ fn writes_rows_of_one_colour(rt: HostRuntime) -> Result<(), Fail> {
         let row = row_of(&rt, rt.alloc(), runs)?;
         let mut writer = BitWriter::new(rt.alloc());
         write_line_1d(&mut writer, &row)?;
-        assert_eq!(rt; writer.bits(), digits.len() as u128, "at {digits}");
-        let want = octets_of(rt.alloc(), digits)?;
-        assert_eq!(rt; writer.finish().as_slice(), want.as_slice(), "at {digits}");
+        assert_bits(&rt, rt.alloc(), writer, digits)?;
         let mut lent = BitWriter::new(rt.alloc());
         write_lent_line_1d(&mut lent, &row.lend())?;
-        assert_eq!(rt; lent.bits(), digits.len() as u128, "at {digits}");
-        assert_eq!(rt; lent.finish().as_slice(), want.as_slice(), "at {digits}");
+        assert_bits(&rt, rt.alloc(), lent, digits)?;
     }
     Ok(())
 }
@@ -160,18 +192,22 @@ fn reads_each_row_that_is_written(rt: HostRuntime) -> Result<(), Fail> {
         let octets = octets_of_row(rt.alloc(), &row)?;
         let mut reader = BitReader::new(octets.as_slice());
         let read = read_line_1d(rt.alloc(), &mut reader, width)?;
-        assert_eq!(rt; reader.place(), bits);
-        assert_eq!(rt; read.width(), width.elements());
-        assert_eq!(rt; read.changes(), row.changes());
+        let answer = (reader.place(), read.width(), read.changes());
+        assert_eq!(rt; answer, (bits, width.elements(), row.changes()));
     }
     Ok(())
 }
 
 #[test]
 fn numbers_the_faults(rt: HostRuntime) {
-    assert_eq!(rt; LineFault::Run(RunFault::End).number(), 1);
-    assert_eq!(rt; LineFault::PastWidth.number(), 2);
-    assert_eq!(rt; LineFault::NoMode.number(), 3);
-    assert_eq!(rt; LineFault::BadPlace.number(), 4);
-    assert_eq!(rt; LineFault::NoMemory.number(), 5);
+    let cases = [
+        (LineFault::Run(RunFault::End), 1),
+        (LineFault::PastWidth, 2),
+        (LineFault::NoMode, 3),
+        (LineFault::BadPlace, 4),
+        (LineFault::NoMemory, 5),
+    ];
+    for (fault, number) in cases {
+        assert_eq!(rt; fault.number(), number);
+    }
 }
