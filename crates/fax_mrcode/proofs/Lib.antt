@@ -3,7 +3,7 @@ pub mod CursorLemmas
 pub mod Examples
 pub mod FaultLaws
 pub mod LineLaws
-pub mod ModeTable
+pub mod ModeLemmas
 pub mod NearLemmas
 pub mod PlaceLemmas
 pub mod StepLemmas

@@ -15,13 +15,14 @@ use Rattle.fax_mrcode.specs.declared.mode.Mode.{Mode}
 use Rattle.fax_mrcode.specs.declared.mode.Mode.TheVariants.{Pass, Horizontal, Vertical}
 use Rattle.fax_mrcode.specs.declared.mode.Offset.{Offset}
 use Rattle.fax_mrcode.specs.declared.reading.Start.{Start}
+use Rattle.fax_mrcode.specs.declared.reading.Taken.{Taken}
 use Rattle.fax_mrcode.specs.Modes.{mode_word, IsAt}
 use Rattle.fax_mrcode.specs.Places.{a1, a2, b1, b2, run_start}
 use Rattle.fax_mrcode.specs.Lines.{Steps, SpellsLine}
 use Rattle.fax_mrcode.specs.LineFaults.{FailsLine, Stops, StopsAtRun}
-use Rattle.fax_mrcode.specs.Starts.{IsCursor, IsIndexOfB1, IsStart, Completes, TakesStep, TakesSteps, StepsSoFar}
+use Rattle.fax_mrcode.specs.Starts.{IsCursor, IsIndexOfB1, IsStart, IsTaken, Completes, TakesStep, TakesSteps, StepsSoFar, behind_step}
 use Rattle.fax_mrcode.proofs.PlaceLemmas.{IsStretch, IsA1, IsA2, a1_is, a2_is}
-use Rattle.fax_mrcode.proofs.CursorLemmas.{other_apart, IsCursor-first, IsCursor-on, IsCursor-second, place_le, b1_is, b2_is, b2_right}
+use Rattle.fax_mrcode.proofs.CursorLemmas.{other_apart, IsCursor-first, IsCursor-on, IsCursor-right, IsCursor-second, place_le, b1_is, b2_is, b2_right}
 
 -- ---- rows that begin with the elements so far
 
@@ -244,6 +245,88 @@ cursor_on ps width rising colour from index place at right inside (inl no_left) 
 cursor_on ps width rising colour from index place at right inside (inr none) =
     let one : 1 ≡ index + 1 = omega arith in
     subst (λ n. IsCursor ps (other colour) (place + 1) n) one (IsCursor-second ps colour from (place + 1) (subst (λ n. IsCursor ps colour from n) none at.cursor))
+
+-- ---- steps that are taken whatever stands left of a0
+
+-- a step that gives the colour at a0 up to a place
+pub IsTaken-to : (ps : List ℕ) (width : ℕ) (mode : Mode) (start next : Start) (place : ℕ)
+    → ((line : Elements) → IsStart ps width line start → IsStart ps width (line ++ replicate (place - length line) start.colour) next)
+    → ((line : Elements) → IsStart ps width line start → TakesStep (painted White 0 ps width) width mode [] line start (line ++ replicate (place - length line) start.colour) next)
+    → IsTaken ps width mode [] start (record { first = place - run_start start.from; second = 0; next = next })
+IsTaken-to ps width mode start next place is_next takes = record {
+  next = λ line s. subst (λ (row : Elements). IsStart ps width row next) (same line s) (is_next line s);
+  takes = λ line s. subst (λ (row : Elements). TakesStep (painted White 0 ps width) width mode [] line start row next) (same line s) (takes line s);
+} where
+  same : (line : Elements) → IsStart ps width line start
+      → line ++ replicate (place - length line) start.colour ≡ behind_step line start (record { first = place - run_start start.from; second = 0; next = next })
+  same line s = ap (λ n. line ++ replicate (place - n) start.colour) s.size ∙ sym (append-nil (line ++ replicate (place - run_start start.from) start.colour))
+
+module _ (ps : List ℕ) (width : ℕ) (rising : AreRising 0 ps width) (start : Start) (inside : start.from ≤ width) where
+  pub IsTaken-pass : IsIndexOfB1 ps start.colour start.from start.index → (place : ℕ) → place ≡ slice_index_or ps (start.index + 1) width → place ≢ width
+      → IsTaken ps width Pass [] start (record { first = place - run_start start.from; second = 0; next = record { from = place + 1; colour = start.colour; index = start.index } })
+  IsTaken-pass at place is apart =
+      let right : start.from ≤ place = omega (arith, b2_right ps width rising start.colour start.from start.index inside at) in
+      let low : place ≤ width = omega (arith, place_le ps width rising (start.index + 1)) in
+      IsTaken-to ps width Pass start (record { from = place + 1; colour = start.colour; index = start.index }) place
+      (λ line s. IsStart-next ps width rising line start s inside start.colour place start.index right low
+      (λ le. IsCursor-right ps start.colour start.from (place + 1) start.index (omega arith) at.cursor))
+      (λ line s. TakesStep-pass ps width rising line start s inside at place is apart)
+
+  pub IsTaken-vertical : IsIndexOfB1 ps start.colour start.from start.index → (offset : Offset) (place index : ℕ) → IsAt offset place (slice_index_or ps start.index width) → start.from ≤ place → place ≤ width
+      → (place + 1 ≤ width → IsCursor ps (other start.colour) (place + 1) index)
+      → IsTaken ps width (Vertical offset) [] start (record { first = place - run_start start.from; second = 0; next = record { from = place + 1; colour = other start.colour; index = index } })
+  IsTaken-vertical at offset place index is right low cursor =
+      IsTaken-to ps width (Vertical offset) start (record { from = place + 1; colour = other start.colour; index = index }) place
+      (λ line s. IsStart-next ps width rising line start s inside (other start.colour) place index right low cursor)
+      (λ line s. TakesStep-vertical ps width rising line start s inside at offset place index is right low)
+
+  pub IsTaken-horizontal : (first second : ℕ) (s t : List Bool) → SpellsRun start.colour s first → SpellsRun (other start.colour) t second
+      → (0 < first) ⊎ (start.from ≡ 0) → run_start start.from + first ≤ width → (0 < second) ⊎ (run_start start.from + first ≡ width) → run_start start.from + first + second ≤ width
+      → IsTaken ps width Horizontal (s ++ t) start
+      (record { first = first; second = second; next = record { from = run_start start.from + first + second + 1; colour = start.colour; index = start.index } })
+  IsTaken-horizontal first second s t spelt spelt2 some le some2 le2 = record {
+    next = λ line is. (
+        let middle : Elements = line ++ replicate first start.colour in
+        let size : length middle ≡ length line + first = length-painted_more line first start.colour in
+        let size2 : length (middle ++ replicate second (other start.colour)) ≡ length middle + second = length-painted_more middle second (other start.colour) in
+        let here : length line ≡ run_start start.from = is.size in
+        let right : start.from ≤ run_start start.from + first + second + 1 = omega arith in
+        record {
+          size = omega arith;
+          within = omega arith;
+          first = λ none. absurd (omega arith);
+          cursor = λ more. IsCursor-right ps start.colour start.from (run_start start.from + first + second + 1) start.index right (is.cursor inside);
+        });
+    takes = λ line is. (
+        let here : length line ≡ run_start start.from = is.size in
+        let ends : (0 < second) ⊎ (length line + first ≡ width) = elim some2 [ inl more ↦ inl more | inr end ↦ inr (omega arith) ] in
+        subst (λ n. TakesStep (painted White 0 ps width) width Horizontal (s ++ t) line start ((line ++ replicate first start.colour) ++ replicate second (other start.colour))
+        (record { from = n + first + second + 1; colour = start.colour; index = start.index })) here
+        (TakesStep-horizontal ps width rising line start is inside first second s t start.index spelt spelt2 some (omega arith) ends (omega arith)));
+  }
+
+-- it is taken from the start whose index is not that of b1 yet
+pub IsTaken-at : (ps : List ℕ) (width : ℕ) (mode : Mode) (text : List Bool) (start : Start) (index : ℕ) (taken : Taken) → IsCursor ps start.colour start.from index
+    → IsTaken ps width mode text (record { from = start.from; colour = start.colour; index = index }) taken → IsTaken ps width mode text start taken
+IsTaken-at ps width mode text start index taken cursor t = record {
+  next = λ line s. t.next line (at line s);
+  takes = λ line s. (
+      let step = t.takes line (at line s) in
+      record { place = step.place; from_is = step.from_is; right = step.right; completes = step.completes; step = step.step });
+} where
+  at : (line : Elements) → IsStart ps width line start → IsStart ps width line (record { from = start.from; colour = start.colour; index = index })
+  at line s = record { size = s.size; within = s.within; first = s.first; cursor = λ le. cursor }
+
+-- what it gives ends within the width
+pub IsTaken-fits : (ps : List ℕ) (width : ℕ) (mode : Mode) (text : List Bool) (line : Elements) (start : Start) (taken : Taken) → IsStart ps width line start → IsTaken ps width mode text start taken
+    → length line + taken.first + taken.second ≤ width
+IsTaken-fits ps width mode text line start taken s t =
+    let middle : Elements = line ++ replicate taken.first start.colour in
+    let size : length middle ≡ length line + taken.first = length-painted_more line taken.first start.colour in
+    let size2 : length (middle ++ replicate taken.second (other start.colour)) ≡ length middle + taken.second = length-painted_more middle taken.second (other start.colour) in
+    let next = t.next line s in
+    let end : length (behind_step line start taken) ≡ run_start taken.next.from = next.size in
+    omega (arith, next.within)
 
 -- a run's fault, told of a row and not of its width
 pub StopsAtRun-other : (width width' : ℕ) (colour colour' : Colour) (start start' : ℕ) {P Q : Type 0} (bits : List Bool) (fault : LineFault) → width ≡ width' → colour ≡ colour' → start ≡ start' → (Q → P)

@@ -4,7 +4,7 @@ use Rattle.std.proofs.lemmas.Bool.{and_parts, eqb-true}
 use Rattle.std.proofs.lemmas.List.{drop-drop, take-append-drop, drop_at, drop-append-le, take-append-le, length-take-le, take-take, drop-take}
 use Rattle.fax_bits.specs.Bits.{word_bits, bit}
 use Rattle.fax_bits.specs.Reading.{Place, Passes, padded}
-use Rattle.fax_runcodes.proofs.Fronts.{begins, begins_rest}
+use Rattle.fax_runcodes.proofs.Fronts.{agree, agree_fronts, begins, begins_rest}
 use Rattle.fax_mrcode.specs.declared.mode.Mode.TheVariants.{Pass, Horizontal, Vertical}
 use Rattle.fax_mrcode.specs.declared.reading.verticals.VerticalWord.{VerticalWord}
 use Rattle.fax_mrcode.specs.declared.reading.verticals.TheConstants.{VERTICAL_WORDS, NOT_VERTICAL}
@@ -17,13 +17,73 @@ use Rattle.std.proofs.Math.Seq.{take-add}
 use Rattle.fax_mrcode.specs.declared.mode.Mode.{Mode}
 use Rattle.fax_mrcode.specs.Windows.{Shows, ShowsBehind, FirstAre}
 use Rattle.fax_mrcode.specs.Starts.{IsBack, TakesStep}
-use Rattle.fax_mrcode.proofs.ModeTable.{mode_size}
+use Rattle.fax_mrcode.proofs.LineLaws.{modes_prefix_free}
 use Rattle.fax_bits.proofs.WindowLemmas.{padded-known}
 use Rattle.fax_bits.proofs.BitsLemmas.{length-word_bits, word_bits-add, word_bits-mod, word_bits-shl}
 
 -- the place n bits further on
 abbrev pub behind_place : Place → ℕ → Place
 behind_place p n = record { passed = p.passed + n; left = drop n p.left }
+
+-- ---- how long mode words are
+offset_size : (o : Offset) → (1 ≤ length (mode_word (Vertical o))) × (length (mode_word (Vertical o)) ≤ 7)
+offset_size Zero = (omega arith, omega arith)
+offset_size Right1 = (omega arith, omega arith)
+offset_size Right2 = (omega arith, omega arith)
+offset_size Right3 = (omega arith, omega arith)
+offset_size Left1 = (omega arith, omega arith)
+offset_size Left2 = (omega arith, omega arith)
+offset_size Left3 = (omega arith, omega arith)
+
+-- a mode word has bits, and 7 at most
+pub mode_size : (m : Mode) → (1 ≤ length (mode_word m)) × (length (mode_word m) ≤ 7)
+mode_size Pass = (omega arith, omega arith)
+mode_size Horizontal = (omega arith, omega arith)
+mode_size (Vertical o) = offset_size o
+
+-- ---- bits that no word of vertical mode begins
+
+-- the bits that no mode word agrees with
+abbrev pub no_mode : List Bool
+no_mode = replicate 6 false
+
+offset_not_none : (o : Offset) → agree (mode_word (Vertical o)) no_mode ≡ true → ⊥
+offset_not_none Zero h = cc
+offset_not_none Right1 h = cc
+offset_not_none Right2 h = cc
+offset_not_none Right3 h = cc
+offset_not_none Left1 h = cc
+offset_not_none Left2 h = cc
+offset_not_none Left3 h = cc
+
+-- another mode's word begins them, or six zeros
+abbrev pub is_other : List Bool → Bool
+is_other text = begins (mode_word Pass) text || (begins (mode_word Horizontal) text || begins no_mode text)
+
+or_else : (a b : Bool) → (a || b) ≡ true → (a ≡ true) ⊎ (b ≡ true)
+or_else true b h = inl refl
+or_else false b h = inr h
+
+-- bits that begin with a word, and go on
+goes_on : (word text more : List Bool) → begins word text ≡ true → (rest : List Bool) × (text ++ more ≡ word ++ rest)
+goes_on word text more h = let r = begins_rest word text h in (r.0 ++ more, ap (λ b. b ++ more) r.1 ∙ append_assoc word r.0 more)
+
+other_not_vertical : (text more : List Bool) → is_other text ≡ true → (o : Offset) (rest : List Bool) → text ++ more ≡ mode_word (Vertical o) ++ rest → ⊥
+other_not_vertical text more h o rest e = elim (or_else (begins (mode_word Pass) text) (begins (mode_word Horizontal) text || begins no_mode text) h) [
+  | inl pass ↦
+      let r = goes_on (mode_word Pass) text more pass in
+      let same : Pass ≡ Vertical o = modes_prefix_free Pass (Vertical o) r.0 rest (sym r.1 ∙ e) in
+      cc
+  | inr later ↦ elim (or_else (begins (mode_word Horizontal) text) (begins no_mode text) later) [
+    | inl horizontal ↦
+        let r = goes_on (mode_word Horizontal) text more horizontal in
+        let same : Horizontal ≡ Vertical o = modes_prefix_free Horizontal (Vertical o) r.0 rest (sym r.1 ∙ e) in
+        cc
+    | inr zeros ↦
+        let r = goes_on no_mode text more zeros in
+        offset_not_none o (agree_fronts (mode_word (Vertical o)) no_mode rest r.0 (sym e ∙ r.1))
+  ]
+]
 
 -- ---- the table
 -- how far back the next b1 is looked for
@@ -45,9 +105,9 @@ IsBack-of Right1 = inr (refl, λ a b at. omega arith)
 IsBack-of Right2 = inr (refl, λ a b at. omega arith)
 IsBack-of Right3 = inr (refl, λ a b at. omega arith)
 
--- an entry with bits has the word of its offset, which begins these bits
+-- an entry with bits has the word of its offset, which begins these bits; else another mode's word does, or six zeros
 abbrev pub is_right : List Bool → VerticalWord → Bool
-is_right text entry = (entry.back == back_of entry.offset) && ((entry.bits == 0) || ((length (mode_word (Vertical entry.offset)) == entry.bits) && begins (mode_word (Vertical entry.offset)) text))
+is_right text entry = (entry.back == back_of entry.offset) && (((entry.bits == 0) && is_other text) || ((length (mode_word (Vertical entry.offset)) == entry.bits) && begins (mode_word (Vertical entry.offset)) text))
 
 -- each entry from this index on says what begins the 7 bits of its index
 abbrev pub are_right : ℕ → List VerticalWord → Bool
@@ -67,37 +127,43 @@ are_right_at index (e ∷ es) h (suc i) lt =
     let there : is_right (word_bits 7 (suc index + i)) (slice_index_or es i NOT_VERTICAL) ≡ true = are_right_at (suc index) es rest i (omega arith) in
     rw add-suc (rw suc-add at there)
 
-or_else : (a b : Bool) → (a || b) ≡ true → (a ≡ true) ⊎ (b ≡ true)
-or_else true b h = inl refl
-or_else false b h = inr h
-
 -- what an entry says of the bits that it stands for
 abbrev pub SaysWord : List Bool → VerticalWord → Type 0
 SaysWord text entry = (length (mode_word (Vertical entry.offset)) ≡ entry.bits) × ((rest : List Bool) × (text ≡ mode_word (Vertical entry.offset) ++ rest))
 
 says_back : (text : List Bool) (entry : VerticalWord) → is_right text entry ≡ true → IsBack entry.offset entry.back
 says_back text entry h =
-    let parts = and_parts (entry.back == back_of entry.offset) ((entry.bits == 0) || ((length (mode_word (Vertical entry.offset)) == entry.bits) && begins (mode_word (Vertical entry.offset)) text)) h in
+    let parts = and_parts (entry.back == back_of entry.offset) (((entry.bits == 0) && is_other text) || ((length (mode_word (Vertical entry.offset)) == entry.bits) && begins (mode_word (Vertical entry.offset)) text)) h in
     subst (λ (n : ℕ). IsBack entry.offset n) (sym (eqb-true entry.back (back_of entry.offset) parts.0)) (IsBack-of entry.offset)
 
-says_word : (text : List Bool) (entry : VerticalWord) → is_right text entry ≡ true → ((entry.bits == 0) || ((length (mode_word (Vertical entry.offset)) == entry.bits) && begins (mode_word (Vertical entry.offset)) text)) ≡ true
-says_word text entry h = (and_parts (entry.back == back_of entry.offset) ((entry.bits == 0) || ((length (mode_word (Vertical entry.offset)) == entry.bits) && begins (mode_word (Vertical entry.offset)) text)) h).1
+says_word : (text : List Bool) (entry : VerticalWord) → is_right text entry ≡ true → (((entry.bits == 0) && is_other text) || ((length (mode_word (Vertical entry.offset)) == entry.bits) && begins (mode_word (Vertical entry.offset)) text)) ≡ true
+says_word text entry h = (and_parts (entry.back == back_of entry.offset) (((entry.bits == 0) && is_other text) || ((length (mode_word (Vertical entry.offset)) == entry.bits) && begins (mode_word (Vertical entry.offset)) text)) h).1
 
-says : (text : List Bool) (entry : VerticalWord) → is_right text entry ≡ true → (entry.bits ≡ 0) ⊎ SaysWord text entry
-says text entry h = elim (or_else (entry.bits == 0) ((length (mode_word (Vertical entry.offset)) == entry.bits) && begins (mode_word (Vertical entry.offset)) text) (says_word text entry h)) [
-  | inl none ↦ inl (eqb-true entry.bits 0 none)
+-- no word of vertical mode begins them
+abbrev pub SaysNone : List Bool → VerticalWord → Type 0
+SaysNone text entry = (entry.bits ≡ 0) × (is_other text ≡ true)
+
+says : (text : List Bool) (entry : VerticalWord) → is_right text entry ≡ true → SaysNone text entry ⊎ SaysWord text entry
+says text entry h = elim (or_else ((entry.bits == 0) && is_other text) ((length (mode_word (Vertical entry.offset)) == entry.bits) && begins (mode_word (Vertical entry.offset)) text) (says_word text entry h)) [
+  | inl none ↦
+      let parts = and_parts (entry.bits == 0) (is_other text) none in
+      inl (eqb-true entry.bits 0 parts.0, parts.1)
   | inr word ↦
       let parts = and_parts (length (mode_word (Vertical entry.offset)) == entry.bits) (begins (mode_word (Vertical entry.offset)) text) word in
       inr (eqb-true (length (mode_word (Vertical entry.offset))) entry.bits parts.0, begins_rest (mode_word (Vertical entry.offset)) text parts.1)
 ]
 
-few_of : (text : List Bool) (entry : VerticalWord) → (entry.bits ≡ 0) ⊎ SaysWord text entry → entry.bits ≤ 7
-few_of text entry (inl none) = omega arith
+few_of : (text : List Bool) (entry : VerticalWord) → SaysNone text entry ⊎ SaysWord text entry → entry.bits ≤ 7
+few_of text entry (inl none) = omega (arith, none.0)
 few_of text entry (inr word) = let size = mode_size (Vertical entry.offset) in omega (arith, word.0)
 
-said : (text more : List Bool) (entry : VerticalWord) → (entry.bits ≡ 0) ⊎ SaysWord text entry → 0 < entry.bits → SaysWord (text ++ more) entry
-said text more entry (inl none) some = absurd (omega arith)
+said : (text more : List Bool) (entry : VerticalWord) → SaysNone text entry ⊎ SaysWord text entry → 0 < entry.bits → SaysWord (text ++ more) entry
+said text more entry (inl none) some = absurd (omega (arith, none.0))
 said text more entry (inr word) some = (word.0, (word.1.0 ++ more, ap (λ b. b ++ more) word.1.1 ∙ append_assoc (mode_word (Vertical entry.offset)) word.1.0 more))
+
+said_none : (text more : List Bool) (entry : VerticalWord) → SaysNone text entry ⊎ SaysWord text entry → entry.bits ≡ 0 → (o : Offset) (rest : List Bool) → text ++ more ≡ mode_word (Vertical o) ++ rest → ⊥
+said_none text more entry (inl none) no_bits o rest e = other_not_vertical text more none.1 o rest e
+said_none text more entry (inr word) no_bits o rest e = let size = offset_size entry.offset in omega (arith, word.0)
 
 -- the entry of a window's first 7 bits
 module _ (window : ℕ) (below : window < 2 ^ 64) (entry : VerticalWord) (is : entry ≡ slice_index_or VERTICAL_WORDS (window / 2 ^ 57) NOT_VERTICAL) where
@@ -107,7 +173,7 @@ module _ (window : ℕ) (below : window < 2 ^ 64) (entry : VerticalWord) (is : e
       let place : 0 + window / 2 ^ 57 ≡ window / 2 ^ 57 = omega arith in
       rw is (rw place at at)
 
-  of_seven : (entry.bits ≡ 0) ⊎ SaysWord (word_bits 7 (window / 2 ^ 57)) entry
+  of_seven : SaysNone (word_bits 7 (window / 2 ^ 57)) entry ⊎ SaysWord (word_bits 7 (window / 2 ^ 57)) entry
   of_seven = says (word_bits 7 (window / 2 ^ 57)) entry entry_right
 
   pub entry_back : IsBack entry.offset entry.back
@@ -120,6 +186,10 @@ module _ (window : ℕ) (below : window < 2 ^ 64) (entry : VerticalWord) (is : e
   entry_says some =
       let whole : word_bits 64 window ≡ word_bits 7 (window / 2 ^ 57) ++ word_bits 57 window = word_bits-add 7 57 window in
       rw whole (said (word_bits 7 (window / 2 ^ 57)) (word_bits 57 window) entry of_seven some)
+
+  pub entry_none : entry.bits ≡ 0 → (o : Offset) (rest : List Bool) → word_bits 64 window ≡ mode_word (Vertical o) ++ rest → ⊥
+  entry_none none o rest e =
+      said_none (word_bits 7 (window / 2 ^ 57)) (word_bits 57 window) entry of_seven none o rest (sym (word_bits-add 7 57 window) ∙ e)
 
 -- ---- what a window shows
 
@@ -193,7 +263,7 @@ ShowsBehind-then w k w1 k1 w2 k2 p q =
       shows = λ bits h. subst (λ (b : List Bool). Shows w2 k2 b) (drop-drop (k1 - k2) (k - k1) bits ∙ ap (λ (n : ℕ). drop n bits) sum) (q.shows (drop (k - k1) bits) (p.shows bits h));
     }
 
-horizontal_word : word_bits 3 1 ≡ mode_word Horizontal
+pub horizontal_word : word_bits 3 1 ≡ mode_word Horizontal
 unfolding word_bits bit
 horizontal_word = refl
 
@@ -201,7 +271,7 @@ horizontal_word = refl
 pub horizontal_begins : (window : ℕ) → window / 2 ^ 61 ≡ 1 → word_bits 64 window ≡ mode_word Horizontal ++ word_bits 61 window
 horizontal_begins window e = word_bits-add 3 61 window ∙ ap (λ (n : ℕ). word_bits 3 n ++ word_bits 61 window) e ∙ ap (λ (b : List Bool). b ++ word_bits 61 window) horizontal_word
 
-pass_word : word_bits 4 1 ≡ mode_word Pass
+pub pass_word : word_bits 4 1 ≡ mode_word Pass
 unfolding word_bits bit
 pass_word = refl
 

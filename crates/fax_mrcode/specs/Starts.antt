@@ -1,13 +1,14 @@
 -- What is known of a line that is being read, between two of its steps. Not part of any public clause.
-use Rattle.std.specs.Prelude.{◌≡◌, ℕ, ◌+◌, ◌-◌, ◌<◌, ◌≤◌, ◌⊎◌, Bool, List, length, take, drop, replicate, slice_index}
+use Rattle.std.specs.Prelude.{◌≡◌, ℕ, ◌+◌, ◌-◌, ◌<◌, ◌≤◌, ◌⊎◌, Bool, List, ◌++◌, length, take, drop, replicate, slice_index}
 use Rattle.fax_bits.specs.Reading.{Place, Passes}
 use Rattle.fax_runcodes.specs.declared.Colour.{Colour}
 use Rattle.fax_runcodes.specs.declared.Colour.TheVariants.{White}
-use Rattle.fax_runcodes.specs.Rows.{Elements, colour_at, colour_before}
-use Rattle.fax_runcodes.specs.Painted.{colour_after_changes}
+use Rattle.fax_runcodes.specs.Rows.{Elements, other, colour_at, colour_before}
+use Rattle.fax_runcodes.specs.Painted.{painted, colour_after_changes}
 use Rattle.fax_mrcode.specs.declared.mode.Mode.{Mode}
 use Rattle.fax_mrcode.specs.declared.mode.Offset.{Offset}
 use Rattle.fax_mrcode.specs.declared.reading.Start.{Start}
+use Rattle.fax_mrcode.specs.declared.reading.Taken.{Taken}
 use Rattle.fax_mrcode.specs.declared.reading.near.Near.{Near}
 use Rattle.fax_mrcode.specs.Modes.{IsAt}
 use Rattle.fax_mrcode.specs.Places.{run_start}
@@ -51,6 +52,16 @@ pub record TakesStep (reference : Elements) (width : ℕ) (mode : Mode) (text : 
   pub right : start.from ≤ place
   pub completes : (row : Elements) → Completes width after next.from next.colour row → Completes width before start.from start.colour row
   pub step : (row : Elements) → Completes width after next.from next.colour row → Step reference row start.from mode text place
+
+-- the elements so far, with those of a step behind them: first in the colour at a0, then in the other
+abbrev pub behind_step : Elements → Start → Taken → Elements
+behind_step line start taken = (line ++ replicate taken.first start.colour) ++ replicate taken.second (other start.colour)
+
+-- A step in this mode is taken from here, whatever elements stand left of a0.
+pub record IsTaken (changes : List ℕ) (width : ℕ) (mode : Mode) (text : List Bool) (start : Start) (taken : Taken) : Type 0 where
+  pub next : (line : Elements) → IsStart changes width line start → IsStart changes width (behind_step line start taken) taken.next
+  pub takes : (line : Elements) → IsStart changes width line start
+      → TakesStep (painted White 0 changes width) width mode text line start (behind_step line start taken) taken.next
 
 -- Steps with this text were taken from one start to the next: each row that the line may become behind
 -- them is one that it might become before them, and has these steps.

@@ -8,5 +8,5 @@ mod reading;
 mod writing;
 
 pub use mode::{Mode, Offset};
-pub use reading::{read_line_2d, read_line_2d_into};
+pub use reading::{pass_line_2d, read_line_2d, read_line_2d_into};
 pub use writing::{write_lent_line_2d, write_line_2d};

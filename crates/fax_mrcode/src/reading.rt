@@ -10,10 +10,11 @@ ghost use Rattle.fax_mrcode.specs.declared.mode.Mode.{Mode};
 ghost use Rattle.fax_mrcode.specs.Modes.{mode_word};
 ghost use Rattle.fax_mrcode.specs.Lines.{SpellsLine};
 ghost use Rattle.fax_mrcode.specs.LineFaults.{FailsLine, Stops, StopsIn, StopsAtRun};
-ghost use Rattle.fax_mrcode.specs.Starts.{IsCursor, IsIndexOfB1, IsStart, IsStartIn, Completes, TakesStep, left_of_a0};
+ghost use Rattle.fax_mrcode.specs.Starts.{IsCursor, IsIndexOfB1, IsStart, IsStartIn, IsTaken, Completes, TakesStep, left_of_a0};
 
 mod ahead;
 mod near;
+mod passing;
 #[cfg(test)]
 mod tests;
 mod verticals;
@@ -25,6 +26,7 @@ use fax_bits::BitReader;
 use fax_mhcode::LineFault;
 use fax_runcodes::{Colour, Row, RowBuilder, RowRef, read_run};
 use near::read_near_steps;
+pub use passing::pass_line_2d;
 use std::alloc::Global;
 use words::read_mode;
 
@@ -95,6 +97,42 @@ struct Start {
     index: usize,
 }
 
+impl Start {
+    ghost use Rattle.std.specs.Prelude.{◌≡◌};
+    ghost use Rattle.fax_runcodes.specs.declared.Colour.TheVariants.{White};
+    ghost use Rattle.fax_mrcode.specs.Places.{run_start};
+    ghost use Rattle.fax_mrcode.specs.declared.reading.Start.{Start};
+
+    /// Where a line starts: at a0 = -1.
+    #[inline]
+    fn of_line() -> Self
+        ensures { result ≡ record { from = 0; colour = White; index = 0 } }
+    {
+        Start {
+            from: 0,
+            colour: Colour::White,
+            index: 0,
+        }
+    }
+
+    /// Where the first run of a horizontal step starts: at a0, or at the first element for a0 = -1.
+    #[inline]
+    fn run_start(self) -> u16
+        ensures { result ≡ run_start self.from }
+    {
+        self.from.saturating_sub(1)
+    }
+}
+
+/// A step that was taken: how many elements it gives the colour at a0, how many behind them the other
+/// colour, and where the next one starts.
+#[derive(Clone, Copy)]
+struct Taken {
+    first: u16,
+    second: u16,
+    next: Start,
+}
+
 /// Reads the steps of a line into a builder that is empty. After an `Err` the reader stands anywhere,
 /// and the builder has any elements.
 #[inline(never)]
@@ -110,11 +148,7 @@ fn read_steps(
     ensures ok { OnOk result ((text : List Bool) × SpellsLine (painted Colour.White 0 changes.now width) text line.new × Passes reader.old reader.new text) }
     ensures fault { IfErr result (λ fault. FailsLine (painted Colour.White 0 changes.now width) reader.old.left fault) }
 {
-    let mut start = Start {
-        from: 0,
-        colour: Colour::White,
-        index: 0,
-    };
+    let mut start = Start::of_line();
     line.paint(start.colour, width - line.len());
     while start.from <= width {
         let near = read_near_steps(line, reader, changes, width, start);
@@ -152,7 +186,7 @@ fn read_step_in(
     ensures fault { IfErr result (λ fault. (row : Elements) → Completes width (left_of_a0 line.old start) start.from start.colour row
         → Stops (painted Colour.White 0 changes.now width) row start.from reader.old.left fault) }
 {
-    line.shorten(start.from.saturating_sub(1));
+    line.shorten(start.run_start());
     let next = read_step(line, reader, changes, width, start)?;
     line.paint(next.colour, width - line.len());
     Ok(next)
@@ -178,67 +212,77 @@ fn read_step(
     ensures fault { IfErr result (λ fault. (row : Elements) → Completes width line.old start.from start.colour row
         → Stops (painted Colour.White 0 changes.now width) row start.from reader.old.left fault) }
 {
+    let taken = take_step(reader, changes, width, start)?;
+    line.paint(start.colour, taken.first);
+    line.paint(start.colour.other(), taken.second);
+    Ok(taken.next)
+}
+
+/// Takes the step that the bits begin with. It needs no line: its start says what matters of the
+/// elements left of a0. After an `Err` the reader stands anywhere.
+#[inline(always)]
+fn take_step(
+    reader: &mut BitReader,
+    changes: &[u16],
+    width: u16,
+    start: Start,
+) -> Result<Taken, LineFault>
+    requires cursor { IsCursor changes.now start.colour start.from start.index }
+    requires within { start.from ≤ width }
+    requires rising { AreRising 0 changes.now width }
+    requires few { width ≤ 2432 }
+    ensures ok { IfOk result (λ taken. (mode : Mode) × (text : List Bool) × Passes reader.old reader.new (mode_word mode ++ text)
+        × IsTaken changes.now width mode text start taken) }
+    ensures fault { IfErr result (λ fault. (line row : Elements) → Completes width line start.from start.colour row
+        → Stops (painted Colour.White 0 changes.now width) row start.from reader.old.left fault) }
+{
     let mode = read_mode(reader)?;
     let start = Start {
         index: index_of_b1(changes, start),
         ..start
     };
     match mode {
-        Mode::Pass => pass(line, changes, width, start),
-        Mode::Horizontal => horizontal(line, reader, changes, width, start),
-        Mode::Vertical(offset) => vertical(line, changes, width, start, offset),
+        Mode::Pass => pass(changes, width, start),
+        Mode::Horizontal => horizontal(reader, changes, width, start),
+        Mode::Vertical(offset) => vertical(changes, width, start, offset),
     }
 }
 
 /// Pass mode: a0 moves to b2.
 #[inline]
-fn pass(
-    line: &mut RowBuilder,
-    changes: &[u16],
-    width: u16,
-    start: Start,
-) -> Result<Start, LineFault>
-    requires start { IsStart changes.now width line.old start }
+fn pass(changes: &[u16], width: u16, start: Start) -> Result<Taken, LineFault>
     requires b1 { IsIndexOfB1 changes.now start.colour start.from start.index }
     requires within { start.from ≤ width }
     requires rising { AreRising 0 changes.now width }
     requires few { width ≤ 2432 }
-    ensures next { IfOk result (λ next. IsStart changes.now width line.new next) }
-    ensures ok { IfOk result (λ next. TakesStep (painted Colour.White 0 changes.now width) width Mode.Pass [] line.old start line.new next) }
-    ensures fault { IfErr result (λ fault. (row : Elements) (bits : List Bool) → Completes width line.old start.from start.colour row
+    ensures ok { IfOk result (λ taken. IsTaken changes.now width Mode.Pass [] start taken) }
+    ensures fault { IfErr result (λ fault. (line row : Elements) (bits : List Bool) → Completes width line start.from start.colour row
         → StopsIn (painted Colour.White 0 changes.now width) row Mode.Pass start.from bits fault) }
-    ensures err { OnErr result (line.new ≡ line.old) }
 {
     let b2 = place_at(changes, start.index + 1, width);
     if b2 == width {
         return Err(LineFault::BadPlace);
     }
-    line.paint(start.colour, b2 - line.len());
-    Ok(Start {
-        from: b2 + 1,
-        ..start
+    Ok(Taken {
+        first: b2 - start.run_start(),
+        second: 0,
+        next: Start {
+            from: b2 + 1,
+            ..start
+        },
     })
 }
 
 /// Vertical mode: a1 lies so far from b1, and a0 moves to it.
 #[inline]
-fn vertical(
-    line: &mut RowBuilder,
-    changes: &[u16],
-    width: u16,
-    start: Start,
-    offset: Offset,
-) -> Result<Start, LineFault>
-    requires start { IsStart changes.now width line.old start }
+fn vertical(changes: &[u16], width: u16, start: Start, offset: Offset) -> Result<Taken, LineFault>
     requires b1 { IsIndexOfB1 changes.now start.colour start.from start.index }
     requires within { start.from ≤ width }
     requires rising { AreRising 0 changes.now width }
     requires few { width ≤ 2432 }
-    ensures next { IfOk result (λ next. IsStart changes.now width line.new next) }
-    ensures ok { IfOk result (λ next. TakesStep (painted Colour.White 0 changes.now width) width (Mode.Vertical offset) [] line.old start line.new next) }
-    ensures fault { IfErr result (λ fault. (row : Elements) (bits : List Bool) → Completes width line.old start.from start.colour row
+    ensures ok { IfOk result (λ taken. IsTaken changes.now width (Mode.Vertical offset) [] start taken) }
+    ensures fault { IfErr result (λ fault. (line row : Elements) (bits : List Bool) → Completes width line start.from start.colour row
         → StopsIn (painted Colour.White 0 changes.now width) row (Mode.Vertical offset) start.from bits fault) }
-    ensures err { OnErr result (line.new ≡ line.old) }
 {
     let b1 = place_at(changes, start.index, width);
     let past_a1 = b1 + offset.right_of_left3();
@@ -246,15 +290,18 @@ fn vertical(
         return Err(LineFault::BadPlace);
     }
     let a1 = past_a1 - 3;
-    line.paint(start.colour, a1 - line.len());
-    Ok(Start {
-        from: a1 + 1,
-        colour: start.colour.other(),
-        // Left of b1 the changing place before it may be right of a1.
-        index: if a1 < b1 && start.index > 0 {
-            start.index - 1
-        } else {
-            start.index + 1
+    Ok(Taken {
+        first: a1 - start.run_start(),
+        second: 0,
+        next: Start {
+            from: a1 + 1,
+            colour: start.colour.other(),
+            // Left of b1 the changing place before it may be right of a1.
+            index: if a1 < b1 && start.index > 0 {
+                start.index - 1
+            } else {
+                start.index + 1
+            },
         },
     })
 }
@@ -262,34 +309,33 @@ fn vertical(
 /// Horizontal mode: the runs from a0 to a1 and from a1 to a2 follow, and a0 moves to a2.
 #[inline]
 fn horizontal(
-    line: &mut RowBuilder,
     reader: &mut BitReader,
     changes: &[u16],
     width: u16,
     start: Start,
-) -> Result<Start, LineFault>
-    requires start { IsStart changes.now width line.old start }
+) -> Result<Taken, LineFault>
     requires within { start.from ≤ width }
     requires rising { AreRising 0 changes.now width }
     requires few { width ≤ 2432 }
-    ensures next { IfOk result (λ next. IsStart changes.now width line.new next) }
-    ensures ok { IfOk result (λ next. (text : List Bool) × Passes reader.old reader.new text
-        × TakesStep (painted Colour.White 0 changes.now width) width Mode.Horizontal text line.old start line.new next) }
-    ensures fault { IfErr result (λ fault. (row : Elements) → Completes width line.old start.from start.colour row
+    ensures ok { IfOk result (λ taken. (text : List Bool) × Passes reader.old reader.new text
+        × IsTaken changes.now width Mode.Horizontal text start taken) }
+    ensures fault { IfErr result (λ fault. (line row : Elements) → Completes width line start.from start.colour row
         → StopsIn (painted Colour.White 0 changes.now width) row Mode.Horizontal start.from reader.old.left fault) }
 {
     let mut ahead = reader.copy();
-    let a0 = line.len();
+    let a0 = start.run_start();
     let first = read_stretch(&mut ahead, a0, width, start.colour, start.from == 0)?;
     let a1 = a0 + first;
     let at_width = a1 == width;
     let second = read_stretch(&mut ahead, a1, width, start.colour.other(), at_width)?;
-    line.paint(start.colour, first);
-    line.paint(start.colour.other(), second);
     *reader = ahead;
-    Ok(Start {
-        from: a1 + second + 1,
-        ..start
+    Ok(Taken {
+        first,
+        second,
+        next: Start {
+            from: a1 + second + 1,
+            ..start
+        },
     })
 }
 

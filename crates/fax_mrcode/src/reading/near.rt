@@ -13,15 +13,10 @@ ghost use Rattle.fax_mrcode.specs.Starts.{IsBack, IsCursor, IsIndexOfB1, IsStart
 use super::Start;
 use super::ahead::{Ahead, ShortRuns, ones, past, short_runs};
 use super::verticals::{VerticalWord, vertical_word};
+use super::words::{HORIZONTAL_BITS, PASS_BITS};
 use crate::places::place_at;
 use fax_bits::BitReader;
 use fax_runcodes::{Colour, RowBuilder};
-
-/// How many bits the word of pass mode has (ITU-T T.4, table 4/T.4).
-const PASS_BITS: u32 = 4;
-
-/// How many bits the word of horizontal mode has.
-const HORIZONTAL_BITS: u32 = 3;
 
 /// Where a coding step starts, and the bits from it on. The colour at a0 is that up to the changing
 /// place of the index.

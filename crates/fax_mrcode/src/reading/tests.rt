@@ -1,5 +1,5 @@
 //! Two-dimensional lines, spelt by hand with ITU-T T.4, table 4/T.4, and its tables of runs.
-use super::{LineFault, read_line_2d, read_line_2d_into};
+use super::{LineFault, pass_line_2d, read_line_2d, read_line_2d_into};
 use fax_bits::{BitReader, NoMemory};
 use fax_runcodes::{Row, RowBuilder, RowFault, RunFault};
 use std::alloc::Global;
@@ -132,5 +132,44 @@ fn reads_rows_of_their_own(rt: HostRuntime) -> Result<(), Fail> {
     let fault = read_line_2d(rt.alloc(), &mut reader, &white).err();
     assert_eq!(rt; fault, Some(LineFault::BadPlace));
     assert_eq!(rt; reader.place(), 13);
+    Ok(())
+}
+
+#[test]
+fn passes_lines_without_their_rows(rt: HostRuntime) -> Result<(), Fail> {
+    for (runs, octets, bits, _) in LINES {
+        let reference = Row::from_runs(rt.alloc(), runs)?;
+        let mut reader = BitReader::new(octets);
+        let result = pass_line_2d(&mut reader, &reference.lend());
+        assert_eq!(rt; result, Ok(()), "at {octets:?}");
+        assert_eq!(rt; reader.place(), bits, "at {octets:?}");
+    }
+    Ok(())
+}
+
+#[test]
+fn says_why_it_passes_no_line(rt: HostRuntime) -> Result<(), Fail> {
+    for (runs, octets, fault) in FAULTS {
+        let reference = Row::from_runs(rt.alloc(), runs)?;
+        let mut reader = BitReader::new(octets);
+        let result = pass_line_2d(&mut reader, &reference.lend());
+        assert_eq!(rt; result, Err(fault), "at {octets:?}");
+        assert_eq!(rt; reader.place(), 0, "at {octets:?}");
+    }
+    Ok(())
+}
+
+#[test]
+fn passes_line_after_line(rt: HostRuntime) -> Result<(), Fail> {
+    // Against a white row V0, then horizontal with white 0 and black 3 and V0, then pass to the width.
+    let white = Row::from_runs(rt.alloc(), &[1728])?;
+    let mut reader = BitReader::new(&[0x93, 0x5a, 0x20]);
+    assert_eq!(rt; pass_line_2d(&mut reader, &white.lend()), Ok(()));
+    assert_eq!(rt; reader.place(), 1);
+    assert_eq!(rt; pass_line_2d(&mut reader, &white.lend()), Ok(()));
+    assert_eq!(rt; reader.place(), 15);
+    let fault = pass_line_2d(&mut reader, &white.lend());
+    assert_eq!(rt; fault, Err(LineFault::BadPlace));
+    assert_eq!(rt; reader.place(), 15);
     Ok(())
 }

@@ -3,6 +3,7 @@
 ghost use Rattle.std.specs.Prelude.{List, Bool, slice_index_or, length, ◌<◌, ◌≤◌, ◌≡◌, ◌++◌, ◌^◌};
 ghost use Rattle.fax_bits.specs.Bits.{word_bits};
 ghost use Rattle.fax_mrcode.specs.declared.mode.Mode.{Mode};
+ghost use Rattle.fax_mrcode.specs.declared.mode.Offset.{Offset};
 ghost use Rattle.fax_mrcode.specs.Modes.{mode_word};
 ghost use Rattle.fax_mrcode.specs.Starts.{IsBack};
 
@@ -25,6 +26,7 @@ pub(super) fn vertical_word(window: u64) -> VerticalWord
     ensures size { 0 < result.bits → length (mode_word (Mode.Vertical result.offset)) ≡ result.bits }
     ensures back { IsBack result.offset result.back }
     ensures begins { 0 < result.bits → (rest : List Bool) × (word_bits 64 window ≡ mode_word (Mode.Vertical result.offset) ++ rest) }
+    ensures none { result.bits ≡ 0 → (offset : Offset) (rest : List Bool) → word_bits 64 window ≡ mode_word (Mode.Vertical offset) ++ rest → ⊥ }
 {
     word_at((window >> 57) as usize)
 }

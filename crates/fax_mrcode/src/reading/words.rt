@@ -1,21 +1,27 @@
-//! The mode whose word begins bits, by a table (ITU-T T.4, table 4/T.4).
-//! The table and the constants at the end are made by `tools/code-tables`.
-ghost use Rattle.std.specs.Prelude.{List, Bool, None, slice_index_or, ◌<◌, ◌≡◌, ◌++◌, ◌^◌, IfOk, IfErr};
+//! The mode whose word begins bits (ITU-T T.4, table 4/T.4).
+ghost use Rattle.std.specs.Prelude.{List, Bool, length, ◌≡◌, ◌++◌, IfOk, IfErr, IfSome, IsNone};
 ghost use Rattle.fax_bits.specs.Reading.{Passes};
 ghost use Rattle.fax_bits.specs.Bits.{word_bits};
 ghost use Rattle.fax_mhcode.specs.declared.fault.LineFault.{LineFault};
 ghost use Rattle.fax_mrcode.specs.declared.mode.Mode.{Mode};
 ghost use Rattle.fax_mrcode.specs.Modes.{mode_word};
 
-use crate::{Mode, Offset};
+use super::verticals::vertical_word;
+use crate::Mode;
 use fax_bits::BitReader;
 use fax_mhcode::LineFault;
+
+/// How many bits the word of pass mode has.
+pub(super) const PASS_BITS: u32 = 4;
+
+/// How many bits the word of horizontal mode has.
+pub(super) const HORIZONTAL_BITS: u32 = 3;
 
 /// A mode and how many bits its word has.
 #[derive(Clone, Copy)]
 struct ModeWord {
     mode: Mode,
-    bits: u8,
+    bits: u32,
 }
 
 /// Passes the mode word that begins what is left. An `Err` leaves the reader where it stood.
@@ -24,200 +30,39 @@ pub(super) fn read_mode(reader: &mut BitReader) -> Result<Mode, LineFault>
     ensures ok { IfOk result (λ mode. Passes reader.old reader.new (mode_word mode)) }
     ensures fault { IfErr result (λ fault. (fault ≡ LineFault.NoMode) × ((mode : Mode) (rest : List Bool) → reader.old.left ≡ mode_word mode ++ rest → ⊥)) }
 {
-    let Some(word) = word_at((reader.window() >> 49) as usize) else {
+    let Some(word) = word_of(reader.window() << 8) else {
         return Err(LineFault::NoMode);
     };
-    let bits = u32::from(word.bits);
-    if !reader.has(bits) {
+    if !reader.has(word.bits) {
         return Err(LineFault::NoMode);
     }
-    reader.skip(bits);
+    reader.skip(word.bits);
     Ok(word.mode)
 }
 
-/// The mode word that begins these 7 bits, which are those of a number, the most significant first.
+/// The mode word that begins 64 bits, which are those of a number, the most significant first.
 #[inline]
-fn word_at(index: usize) -> Option<ModeWord>
-    requires { index < 128 }
-    ensures { result ≡ slice_index_or MODE_WORDS index None }
+fn word_of(window: u64) -> Option<ModeWord>
+    ensures size { IfSome result (λ word. length (mode_word word.mode) ≡ word.bits) }
+    ensures begins { IfSome result (λ word. (rest : List Bool) × (word_bits 64 window ≡ mode_word word.mode ++ rest)) }
+    ensures none { IsNone result → (mode : Mode) (rest : List Bool) → word_bits 64 window ≡ mode_word mode ++ rest → ⊥ }
 {
-    MODE_WORDS[index]
+    let vertical = vertical_word(window);
+    if vertical.bits > 0 {
+        return Some(ModeWord {
+            mode: Mode::Vertical(vertical.offset),
+            bits: u32::from(vertical.bits),
+        });
+    }
+    match window >> 60 {
+        0b0001 => Some(ModeWord {
+            mode: Mode::Pass,
+            bits: PASS_BITS,
+        }),
+        0b0010 | 0b0011 => Some(ModeWord {
+            mode: Mode::Horizontal,
+            bits: HORIZONTAL_BITS,
+        }),
+        _ => None,
+    }
 }
-
-/// By the first 7 bits. The words of the modes with `0000001`, which begins the words of extensions,
-/// and `0000000` are a complete prefix code.
-static MODE_WORDS: [Option<ModeWord>; 128] = [
-    None,
-    None,
-    Some(LEFT3),
-    Some(RIGHT3),
-    Some(LEFT2),
-    Some(LEFT2),
-    Some(RIGHT2),
-    Some(RIGHT2),
-    Some(PASS),
-    Some(PASS),
-    Some(PASS),
-    Some(PASS),
-    Some(PASS),
-    Some(PASS),
-    Some(PASS),
-    Some(PASS),
-    Some(HORIZONTAL),
-    Some(HORIZONTAL),
-    Some(HORIZONTAL),
-    Some(HORIZONTAL),
-    Some(HORIZONTAL),
-    Some(HORIZONTAL),
-    Some(HORIZONTAL),
-    Some(HORIZONTAL),
-    Some(HORIZONTAL),
-    Some(HORIZONTAL),
-    Some(HORIZONTAL),
-    Some(HORIZONTAL),
-    Some(HORIZONTAL),
-    Some(HORIZONTAL),
-    Some(HORIZONTAL),
-    Some(HORIZONTAL),
-    Some(LEFT1),
-    Some(LEFT1),
-    Some(LEFT1),
-    Some(LEFT1),
-    Some(LEFT1),
-    Some(LEFT1),
-    Some(LEFT1),
-    Some(LEFT1),
-    Some(LEFT1),
-    Some(LEFT1),
-    Some(LEFT1),
-    Some(LEFT1),
-    Some(LEFT1),
-    Some(LEFT1),
-    Some(LEFT1),
-    Some(LEFT1),
-    Some(RIGHT1),
-    Some(RIGHT1),
-    Some(RIGHT1),
-    Some(RIGHT1),
-    Some(RIGHT1),
-    Some(RIGHT1),
-    Some(RIGHT1),
-    Some(RIGHT1),
-    Some(RIGHT1),
-    Some(RIGHT1),
-    Some(RIGHT1),
-    Some(RIGHT1),
-    Some(RIGHT1),
-    Some(RIGHT1),
-    Some(RIGHT1),
-    Some(RIGHT1),
-    Some(ZERO),
-    Some(ZERO),
-    Some(ZERO),
-    Some(ZERO),
-    Some(ZERO),
-    Some(ZERO),
-    Some(ZERO),
-    Some(ZERO),
-    Some(ZERO),
-    Some(ZERO),
-    Some(ZERO),
-    Some(ZERO),
-    Some(ZERO),
-    Some(ZERO),
-    Some(ZERO),
-    Some(ZERO),
-    Some(ZERO),
-    Some(ZERO),
-    Some(ZERO),
-    Some(ZERO),
-    Some(ZERO),
-    Some(ZERO),
-    Some(ZERO),
-    Some(ZERO),
-    Some(ZERO),
-    Some(ZERO),
-    Some(ZERO),
-    Some(ZERO),
-    Some(ZERO),
-    Some(ZERO),
-    Some(ZERO),
-    Some(ZERO),
-    Some(ZERO),
-    Some(ZERO),
-    Some(ZERO),
-    Some(ZERO),
-    Some(ZERO),
-    Some(ZERO),
-    Some(ZERO),
-    Some(ZERO),
-    Some(ZERO),
-    Some(ZERO),
-    Some(ZERO),
-    Some(ZERO),
-    Some(ZERO),
-    Some(ZERO),
-    Some(ZERO),
-    Some(ZERO),
-    Some(ZERO),
-    Some(ZERO),
-    Some(ZERO),
-    Some(ZERO),
-    Some(ZERO),
-    Some(ZERO),
-    Some(ZERO),
-    Some(ZERO),
-    Some(ZERO),
-    Some(ZERO),
-    Some(ZERO),
-    Some(ZERO),
-    Some(ZERO),
-    Some(ZERO),
-    Some(ZERO),
-    Some(ZERO),
-];
-
-const PASS: ModeWord = ModeWord {
-    mode: Mode::Pass,
-    bits: 4,
-};
-
-const HORIZONTAL: ModeWord = ModeWord {
-    mode: Mode::Horizontal,
-    bits: 3,
-};
-
-const ZERO: ModeWord = ModeWord {
-    mode: Mode::Vertical(Offset::Zero),
-    bits: 1,
-};
-
-const RIGHT1: ModeWord = ModeWord {
-    mode: Mode::Vertical(Offset::Right1),
-    bits: 3,
-};
-
-const RIGHT2: ModeWord = ModeWord {
-    mode: Mode::Vertical(Offset::Right2),
-    bits: 6,
-};
-
-const RIGHT3: ModeWord = ModeWord {
-    mode: Mode::Vertical(Offset::Right3),
-    bits: 7,
-};
-
-const LEFT1: ModeWord = ModeWord {
-    mode: Mode::Vertical(Offset::Left1),
-    bits: 3,
-};
-
-const LEFT2: ModeWord = ModeWord {
-    mode: Mode::Vertical(Offset::Left2),
-    bits: 6,
-};
-
-const LEFT3: ModeWord = ModeWord {
-    mode: Mode::Vertical(Offset::Left3),
-    bits: 7,
-};

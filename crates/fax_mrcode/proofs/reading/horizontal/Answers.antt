@@ -1,4 +1,4 @@
-use Rattle.std.proofs.Common.{◌+◌, ◌<◌, ◌≤◌, ◌≡◌, ◌⊎◌, ◌++◌, length, sym, ◌∙◌, ap, subst, arith, inl, inr, eq-eqb}
+use Rattle.std.proofs.Common.{◌+◌, ◌<◌, ◌≡◌, ◌⊎◌, ◌++◌, length, sym, ◌∙◌, ap, subst, arith, inl, inr, eq-eqb}
 use Rattle.std.proofs.lemmas.Result.{err_from_is_err_and}
 use Rattle.std.proofs.lemmas.Bool.{eqb-true}
 use Rattle.fax_bits.proofs.ReadingLemmas.{Passes-then}
@@ -6,8 +6,7 @@ use Rattle.fax_runcodes.specs.declared.Colour.{Colour}
 use Rattle.fax_runcodes.specs.Rows.{other, colour_before}
 use Rattle.fax_runcodes.specs.Spelling.{SpellsRun}
 use Rattle.fax_mrcode.specs.Places.{run_start}
-use Rattle.fax_mrcode.proofs.CursorLemmas.{IsCursor-right}
-use Rattle.fax_mrcode.proofs.StepLemmas.{TakesStep-horizontal, StopsAtRun-other, length-painted_more}
+use Rattle.fax_mrcode.proofs.StepLemmas.{IsTaken-horizontal, StopsAtRun-other}
 use Rattle.fax_mrcode.proofs.reading.horizontal.Goals as goal
 
 pub returns-in_err-second-clause-fault : goal.returns-in_err-second-clause-fault
@@ -17,10 +16,10 @@ returns-in_err-second-clause-fault c =
     let passes = rw c.copy-ahead.ensures at first.2 in
     let p = err_from_is_err_and c.from_residual-in_err-second.result c.from_residual-in_err-second.ensures.1 in
     let some : (0 < run) ⊎ (c.args.start.from ≡ 0) = elim first.4 [ inl more ↦ inl more | inr none ↦ inr (eqb-true c.args.start.from 0 none) ] in
-    rw (p.1, p.2) (λ row r. (
+    rw (p.1, p.2) (λ line row r. (
     let wide : length row ≡ c.args.width = r.same_width in
     let colour : colour_before row c.args.start.from ≡ c.args.start.colour = r.here c.requires.within in
-    let start : c.len-a0.result + run ≡ run_start c.args.start.from + run = omega (arith, c.len-a0.ensures.len, c.requires.start.size) in
+    let start : c.run_start-a0.result + run ≡ run_start c.args.start.from + run = omega (arith, c.run_start-a0.ensures) in
     inr (
       run,
       c.read_stretch.new.reader.left,
@@ -32,25 +31,11 @@ returns-in_err-second-clause-fault c =
       },
       some,
       omega (arith, first.3, start),
-      StopsAtRun-other c.args.width (length row) c.other.result (other (colour_before row c.args.start.from)) (c.len-a0.result + run) (run_start c.args.start.from + run) {Q = run_start c.args.start.from + run ≡ length row}
+      StopsAtRun-other c.args.width (length row) c.other.result (other (colour_before row c.args.start.from)) (c.run_start-a0.result + run) (run_start c.args.start.from + run) {Q = run_start c.args.start.from + run ≡ length row}
           c.read_stretch.new.reader.left c.in_err-second.field-0.0 (sym wide) (c.other.ensures ∙ ap other (sym colour)) start
-          (λ whole. eq-eqb (c.len-a0.result + run) c.args.width (start ∙ whole ∙ wide))
+          (λ whole. eq-eqb (c.run_start-a0.result + run) c.args.width (start ∙ whole ∙ wide))
           c.in_err-second.ensures.fault,
     )))
-
-pub returns-clause-next : goal.returns-clause-next
-returns-clause-next c =
-    let first = c.in_ok-first.first in
-    let second = c.in_ok-second.second in
-    let size : length c.paint.new.self ≡ length c.args.line.now + first = ap length c.paint.ensures ∙ length-painted_more c.args.line.now first c.args.start.colour in
-    let size2 : length c.paint-2.new.self ≡ length c.paint.new.self + second = ap length c.paint-2.ensures ∙ length-painted_more c.paint.new.self second c.other-2.result in
-    let right : c.args.start.from ≤ c.len-a0.result + first + second + 1 = omega (arith, c.len-a0.ensures.len, c.requires.start.size) in
-    record {
-      size = omega (arith, size, size2, c.len-a0.ensures.len);
-      within = omega (arith, c.in_ok-second.ensures.ok.3);
-      first = λ none. absurd (omega arith);
-      cursor = λ le. IsCursor-right c.args.changes.now c.args.start.colour c.args.start.from (c.len-a0.result + first + second + 1) c.args.start.index right (c.requires.start.cursor c.requires.within);
-    }
 
 pub returns-clause-ok : goal.returns-clause-ok
 returns-clause-ok c =
@@ -60,13 +45,13 @@ returns-clause-ok c =
     let run2 = c.in_ok-second.second in
     let passes = rw c.copy-ahead.ensures at first.2 in
     let some : (0 < run) ⊎ (c.args.start.from ≡ 0) = elim first.4 [ inl more ↦ inl more | inr none ↦ inr (eqb-true c.args.start.from 0 none) ] in
-    let some2 : (0 < run2) ⊎ (length c.args.line.now + run ≡ c.args.width) = elim second.4 [
+    let some2 : (0 < run2) ⊎ (run_start c.args.start.from + run ≡ c.args.width) = elim second.4 [
       | inl more ↦ inl more
-      | inr none ↦ inr (omega (arith, eqb-true (c.len-a0.result + run) c.args.width none, c.len-a0.ensures.len))
+      | inr none ↦ inr (omega (arith, eqb-true (c.run_start-a0.result + run) c.args.width none, c.run_start-a0.ensures))
     ] in (
       first.0 ++ second.0,
       Passes-then c.args.reader.now c.read_stretch.new.reader c.read_stretch-2.new.reader first.0 second.0 passes second.2,
-      rw (c.len-a0.ensures.len, c.paint-2.ensures, c.paint.ensures, c.other-2.ensures)
-          (TakesStep-horizontal c.args.changes.now c.args.width c.requires.rising c.args.line.now c.args.start c.requires.start c.requires.within run run2 first.0 second.0 c.args.start.index
-          first.1 (rw c.other.ensures at second.1) some (omega (arith, first.3, c.len-a0.ensures.len)) some2 (omega (arith, second.3, c.len-a0.ensures.len))),
+      rw c.run_start-a0.ensures
+          (IsTaken-horizontal c.args.changes.now c.args.width c.requires.rising c.args.start c.requires.within run run2 first.0 second.0
+          first.1 (rw c.other.ensures at second.1) some (omega (arith, first.3, c.run_start-a0.ensures)) some2 (omega (arith, second.3, c.run_start-a0.ensures))),
     )

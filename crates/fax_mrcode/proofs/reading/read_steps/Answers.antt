@@ -11,8 +11,8 @@ use Rattle.fax_mrcode.proofs.reading.read_steps.Goals.{After-read_near_steps-nea
 
 pub loop-start-init : goal.loop-start-init
 loop-start-init c = record {
-  so_far = StepsSoFar-none (painted White 0 c.args.changes.now c.args.width) c.args.width c.args.reader.now;
-  is_start = rw (c.paint.ensures, c.len.ensures.len, c.requires.empty)
+  so_far = rw c.of_line-start.ensures (StepsSoFar-none (painted White 0 c.args.changes.now c.args.width) c.args.width c.args.reader.now);
+  is_start = rw (c.paint.ensures, c.len.ensures.len, c.of_line-start.ensures, c.requires.empty)
       (IsStartIn-painted c.args.changes.now c.args.width [] (record { from = 0; colour = White; index = 0 }) (IsStart-first c.args.changes.now c.args.width)).0;
 }
 
