@@ -13,6 +13,7 @@ use Rattle.fax_pagestore.specs.declared.fault.PageFault.TheVariants.{NoEol, BadL
 use Rattle.fax_pagestore.specs.PageRows.{most_rows}
 use Rattle.fax_pagestore.specs.PageTexts.{InARow, SpellsRow, SpellsRows, ReadSoFar}
 use Rattle.fax_pagestore.specs.PageFaults.{LineBegins, SeparatorBegins, last_of, FailsRow, ReadsRow, Stops}
+use Rattle.fax_pagestore.specs.Readers.{BeginsRow}
 use Rattle.fax_pagestore.proofs.TextLemmas.{SeparatorBegins-from, separator_not_runs_out, line_not_runs_out, separator_not_line, IsSeparator-one, OneMore, InARow-begins, InARow-meet, IsFront-one, SpellsRow-begins, width_some, width_most}
 
 -- ---- the line of one row
@@ -80,15 +81,6 @@ ReadSoFar-width coding width octets rows further tag rest r =
     subst (HasWidth width) (row_behind-last rows) (SpellsRows-width coding width r.front_tag None rows r.lines r.row_tag tt r.spelt)
 
 -- ---- lines of rows
-
--- bits begin with the line of some row, behind a separator of this tag, and a separator behind it
-pub record BeginsRow (coding : Coding) (width : ℕ) (tag : Bool) (before : Option Elements) (bits : List Bool) : Type 0 where
-  pub line : List Bool
-  pub row : Elements
-  pub rest : List Bool
-  pub spelt : SpellsRow width tag before line row
-  pub bits_are : bits ≡ line ++ rest
-  pub behind : SeparatorBegins coding rest
 
 -- Where a row begins a line does.
 pub BeginsRow-line : (coding : Coding) (width : ℕ) (tag : Bool) (before : Option Elements) (bits : List Bool) → 0 < width → BeginsRow coding width tag before bits → LineBegins bits

@@ -1,5 +1,5 @@
 -- Pages that are read as their octets come.
-use Rattle.std.proofs.Common.{◌≡◌, ℕ, zero, suc, ◌+◌, ◌-◌, ◌*◌, ◌/◌, ◌%◌, ◌<◌, ◌≤◌, Bool, true, false, List, [], ◌∷◌, ◌++◌, All, Option, Some, None, length, take, drop, replicate, slice_get, slice_index_or, IfSome, IsSome, IsNone, zero-add, refl, sym, ◌∙◌, ap, subst, arith, append_assoc, append-nil, length-append, length-drop, inl, inr}
+use Rattle.std.proofs.Common.{◌≡◌, ◌≢◌, ℕ, zero, suc, ◌+◌, ◌-◌, ◌*◌, ◌/◌, ◌%◌, ◌<◌, ◌≤◌, Bool, true, false, List, [], ◌∷◌, ◌++◌, All, Option, Some, None, length, take, drop, replicate, slice_get, slice_index_or, IfSome, IsSome, IsNone, is_some, Result, Ok, Err, IsOk, IfErr, OnOk, zero-add, refl, sym, ◌∙◌, ap, subst, arith, append_assoc, append-nil, length-append, length-drop, inl, inr}
 use Rattle.std.proofs.lemmas.List.{nil_from_length, length_push, drop_at, drop-drop, drop-append-le, take-append-drop, append_cancel_left, length-replicate, replicate-append-replicate, get_or-replicate}
 use Rattle.std.proofs.lemmas.List.Elements.{All-push}
 use Rattle.std.proofs.Math.Seq.{drop-length}
@@ -11,22 +11,31 @@ use Rattle.fax_runcodes.specs.declared.format.Coding.{Coding}
 use Rattle.fax_runcodes.specs.declared.format.Format.{Format}
 use Rattle.fax_runcodes.specs.declared.Colour.{Colour}
 use Rattle.fax_runcodes.specs.declared.Colour.TheVariants.{White}
-use Rattle.fax_runcodes.specs.Rows.{Elements, colour_before}
+use Rattle.fax_runcodes.specs.Rows.{Elements, IsWidth, colour_before}
 use Rattle.fax_runcodes.specs.Widths.{elements_of}
 use Rattle.fax_runcodes.specs.Painted.{painted, AreRising}
 use Rattle.fax_runcodes.proofs.PaintedLemmas.{rising_le}
 use Rattle.fax_runcodes.proofs.TurningLemmas.{turned_at_all}
+use Rattle.fax_mhcode.specs.declared.fault.LineFault.{LineFault}
 use Rattle.fax_mhcode.proofs.LineLaws.{IsWidth-elements}
+use Rattle.fax_mrcode.specs.Lines as mr
+use Rattle.fax_mrcode.specs.LineFaults as mr_faults
 use Rattle.fax_pagestore.specs.declared.fault.PageFault.{PageFault}
 use Rattle.fax_pagestore.specs.declared.fault.PageFault.TheVariants.{NoEol, BadLine, NoRtc, Empty, TooManyRows, NoMemory}
 use Rattle.fax_pagestore.specs.PageRows.{most_rows}
 use Rattle.fax_pagestore.specs.Pages.{PageValue}
-use Rattle.fax_pagestore.specs.PageTexts.{IsFront, IsSeparator, InARow, SpellsRow, SpellsRows, ReadSoFar, MeansRows, MeansPage}
-use Rattle.fax_pagestore.specs.PageFaults.{LineBegins, Stops, FailsPage, HasNoEol, last_of, row_before}
-use Rattle.fax_pagestore.specs.Readers.{ReadsOne, ReaderValue, HasRead, IsReadUpTo, AreJudged, is_settled, new_reader}
+use Rattle.fax_pagestore.specs.PageTexts.{end_of_line, IsFront, IsSeparator, InARow, SpellsRow, SpellsRows, ReadSoFar, MeansRows, MeansPage}
+use Rattle.fax_pagestore.specs.PageFaults.{LineBegins, SeparatorBegins, FailsRow, Stops, FailsPage, HasNoEol, last_of, row_before}
+use Rattle.fax_pagestore.specs.Readers.{ReadsOne, BeginsRow, ReaderValue, HasRead, IsReadUpTo, NoMoreIsWhole, AreJudged, fault_of, new_reader}
+use Rattle.fax_pagestore.specs.declared.reader.Settled.{Settled}
+use Rattle.fax_pagestore.specs.declared.reader.Stop.{Stop}
+use Rattle.fax_pagestore.specs.declared.reader.Stop.TheVariants.{NoEols, NoLine, Fault}
+use Rattle.fax_pagestore.specs.Ends.{HoldsEol}
 use Rattle.fax_pagestore.proofs.FrontLemmas.{FewZeros-no_eol}
 use Rattle.fax_pagestore.proofs.PageLaws.{pages_are_unique, pages_dont_fail, faults_are_unique}
-use Rattle.fax_pagestore.proofs.ReadLemmas.{SpellsRow-length, ReadSoFar-lengths}
+use Rattle.fax_pagestore.proofs.EndsLemmas.{ends_hold, begins_before, separator_ends, front_ends}
+use Rattle.fax_pagestore.proofs.ReadLemmas.{SpellsRow-length, ReadSoFar-lengths, BeginsRow-line, Stops-row}
+use Rattle.fax_pagestore.proofs.TextLemmas.{separator_not_line, line_not_runs_out, width_some}
 use Rattle.fax_pagestore.proofs.PageReading.{Keeps, Knows-kept, SpellsRow-knows, last_of-width, ReadSoFar-row, ReadSoFar-separators}
 
 -- ---- one row more
@@ -277,13 +286,16 @@ IsReadUpTo-octets : (coding : Coding) (width : ℕ) (octets piece : List ℕ) (r
 IsReadUpTo-octets coding width octets piece rows None left (none, all) = (none, ap (λ b. b ++ bits_of piece) all ∙ sym (bits_of-append octets piece))
 IsReadUpTo-octets coding width octets piece rows (Some tag) left read = ReadSoFar-octets coding width octets piece rows tag left read
 
+-- the bits that are not used, with a piece behind them
+with_piece : (held piece all : List ℕ) (used : ℕ) → used ≤ 8 * length held → all ≡ held ++ piece → drop used (bits_of all) ≡ drop used (bits_of held) ++ bits_of piece
+with_piece held piece all used le e =
+    ap (λ o. drop used (bits_of o)) e ∙ ap (drop used) (bits_of-append held piece) ∙ drop-append-le used (bits_of held) (bits_of piece) (omega (arith, length-bits_of held))
+
 -- the same where the octets that are kept have more behind them
 pub IsReadUpTo-more : (coding : Coding) (width : ℕ) (octets piece held all : List ℕ) (used : ℕ) (rows : List Elements) (tag : Option Bool) → used ≤ 8 * length held → all ≡ held ++ piece
     → IsReadUpTo coding width octets rows tag (drop used (bits_of held)) → IsReadUpTo coding width (octets ++ piece) rows tag (drop used (bits_of all))
 IsReadUpTo-more coding width octets piece held all used rows tag le e read =
-    let bits : drop used (bits_of held) ++ bits_of piece ≡ drop used (bits_of all) =
-    sym (drop-append-le used (bits_of held) (bits_of piece) (omega (arith, length-bits_of held))) ∙ ap (drop used) (sym (bits_of-append held piece)) ∙ ap (λ o. drop used (bits_of o)) (sym e) in
-    subst (IsReadUpTo coding width (octets ++ piece) rows tag) bits (IsReadUpTo-octets coding width octets piece rows tag (drop used (bits_of held)) read)
+    subst (IsReadUpTo coding width (octets ++ piece) rows tag) (sym (with_piece held piece all used le e)) (IsReadUpTo-octets coding width octets piece rows tag (drop used (bits_of held)) read)
 
 -- ---- what stays so whatever follows
 
@@ -297,34 +309,11 @@ LineBegins-more : (bits more : List Bool) → LineBegins bits → LineBegins (bi
 LineBegins-more bits more (zeros, rest, few, e) = (zeros, rest ++ more, few, ap (λ b. b ++ more) e ∙ append_assoc (replicate zeros false) (true ∷ rest) more)
 
 -- a line behind so many rows
-too_many_stay : (coding : Coding) (width : ℕ) (octets more : List ℕ) (rows : List Elements) (tag : Bool) (bits : List Bool) → length rows ≤ most_rows
+pub too_many_stay : (coding : Coding) (width : ℕ) (octets more : List ℕ) (rows : List Elements) (tag : Bool) (bits : List Bool) → length rows ≤ most_rows
     → ReadSoFar coding width octets rows 0 tag bits → Stops coding width rows 0 tag bits TooManyRows → FailsPage width coding (octets ++ more) TooManyRows
 too_many_stay coding width octets more rows tag bits few read (one, begins, full) =
     stops_fail coding width (octets ++ more) rows tag (bits ++ bits_of more) TooManyRows few (ReadSoFar-octets coding width octets more rows tag bits read)
     (one, LineBegins-more bits (bits_of more) begins, full)
-
--- where a line begins and no row can be read
-pub halt_stays : (coding : Coding) (width : ℕ) (octets more : List ℕ) (rows : List Elements) (tag : Bool) (bits : List Bool) (fault : Option PageFault) → IsSome fault
-    → is_settled fault ≡ true → length rows ≤ most_rows → ReadSoFar coding width octets rows 0 tag bits → IfSome fault (λ met. Stops coding width rows 0 tag bits met)
-    → AreJudged coding width (octets ++ more) rows fault
-halt_stays coding width octets more rows tag bits None some settled few read stops = absurd (cc)
-halt_stays coding width octets more rows tag bits (Some NoEol) some settled few read stops = absurd (cc)
-halt_stays coding width octets more rows tag bits (Some (BadLine n)) some settled few read stops = absurd (cc)
-halt_stays coding width octets more rows tag bits (Some NoRtc) some settled few read stops = absurd (cc)
-halt_stays coding width octets more rows tag bits (Some Empty) some settled few read stops = absurd (cc stops.0)
-halt_stays coding width octets more rows tag bits (Some TooManyRows) some settled few read stops = too_many_stay coding width octets more rows tag bits few read stops
-halt_stays coding width octets more rows tag bits (Some NoMemory) some settled few read stops = absurd (cc)
-
--- what breaks a return to control does not stay so
-pub broken_not_settled : (coding : Coding) (bits : List Bool) (tag : Bool) (fault : PageFault)
-    → ((n : ℕ) × (text rest : List Bool) × (last : Bool) × (n ≤ 5) × InARow coding tag n text last × (bits ≡ text ++ rest)
-    × ((width : ℕ) (rows : List Elements) → Stops coding width rows n last rest fault)) → is_settled (Some fault) ≡ true → ⊥
-broken_not_settled coding bits tag NoEol (n, text, rest, last, le, in_a_row, e, stops) settled = absurd (cc)
-broken_not_settled coding bits tag (BadLine k) (n, text, rest, last, le, in_a_row, e, stops) settled = absurd (cc)
-broken_not_settled coding bits tag NoRtc (n, text, rest, last, le, in_a_row, e, stops) settled = absurd (cc)
-broken_not_settled coding bits tag Empty (n, text, rest, last, le, in_a_row, e, stops) settled = absurd (cc ((stops 0 ([] ∷ [])).2))
-broken_not_settled coding bits tag TooManyRows (n, text, rest, last, le, in_a_row, e, stops) settled = absurd (omega (arith, (stops 0 []).2))
-broken_not_settled coding bits tag NoMemory (n, text, rest, last, le, in_a_row, e, stops) settled = absurd (cc)
 
 pub none_stay : (coding : Coding) (width : ℕ) (octets more : List ℕ) (rows : List Elements) (tag : Bool) (old new : Place) → length rows ≡ 0
     → ReadSoFar coding width octets rows 0 tag old.left → (text : List Bool) × InARow coding tag 5 text true × Passes old new text → FailsPage width coding (octets ++ more) Empty
@@ -339,16 +328,99 @@ rows_stay coding width octets more rows tag old new some few read (text, in_a_ro
     (ReadSoFar-octets coding width octets more rows tag old.left read) (text, in_a_row, Passes-more old new text (bits_of more) p)
 
 -- a reader of which it is settled takes any octets
-pub HasRead-settled : (octets piece : List ℕ) (reader : ReaderValue) → is_settled reader.fault ≡ true → HasRead octets reader → HasRead (octets ++ piece) reader
-HasRead-settled octets piece reader settled has = record {
-  read = λ not_yet. absurd (cc (settled, not_yet));
-  judged = (has.settled settled).1 piece;
-  settled = λ yes. (
-    (has.settled yes).0,
-    λ more. subst (λ all. AreJudged reader.coding (elements_of reader.format.width) all reader.rows reader.fault)
-        (sym (append_assoc octets piece more)) ((has.settled yes).1 (piece ++ more)),
+pub HasRead-settled : (octets piece : List ℕ) (reader : ReaderValue) → IsSome reader.settled → HasRead octets reader → HasRead (octets ++ piece) reader
+HasRead-settled octets piece reader some has = record {
+  read = λ not_yet. absurd (cc (some, not_yet));
+  waits = λ not_yet. absurd (cc (some, not_yet));
+  settled = λ what is. (
+    (has.settled what is).0,
+    λ more. subst (λ all. AreJudged reader.coding (elements_of reader.format.width) all reader.rows (fault_of what))
+        (sym (append_assoc octets piece more)) ((has.settled what is).1 (piece ++ more)),
   );
 }
+
+-- ---- of what is left nothing more can be read
+
+-- where no EOL stands
+pub no_eol_waits : (coding : Coding) (width : ℕ) (rows : List Elements) (tag : Bool) (left : List Bool) → (HoldsEol left → ⊥) → NoMoreIsWhole coding width rows (Some tag) left
+no_eol_waits coding width rows tag left none r =
+    let next : Bool = r.behind.0 in
+    let separator : List Bool = r.behind.1 in
+    let rest : List Bool = r.behind.2 in
+    let ends = separator_ends coding next separator r.behind.3 in
+    let text : r.line ++ separator ≡ (r.line ++ ends.0) ++ (end_of_line ++ ends.1) = ap (λ b. r.line ++ b) ends.2 ∙ sym (append_assoc r.line ends.0 (end_of_line ++ ends.1)) in
+    none (ends_hold (r.line ++ separator) (r.line ++ ends.0) ends.1 rest left text
+    (r.bits_are ∙ ap (λ b. r.line ++ b) r.behind.4 ∙ sym (append_assoc r.line separator rest)))
+
+-- where no line begins
+pub no_line_waits : (coding : Coding) (width : ℕ) (rows : List Elements) (tag : Bool) (left : List Bool) → 0 < width → (LineBegins left → ⊥) → NoMoreIsWhole coding width rows (Some tag) left
+no_line_waits coding width rows tag left some none r = none (BeginsRow-line coding width tag (last_of rows) left some r)
+
+-- where a row was begun for which there is room
+room_left : (coding : Coding) (width : ℕ) (rows : List Elements) (tag : Bool) (bits : List Bool) (fault : PageFault) → 0 < width → fault ≢ TooManyRows
+    → Stops coding width rows 0 tag bits fault → BeginsRow coding width tag (last_of rows) bits → length rows < most_rows
+room_left coding width rows tag bits NoRtc some not_many s b =
+    let line_begins : LineBegins bits = BeginsRow-line coding width tag (last_of rows) bits some b in
+    elim s [
+      | inl out ↦ absurd (line_not_runs_out coding bits line_begins out.1)
+      | inr later ↦ elim later [
+        | inl line ↦ absurd (omega (arith, line.0))
+        | inr last ↦ elim last [
+          | inl zero_tag ↦ elim zero_tag.1 [ inl next ↦ absurd (separator_not_line coding bits next.1 line_begins) | inr six ↦ absurd (omega (arith, six)) ]
+          | inr read ↦ read.0.room
+        ]
+      ]
+    ]
+room_left coding width rows tag bits Empty some not_many s b = absurd (omega (arith, s.0))
+room_left coding width rows tag bits TooManyRows some not_many s b = absurd (not_many refl)
+room_left coding width rows tag bits (BadLine n) some not_many s b = s.1.room
+room_left coding width rows tag bits NoEol some not_many s b = absurd s
+room_left coding width rows tag bits NoMemory some not_many s b = absurd s
+
+-- where a fault was met, but for too many rows
+pub fault_waits : (coding : Coding) (width : ℕ) (rows : List Elements) (tag : Bool) (left : List Bool) (fault : PageFault) → IsWidth width → All (λ row. length row ≡ width) rows
+    → fault ≢ TooManyRows → Stops coding width rows 0 tag left fault → NoMoreIsWhole coding width rows (Some tag) left
+fault_waits coding width rows tag left fault is each not_many s r =
+    Stops-row coding width rows 0 tag left fault is (last_of-width width rows each) refl (room_left coding width rows tag left fault (width_some width is) not_many s r) r s
+
+-- where a piece brought no EOL
+piece_front : (coding : Coding) (held piece all : List ℕ) (used n : ℕ) → drop used (bits_of all) ≡ drop used (bits_of held) ++ bits_of piece
+    → n ≤ (used + length (drop used (bits_of held))) - 13 → (HoldsEol (drop n (bits_of all)) → ⊥)
+    → ((tag : Bool) (front rest : List Bool) → IsFront coding tag front → drop used (bits_of held) ≡ front ++ rest → ⊥)
+    → (tag : Bool) (front rest : List Bool) → IsFront coding tag front → drop used (bits_of all) ≡ front ++ rest → ⊥
+piece_front coding held piece all used n bits le none before tag front rest is e =
+    let ends = front_ends coding tag front is in
+    let was = begins_before (bits_of all) (drop used (bits_of held)) (bits_of piece) front ends.0 ends.1 rest used n bits le none ends.2 ends.3 (sym bits ∙ e) in
+    before tag front was.0 is was.1
+
+piece_row : (coding : Coding) (width : ℕ) (rows : List Elements) (tag : Bool) (held piece all : List ℕ) (used n : ℕ) → drop used (bits_of all) ≡ drop used (bits_of held) ++ bits_of piece
+    → n ≤ (used + length (drop used (bits_of held))) - 13 → (HoldsEol (drop n (bits_of all)) → ⊥)
+    → (BeginsRow coding width tag (last_of rows) (drop used (bits_of held)) → ⊥) → BeginsRow coding width tag (last_of rows) (drop used (bits_of all)) → ⊥
+piece_row coding width rows tag held piece all used n bits le none before r =
+    let next : Bool = r.behind.0 in
+    let separator : List Bool = r.behind.1 in
+    let rest : List Bool = r.behind.2 in
+    let ends = separator_ends coding next separator r.behind.3 in
+    let text : r.line ++ separator ≡ (r.line ++ ends.0) ++ (end_of_line ++ ends.1) = ap (λ b. r.line ++ b) ends.2 ∙ sym (append_assoc r.line ends.0 (end_of_line ++ ends.1)) in
+    let whole : drop used (bits_of held) ++ bits_of piece ≡ (r.line ++ separator) ++ rest = sym bits ∙ r.bits_are ∙ ap (λ b. r.line ++ b) r.behind.4 ∙ sym (append_assoc r.line separator rest) in
+    let was = begins_before (bits_of all) (drop used (bits_of held)) (bits_of piece) (r.line ++ separator) (r.line ++ ends.0) ends.1 rest used n bits le none text ends.3 whole in
+    before record {
+      line = r.line;
+      row = r.row;
+      rest = separator ++ was.0;
+      spelt = r.spelt;
+      bits_are = was.1 ∙ append_assoc r.line separator was.0;
+      behind = (next, separator, was.0, r.behind.3, refl);
+    }
+
+pub piece_waits : (coding : Coding) (width : ℕ) (rows : List Elements) (tag : Option Bool) (held piece all : List ℕ) (used n : ℕ) → used ≤ 8 * length held → all ≡ held ++ piece
+    → n ≤ 8 * length held - 13 → (HoldsEol (drop n (bits_of all)) → ⊥) → NoMoreIsWhole coding width rows tag (drop used (bits_of held)) → NoMoreIsWhole coding width rows tag (drop used (bits_of all))
+piece_waits coding width rows None held piece all used n inside e le none before =
+    let least : n ≤ (used + length (drop used (bits_of held))) - 13 = omega (arith, length-drop used (bits_of held), length-bits_of held) in
+    piece_front coding held piece all used n (with_piece held piece all used inside e) least none before
+piece_waits coding width rows (Some tag) held piece all used n inside e le none before =
+    let least : n ≤ (used + length (drop used (bits_of held))) - 13 = omega (arith, length-drop used (bits_of held), length-bits_of held) in
+    piece_row coding width rows tag held piece all used n (with_piece held piece all used inside e) least none before
 
 -- ---- the front
 
@@ -374,51 +446,103 @@ nothing_has_eol coding = λ tag front rest is e.
 pub nothing_read : (format : Format) (coding : Coding) → HasRead [] (new_reader format coding)
 nothing_read format coding = record {
   read = λ not_yet. (refl, sym bits_of-nil);
-  judged = inl (refl, nothing_has_eol coding);
-  settled = λ none. absurd (cc);
+  waits = λ not_yet tag front rest is e. nothing_has_eol coding tag front rest is (bits_of-nil ∙ e);
+  settled = λ what none. absurd (cc);
 }
 
 pub new_is : (format : Format) (coding : Coding) (rows : List Elements) (items : List ℕ) → rows ≡ [] → items ≡ []
-    → (let made : ReaderValue = record { format = format; coding = coding; rows = rows; tag = None; left = drop 0 (bits_of items); fault = Some NoEol } in made ≡ new_reader format coding)
+    → (let made : ReaderValue = record { format = format; coding = coding; rows = rows; tag = None; left = drop 0 (bits_of items); settled = None } in made ≡ new_reader format coding)
 new_is format coding rows items none no_items =
-    ap (λ (rs : List Elements). let made : ReaderValue = record { format = format; coding = coding; rows = rs; tag = None; left = drop 0 (bits_of items); fault = Some NoEol } in made) none
-    ∙ ap (λ (bits : List Bool). let made : ReaderValue = record { format = format; coding = coding; rows = []; tag = None; left = bits; fault = Some NoEol } in made) (ap bits_of no_items ∙ bits_of-nil)
+    ap (λ (rs : List Elements). let made : ReaderValue = record { format = format; coding = coding; rows = rs; tag = None; left = drop 0 (bits_of items); settled = None } in made) none
+    ∙ ap (λ (bits : List Bool). let made : ReaderValue = record { format = format; coding = coding; rows = []; tag = None; left = bits; settled = None } in made) (ap bits_of no_items ∙ bits_of-nil)
 
 -- ---- what is judged
 
-pub judged_from : (coding : Coding) (width : ℕ) (octets : List ℕ) (rows : List Elements) (fault : Option PageFault) → IfSome fault (λ f. FailsPage width coding octets f)
-    → (IsNone fault → MeansRows width coding octets rows) → AreJudged coding width octets rows fault
-judged_from coding width octets rows None fails whole = whole refl
-judged_from coding width octets rows (Some fault) fails whole = fails
+-- by what is settled
+pub settled_judged : (octets : List ℕ) (reader : ReaderValue) (what : Settled) → HasRead octets reader → reader.settled ≡ Some what
+    → AreJudged reader.coding (elements_of reader.format.width) octets reader.rows (fault_of what)
+settled_judged octets reader what has is =
+    subst (λ all. AreJudged reader.coding (elements_of reader.format.width) all reader.rows (fault_of what)) (append-nil octets) ((has.settled what is).1 [])
+
+-- before the first EOL
+pub no_front_judged : (coding : Coding) (width : ℕ) (octets : List ℕ) (rows : List Elements) (left : List Bool) → IsReadUpTo coding width octets rows None left
+    → NoMoreIsWhole coding width rows None left → FailsPage width coding octets NoEol
+no_front_judged coding width octets rows left read waits = inl (refl, λ tag front rest is e. waits tag front rest is (read.1 ∙ e))
 
 -- ---- the one answer
 
--- what a reader has read is no page and a fault, nor two faults
-pub no_page : (octets : List ℕ) (reader : ReaderValue) (fault : PageFault) (page : PageValue) → HasRead octets reader → reader.fault ≡ Some fault
-    → MeansPage reader.format reader.coding octets page → ⊥
-no_page octets reader fault page has is means =
-    pages_dont_fail (elements_of reader.format.width) reader.coding octets page.rows fault (IsWidth-elements reader.format.width) means.1
-    (subst (AreJudged reader.coding (elements_of reader.format.width) octets reader.rows) is has.judged)
+-- octets that are judged are no page and a fault, nor two faults
+pub no_page : (format : Format) (coding : Coding) (octets : List ℕ) (fault : PageFault) (page : PageValue) → FailsPage (elements_of format.width) coding octets fault
+    → MeansPage format coding octets page → ⊥
+no_page format coding octets fault page fails means = pages_dont_fail (elements_of format.width) coding octets page.rows fault (IsWidth-elements format.width) means.1 fails
 
-pub no_fault : (octets : List ℕ) (reader : ReaderValue) (fault : PageFault) → HasRead octets reader → reader.fault ≡ None
-    → FailsPage (elements_of reader.format.width) reader.coding octets fault → ⊥
-no_fault octets reader fault has is fails =
-    pages_dont_fail (elements_of reader.format.width) reader.coding octets reader.rows fault (IsWidth-elements reader.format.width)
-    (subst (AreJudged reader.coding (elements_of reader.format.width) octets reader.rows) is has.judged) fails
+pub no_fault : (format : Format) (coding : Coding) (octets : List ℕ) (fault : PageFault) (rows : List Elements) → MeansRows (elements_of format.width) coding octets rows
+    → FailsPage (elements_of format.width) coding octets fault → ⊥
+no_fault format coding octets fault rows means fails = pages_dont_fail (elements_of format.width) coding octets rows fault (IsWidth-elements format.width) means fails
 
-pub same_fault : (octets : List ℕ) (reader : ReaderValue) (fault other : PageFault) → HasRead octets reader → reader.fault ≡ Some fault
-    → FailsPage (elements_of reader.format.width) reader.coding octets other → fault ≡ other
-same_fault octets reader fault other has is fails =
-    faults_are_unique (elements_of reader.format.width) reader.coding octets fault other (IsWidth-elements reader.format.width)
-    (subst (AreJudged reader.coding (elements_of reader.format.width) octets reader.rows) is has.judged) fails
+pub same_fault : (format : Format) (coding : Coding) (octets : List ℕ) (fault other : PageFault) → FailsPage (elements_of format.width) coding octets fault
+    → FailsPage (elements_of format.width) coding octets other → fault ≡ other
+same_fault format coding octets fault other one two = faults_are_unique (elements_of format.width) coding octets fault other (IsWidth-elements format.width) one two
 
 -- the page of a reader is the one that its octets mean
-pub same_page : (octets : List ℕ) (reader : ReaderValue) (page made : PageValue) → HasRead octets reader → reader.fault ≡ None
+pub same_page : (octets : List ℕ) (reader : ReaderValue) (page made : PageValue) → MeansRows (elements_of reader.format.width) reader.coding octets reader.rows
     → MeansPage reader.format reader.coding octets page → made ≡ record { format = reader.format; rows = reader.rows } → made ≡ page
-same_page octets reader page made has is means e =
+same_page octets reader page made mine means e =
     let rows : reader.rows ≡ page.rows =
-    pages_are_unique (elements_of reader.format.width) reader.coding octets reader.rows page.rows (IsWidth-elements reader.format.width)
-    (subst (AreJudged reader.coding (elements_of reader.format.width) octets reader.rows) is has.judged) means.1 in
+    pages_are_unique (elements_of reader.format.width) reader.coding octets reader.rows page.rows (IsWidth-elements reader.format.width) mine means.1 in
     e
     ∙ ap (λ (rs : List Elements). let p : PageValue = record { format = reader.format; rows = rs } in p) rows
     ∙ ap (λ (f : Format). let p : PageValue = record { format = f; rows = page.rows } in p) (sym means.0)
+
+-- ---- a line that is passed
+
+pub OnOk_is : {T E : Type 0} (result : Result T E) (P : Type 0) → OnOk result P → IsOk result → P
+OnOk_is (Ok value) P p is = p
+OnOk_is (Err fault) P p is = absurd (cc is)
+
+pub IfErr_some : {T E : Type 0} (result : Result T E) (P : E → Type 0) → IfErr result P → (IsOk result → ⊥) → (fault : E) × P fault
+IfErr_some (Ok value) P p none = absurd (none refl)
+IfErr_some (Err fault) P p none = (fault, p)
+
+-- a two-dimensional line against the last row
+pub SpellsRow-last : (width : ℕ) (tag : Bool) (rows : List Elements) (reference : Elements) (old new : Place) → tag ≡ false → last_of rows ≡ Some reference
+    → (row : Elements) × (text : List Bool) × mr.SpellsLine reference text row × Passes old new text
+    → (row : Elements) × (text : List Bool) × SpellsRow width tag (last_of rows) text row × Passes old new text
+SpellsRow-last width tag rows reference old new two last (row, text, spelt, passes) =
+    (row, text, subst (λ (t : Bool). SpellsRow width t (last_of rows) text row) (sym two) (subst (λ (before : Option Elements). SpellsRow width false before text row) (sym last) spelt), passes)
+
+pub FailsRow-last : (width : ℕ) (tag : Bool) (rows : List Elements) (reference : Elements) (bits : List Bool) → tag ≡ false → last_of rows ≡ Some reference
+    → (fault : LineFault) × mr_faults.FailsLine reference bits fault → FailsRow width tag (last_of rows) bits
+FailsRow-last width tag rows reference bits two last fails =
+    subst (λ (t : Bool). FailsRow width t (last_of rows) bits) (sym two) (subst (λ (before : Option Elements). FailsRow width false before bits) (sym last) fails)
+
+-- ---- whether it is settled
+
+pub some_if : {A : Type 0} (value : Option A) (what : A) → value ≡ Some what → IsSome value
+some_if value what is = ap is_some is
+
+pub none_if : {A : Type 0} (value : Option A) → is_some value ≡ false → value ≡ None
+none_if (Some value) is = absurd (cc is)
+none_if None is = refl
+
+-- ---- where no further row is read
+
+-- an EOL behind a place is behind one before it
+holds_before : (bits : List Bool) (n m : ℕ) → n ≤ m → HoldsEol (drop m bits) → HoldsEol (drop n bits)
+holds_before bits n m le (before, rest, e) =
+    let whole : n + (m - n) ≡ m = omega arith in
+    let split : drop n bits ≡ take (m - n) (drop n bits) ++ drop m bits =
+    sym (take-append-drop (m - n) (drop n bits)) ∙ ap (λ b. take (m - n) (drop n bits) ++ b) (drop-drop (m - n) n bits ∙ ap (λ k. drop k bits) whole) in
+    (take (m - n) (drop n bits) ++ before, rest, split ∙ ap (λ b. take (m - n) (drop n bits) ++ b) e ∙ sym (append_assoc (take (m - n) (drop n bits)) before (end_of_line ++ rest)))
+
+-- where so many bits of octets were passed, behind all EOLs
+pub behind_all : (octets : List ℕ) (first : ℕ) (place : Place) → (HoldsEol (drop (8 * first) (bits_of octets)) → ⊥) → IsReached octets place → 8 * first ≤ place.passed → HoldsEol place.left → ⊥
+behind_all octets first place none is le holds = none (holds_before (bits_of octets) (8 * first) place.passed le (subst HoldsEol (sym is.left_is) holds))
+
+pub stopped_waits : (coding : Coding) (width : ℕ) (rows : List Elements) (tag : Bool) (left : List Bool) (stop : Stop) → IsWidth width → All (λ row. length row ≡ width) rows
+    → (stop ≡ NoEols → HoldsEol left → ⊥) → (stop ≡ NoLine → LineBegins left → ⊥) → ((fault : PageFault) → stop ≡ Fault fault → Stops coding width rows 0 tag left fault)
+    → stop ≢ Fault TooManyRows → NoMoreIsWhole coding width rows (Some tag) left
+stopped_waits coding width rows tag left NoEols is each eol line met not_many = no_eol_waits coding width rows tag left (eol refl)
+stopped_waits coding width rows tag left NoLine is each eol line met not_many = no_line_waits coding width rows tag left (width_some width is) (line refl)
+stopped_waits coding width rows tag left (Fault fault) is each eol line met not_many =
+    fault_waits coding width rows tag left fault is each (λ many. not_many (ap (λ (f : PageFault). Fault f) many)) (met fault refl)

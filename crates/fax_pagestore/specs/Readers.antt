@@ -7,48 +7,63 @@ use Rattle.fax_runcodes.specs.declared.format.Format.{Format}
 use Rattle.fax_runcodes.specs.Rows.{Elements}
 use Rattle.fax_runcodes.specs.Widths.{elements_of}
 use Rattle.fax_pagestore.specs.declared.fault.PageFault.{PageFault}
-use Rattle.fax_pagestore.specs.declared.fault.PageFault.TheVariants.{NoEol, Empty, TooManyRows}
-use Rattle.fax_pagestore.specs.PageTexts.{IsSeparator, SpellsRow, ReadSoFar, MeansRows}
-use Rattle.fax_pagestore.specs.PageFaults.{FailsPage, last_of}
+use Rattle.fax_pagestore.specs.declared.fault.PageFault.TheVariants.{Empty, TooManyRows}
+use Rattle.fax_pagestore.specs.declared.reader.Settled.{Settled}
+use Rattle.fax_pagestore.specs.declared.reader.Settled.TheVariants.{Page, NoRow, Full}
+use Rattle.fax_pagestore.specs.PageTexts.{IsFront, IsSeparator, SpellsRow, ReadSoFar, MeansRows}
+use Rattle.fax_pagestore.specs.PageFaults.{FailsPage, SeparatorBegins, last_of}
 
 -- A reader: its rows, the tag of the last separator that is read, or none before the first EOL, the bits
--- behind that, and why these octets are no page, if they are none.
+-- behind that, and what the octets are, where that is settled.
 pub record ReaderValue : Type 0 where
   pub format : Format
   pub coding : Coding
   pub rows : List Elements
   pub tag : Option Bool
   pub left : List Bool
-  pub fault : Option PageFault
+  pub settled : Option Settled
 
 -- a reader to which nothing came
 abbrev pub new_reader : Format → Coding → ReaderValue
-new_reader format coding = record { format = format; coding = coding; rows = []; tag = None; left = []; fault = Some NoEol }
+new_reader format coding = record { format = format; coding = coding; rows = []; tag = None; left = []; settled = None }
 
 -- Of octets these rows are read, and a separator of this tag behind the last; these bits are left.
 abbrev pub IsReadUpTo : Coding → ℕ → List ℕ → List Elements → Option Bool → List Bool → Type 0
 IsReadUpTo coding width octets rows None left = (rows ≡ []) × (left ≡ bits_of octets)
 IsReadUpTo coding width octets rows (Some tag) left = ReadSoFar coding width octets rows 0 tag left
 
--- what octets are where no more come: a page of these rows, or none for this fault
+-- bits begin with the line of some row, behind a separator of this tag, and a separator behind it
+pub record BeginsRow (coding : Coding) (width : ℕ) (tag : Bool) (before : Option Elements) (bits : List Bool) : Type 0 where
+  pub line : List Bool
+  pub row : Elements
+  pub rest : List Bool
+  pub spelt : SpellsRow width tag before line row
+  pub bits_are : bits ≡ line ++ rest
+  pub behind : SeparatorBegins coding rest
+
+-- Of the bits that are left nothing more can be read: no first EOL, or no row with a separator behind it.
+abbrev pub NoMoreIsWhole : Coding → ℕ → List Elements → Option Bool → List Bool → Type 0
+NoMoreIsWhole coding width rows None left = (tag : Bool) (front rest : List Bool) → IsFront coding tag front → left ≡ front ++ rest → ⊥
+NoMoreIsWhole coding width rows (Some tag) left = BeginsRow coding width tag (last_of rows) left → ⊥
+
+-- what octets are: a page of these rows, or none for this fault
 abbrev pub AreJudged : Coding → ℕ → List ℕ → List Elements → Option PageFault → Type 0
 AreJudged coding width octets rows None = MeansRows width coding octets rows
 AreJudged coding width octets rows (Some fault) = FailsPage width coding octets fault
 
--- What stays so whatever follows: a page, since its end was read; no line before that; too many rows.
-abbrev pub is_settled : Option PageFault → Bool
-is_settled None = true
-is_settled (Some Empty) = true
-is_settled (Some TooManyRows) = true
-is_settled (Some fault) = false
+-- why octets of which it is settled what they are are no page, if they are none
+abbrev pub fault_of : Settled → Option PageFault
+fault_of Page = None
+fault_of NoRow = Some Empty
+fault_of Full = Some TooManyRows
 
--- These octets came to a reader, whatever the pieces in which they came. Once it is settled what they are, no
--- bits are kept, and they are that with any octets behind them.
+-- These octets came to a reader, whatever the pieces in which they came. What can be read of them is read. Once
+-- it is settled what they are, no bits are kept, and they are that with any octets behind them.
 pub record HasRead (octets : List ℕ) (reader : ReaderValue) : Type 0 where
-  pub read : is_settled reader.fault ≡ false → IsReadUpTo reader.coding (elements_of reader.format.width) octets reader.rows reader.tag reader.left
-  pub judged : AreJudged reader.coding (elements_of reader.format.width) octets reader.rows reader.fault
-  pub settled : is_settled reader.fault ≡ true
-      → (reader.left ≡ []) × ((more : List ℕ) → AreJudged reader.coding (elements_of reader.format.width) (octets ++ more) reader.rows reader.fault)
+  pub read : reader.settled ≡ None → IsReadUpTo reader.coding (elements_of reader.format.width) octets reader.rows reader.tag reader.left
+  pub waits : reader.settled ≡ None → NoMoreIsWhole reader.coding (elements_of reader.format.width) reader.rows reader.tag reader.left
+  pub settled : (what : Settled) → reader.settled ≡ Some what
+      → (reader.left ≡ []) × ((more : List ℕ) → AreJudged reader.coding (elements_of reader.format.width) (octets ++ more) reader.rows (fault_of what))
 
 -- What a mark keeps of a reader: how many rows it has, and all else.
 pub record MarkValue : Type 0 where
@@ -57,7 +72,7 @@ pub record MarkValue : Type 0 where
   pub count : ℕ
   pub tag : Option Bool
   pub left : List Bool
-  pub fault : Option PageFault
+  pub settled : Option Settled
 
 abbrev pub mark_of : ReaderValue → MarkValue
 mark_of reader = record {
@@ -66,7 +81,7 @@ mark_of reader = record {
   count = length reader.rows;
   tag = reader.tag;
   left = reader.left;
-  fault = reader.fault;
+  settled = reader.settled;
 }
 
 -- the reader at a mark, with the first of these rows
@@ -77,7 +92,7 @@ reader_at mark rows = record {
   rows = take mark.count rows;
   tag = mark.tag;
   left = mark.left;
-  fault = mark.fault;
+  settled = mark.settled;
 }
 
 -- From one place to the next a row was read, and a separator of this tag behind it.

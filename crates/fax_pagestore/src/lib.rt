@@ -2,6 +2,7 @@
 //! rows.
 #![tactic(auto)]
 
+mod ends;
 mod fault;
 pub mod laws;
 mod reader;

@@ -1,26 +1,33 @@
 //! Pages read as their octets come.
-ghost use Rattle.std.specs.Prelude.{ℕ, Bool, List, [], ◌∷◌, ◌≡◌, ◌≢◌, ◌<◌, ◌≤◌, ◌*◌, ◌++◌, Some, None, All, take, drop, length, IfOk, IfErr, OnOk, OnErr, IfSome, IsSome, IsNone, IsOk, Ok, Err, true, false};
+ghost use Rattle.std.specs.Prelude.{ℕ, Bool, List, [], ◌∷◌, ◌≡◌, ◌≢◌, ◌<◌, ◌≤◌, ◌*◌, ◌++◌, Some, None, All, take, drop, length, IfOk, IfErr, OnOk, OnErr, IfSome, IsSome, IsTrue, IsNone, IsOk, Ok, Err, true, false};
 ghost use Rattle.fax_bits.specs.Bits.{bits_of};
 ghost use Rattle.fax_bits.specs.Reading.{Passes};
 ghost use Rattle.fax_runcodes.specs.Rows.{Elements};
 ghost use Rattle.fax_runcodes.specs.Widths.{elements_of};
 ghost use Rattle.fax_pagestore.specs.Pages.{PageValue};
-ghost use Rattle.fax_pagestore.specs.PageTexts.{ReadSoFar, MeansRows, MeansPage};
-ghost use Rattle.fax_pagestore.specs.PageFaults.{FailsPage, HasNoEol, LineBegins, Stops, last_of};
-ghost use Rattle.fax_pagestore.specs.Readers as spec;
-ghost use Rattle.fax_pagestore.specs.Readers.{ReadsOne, IsReadUpTo, AreJudged};
+ghost use Rattle.fax_pagestore.specs.PageTexts.{IsFront, ReadSoFar, MeansRows, MeansPage, SpellsRow};
+ghost use Rattle.fax_pagestore.specs.PageFaults.{FailsPage, FailsRow, LineBegins, Stops, last_of};
+ghost use Rattle.fax_pagestore.specs.Ends.{HoldsEol};
+ghost use Rattle.fax_pagestore.specs.Readers.{ReadsOne, BeginsRow, IsReadUpTo, NoMoreIsWhole, AreJudged, fault_of};
 
-use crate::reading::{MOST_ROWS, line_ahead, pass_front, pass_return_to_control, read_row};
+use crate::ends::behind_eols;
+use crate::reading::{
+    Ahead, MOST_ROWS, line_ahead, line_begins, pass_front, pass_return_to_control, pass_separator,
+    read_row,
+};
 use crate::white::pass_white_row;
 use crate::{Coding, Format, Page, PageFault, RowStore};
 use fax_bits::{BitReader, NoMemory};
+use fax_mhcode::pass_line_1d;
+use fax_mrcode::pass_line_2d;
 use fax_runcodes::{Colour, RowBuilder, Width};
 use std::alloc::Global;
 use std::marker::Model;
 use std::mem;
 
 /// Reads a page whose octets come in pieces, as [`crate::read_page`] reads them at once. It keeps the rows
-/// that are read, and the octets behind the last separator, until it is settled what they all are.
+/// that are read, and the octets behind the last separator, until it is settled what they all are. A line is
+/// read once the EOL behind it is there.
 #[derive(Drop)]
 pub struct PageReader<S: RowStore> {
     format: Format,
@@ -32,10 +39,34 @@ pub struct PageReader<S: RowStore> {
     used: u32,
     /// The tag of the last separator, and none before the first EOL.
     tag: Option<bool>,
-    /// Why the octets so far are no page.
-    fault: Option<PageFault>,
+    /// What the octets are, where that stays so whatever follows.
+    settled: Option<Settled>,
     /// Room for lines, from the first piece on.
     room: Option<Room>,
+}
+
+/// What octets are, whatever follows them.
+#[derive(Clone, Copy)]
+enum Settled {
+    /// A page, since its end was read.
+    Page,
+    /// No page, since its end was read before a line.
+    NoRow,
+    /// No page, since a line begins behind 20,000 rows.
+    Full,
+}
+
+impl Settled {
+    /// Why the octets are no page, if they are none.
+    fn fault(self) -> Option<PageFault>
+        ensures { result ≡ fault_of self }
+    {
+        match self {
+            Settled::Page => None,
+            Settled::NoRow => Some(PageFault::Empty),
+            Settled::Full => Some(PageFault::TooManyRows),
+        }
+    }
 }
 
 /// Room for the line that is read, and for the row before.
@@ -55,21 +86,22 @@ impl Room {
 }
 
 impl<S: RowStore> Model for PageReader<S> {
-    ghost use Rattle.std.specs.Prelude.{◌≡◌, ◌<◌, ◌≤◌, ◌*◌, All, None, drop, length};
+    ghost use Rattle.std.specs.Prelude.{◌≡◌, ◌<◌, ◌≤◌, ◌*◌, All, Some, drop, length};
     ghost use Rattle.fax_bits.specs.Bits.{bits_of};
     ghost use Rattle.fax_runcodes.specs.Widths.{elements_of};
+    ghost use Rattle.fax_pagestore.specs.declared.reader.Settled.TheVariants.{Page};
     ghost use Rattle.fax_pagestore.specs.Readers.{ReaderValue};
 
     ghost Value = { ReaderValue };
 
-    ghost view = { λ r. record { format = r.format; coding = r.coding; rows = S.rows r.rows; tag = r.tag; left = drop r.used (bits_of r.octets.items); fault = r.fault } };
+    ghost view = { λ r. record { format = r.format; coding = r.coding; rows = S.rows r.rows; tag = r.tag; left = drop r.used (bits_of r.octets.items); settled = r.settled } };
 
     ghost invariant = { λ r. (r.used ≤ 8 * length r.octets.items) × (length (S.rows r.rows) ≤ 20000)
-        × All (λ row. length row ≡ elements_of r.format.width) (S.rows r.rows) × (r.fault ≡ None → 0 < length (S.rows r.rows)) };
+        × All (λ row. length row ≡ elements_of r.format.width) (S.rows r.rows) × (r.settled ≡ Some Page → 0 < length (S.rows r.rows)) };
 }
 
 impl<S: RowStore> PageReader<S> {
-    ghost use Rattle.fax_pagestore.specs.Readers.{HasRead, is_settled, new_reader, mark_of, reader_at};
+    ghost use Rattle.fax_pagestore.specs.Readers.{HasRead, AreJudged, new_reader, mark_of, reader_at};
 
     /// A reader to which nothing came. It takes no memory.
     pub fn new(alloc: Global, format: Format, coding: Coding) -> Self
@@ -83,7 +115,7 @@ impl<S: RowStore> PageReader<S> {
             octets: Vec::new(alloc),
             used: 0,
             tag: None,
-            fault: Some(PageFault::NoEol),
+            settled: None,
             room: None,
         }
     }
@@ -95,11 +127,11 @@ impl<S: RowStore> PageReader<S> {
         ensures read { OnOk result ((octets : List ℕ) → HasRead octets self.old → HasRead (octets ++ piece.now) self.new) }
         ensures rows { OnOk result ((more : List Elements) × (self.new.rows ≡ self.old.rows ++ more)) }
         ensures same { OnOk result ((self.new.format ≡ self.old.format) × (self.new.coding ≡ self.old.coding)) }
-        ensures settled { is_settled self.old.fault ≡ true → IsOk result × (self.new ≡ self.old) }
+        ensures settled { IsSome self.old.settled → IsOk result × (self.new ≡ self.old) }
         ensures fault { IfErr result (λ fault. fault ≡ PageFault.NoMemory) }
         ensures err { OnErr result (self.new ≡ self.old) }
     {
-        if is_settled(self.fault) {
+        if self.settled.is_some() {
             return Ok(());
         }
         let (alloc, len, count) = (*self.octets.allocator(), self.octets.len(), self.rows.len());
@@ -108,6 +140,13 @@ impl<S: RowStore> PageReader<S> {
             None => Room::new(alloc)?,
         };
         append(&mut self.octets, piece)?;
+        // an EOL that ends in the piece begins at most two octets before it
+        let from = len.saturating_sub(2);
+        let end = behind_eols(self.octets.as_slice(), from);
+        if end == from {
+            self.room = Some(room);
+            return Ok(());
+        }
         let Ok(reached) = read_up_to(
             &mut room,
             &mut self.rows,
@@ -116,6 +155,7 @@ impl<S: RowStore> PageReader<S> {
             self.format.width,
             self.coding,
             self.tag,
+            end,
         ) else {
             self.octets.truncate(len);
             self.rows.cut(count);
@@ -124,12 +164,31 @@ impl<S: RowStore> PageReader<S> {
         drop_front(&mut self.octets, (reached.place / 8) as usize);
         self.used = (reached.place % 8) as u32;
         self.tag = reached.tag;
-        self.fault = reached.fault;
+        self.settled = reached.settled;
         self.room = Some(room);
         Ok(())
     }
 
-    /// What [`PageReader::finish`] would answer, without the page. It takes no memory.
+    /// Why the octets so far are no page, if they are none. It takes no memory.
+    fn fault(&self) -> Option<PageFault>
+        ensures judged { (octets : List ℕ) → HasRead octets self.now → AreJudged self.now.coding (elements_of self.now.format.width) octets self.now.rows result }
+        ensures some { IsNone result → 0 < length self.now.rows }
+    {
+        match self.settled {
+            Some(settled) => settled.fault(),
+            None => judge(
+                &self.rows,
+                self.octets.as_slice(),
+                self.used,
+                self.format.width,
+                self.coding,
+                self.tag,
+            ),
+        }
+    }
+
+    /// What [`PageReader::finish`] would answer, without the page. It takes no memory. A line that is not whole
+    /// is looked at anew by each call.
     pub fn check(&self) -> Result<(), PageFault>
         ensures ok { OnOk result ((octets : List ℕ) → HasRead octets self.now → MeansRows (elements_of self.now.format.width) self.now.coding octets self.now.rows) }
         ensures fault { IfErr result (λ fault. (octets : List ℕ) → HasRead octets self.now → FailsPage (elements_of self.now.format.width) self.now.coding octets fault) }
@@ -138,7 +197,7 @@ impl<S: RowStore> PageReader<S> {
         ensures reads { (octets : List ℕ) (page : PageValue) → HasRead octets self.now → MeansPage self.now.format self.now.coding octets page → IsOk result }
         ensures fails { (octets : List ℕ) (fault : PageFault) → HasRead octets self.now → FailsPage (elements_of self.now.format.width) self.now.coding octets fault → result ≡ Err fault }
     {
-        match self.fault {
+        match self.fault() {
             None => Ok(()),
             Some(fault) => Err(fault),
         }
@@ -154,13 +213,9 @@ impl<S: RowStore> PageReader<S> {
         ensures reads { (octets : List ℕ) (page : PageValue) → HasRead octets self.old → MeansPage self.old.format self.old.coding octets page → result ≡ Ok page }
         ensures fails { (octets : List ℕ) (fault : PageFault) → HasRead octets self.old → FailsPage (elements_of self.old.format.width) self.old.coding octets fault → result ≡ Err fault }
     {
+        let fault = self.fault();
         let fresh = PageReader::new(*self.octets.allocator(), self.format, self.coding);
-        let PageReader {
-            format,
-            rows,
-            fault,
-            ..
-        } = mem::replace(self, fresh);
+        let PageReader { format, rows, .. } = mem::replace(self, fresh);
         match fault {
             None => Ok(Page::new(format, rows)),
             Some(fault) => Err(fault),
@@ -178,7 +233,7 @@ impl<S: RowStore> PageReader<S> {
             octets: Vec::from_slice(*self.octets.allocator(), self.octets.as_slice())?,
             used: self.used,
             tag: self.tag,
-            fault: self.fault,
+            settled: self.settled,
         })
     }
 
@@ -194,14 +249,14 @@ impl<S: RowStore> PageReader<S> {
             octets,
             used,
             tag,
-            fault,
+            settled,
             ..
         } = mark;
         self.rows.cut(count);
         self.octets = octets;
         self.used = used;
         self.tag = tag;
-        self.fault = fault;
+        self.settled = settled;
     }
 }
 
@@ -214,19 +269,20 @@ pub struct Mark {
     octets: Vec<u8>,
     used: u32,
     tag: Option<bool>,
-    fault: Option<PageFault>,
+    settled: Option<Settled>,
 }
 
 impl Model for Mark {
-    ghost use Rattle.std.specs.Prelude.{◌≡◌, ◌<◌, ◌≤◌, ◌*◌, None, drop, length};
+    ghost use Rattle.std.specs.Prelude.{◌≡◌, ◌<◌, ◌≤◌, ◌*◌, Some, drop, length};
     ghost use Rattle.fax_bits.specs.Bits.{bits_of};
+    ghost use Rattle.fax_pagestore.specs.declared.reader.Settled.TheVariants.{Page};
     ghost use Rattle.fax_pagestore.specs.Readers.{MarkValue};
 
     ghost Value = { MarkValue };
 
-    ghost view = { λ m. record { format = m.format; coding = m.coding; count = m.count; tag = m.tag; left = drop m.used (bits_of m.octets.items); fault = m.fault } };
+    ghost view = { λ m. record { format = m.format; coding = m.coding; count = m.count; tag = m.tag; left = drop m.used (bits_of m.octets.items); settled = m.settled } };
 
-    ghost invariant = { λ m. (m.used ≤ 8 * length m.octets.items) × (m.fault ≡ None → 0 < m.count) };
+    ghost invariant = { λ m. (m.used ≤ 8 * length m.octets.items) × (m.settled ≡ Some Page → 0 < m.count) };
 }
 
 /// Adds a piece to octets. An `Err` changes nothing.
@@ -253,26 +309,16 @@ fn drop_front(octets: &mut Vec<u8>, n: usize)
     octets.truncate(left);
 }
 
-/// Whether what octets are stays so whatever follows them.
-fn is_settled(fault: Option<PageFault>) -> bool
-    ensures { result ≡ spec.is_settled fault }
-{
-    matches!(
-        fault,
-        None | Some(PageFault::Empty | PageFault::TooManyRows)
-    )
-}
-
 /// How far octets were read: how many of their bits, or all where it is settled what they are; the tag of the
-/// last separator; and why they are no page where no more come.
+/// last separator; and what they are, where that is settled.
 #[derive(Clone, Copy)]
 struct Reached {
     place: u128,
     tag: Option<bool>,
-    fault: Option<PageFault>,
+    settled: Option<Settled>,
 }
 
-/// Reads on from the bits of octets that are not used.
+/// Reads on from the bits of octets that are not used, as long as an EOL stands before this octet.
 fn read_up_to<S: RowStore>(
     room: &mut Room,
     rows: &mut S,
@@ -281,47 +327,48 @@ fn read_up_to<S: RowStore>(
     width: Width,
     coding: Coding,
     tag: Option<bool>,
+    end: usize,
 ) -> Result<Reached, NoMemory>
     requires used { used ≤ 8 * length octets.now }
     requires few { length (S.rows rows.old) ≤ 20000 }
     requires each { All (λ row. length row ≡ elements_of width) (S.rows rows.old) }
+    requires within { end ≤ length octets.now }
+    requires end { HoldsEol (drop (8 * end) (bits_of octets.now)) → ⊥ }
     ensures same { (more : List Elements) × (S.rows rows.new ≡ S.rows rows.old ++ more) }
     ensures few { length (S.rows rows.new) ≤ 20000 }
     ensures each { All (λ row. length row ≡ elements_of width) (S.rows rows.new) }
     ensures place { IfOk result (λ reached. reached.place ≤ 8 * length octets.now) }
-    ensures some { IfOk result (λ reached. reached.fault ≡ None → 0 < length (S.rows rows.new)) }
-    ensures read { IfOk result (λ reached. spec.is_settled reached.fault ≡ false → (all : List ℕ) → IsReadUpTo coding (elements_of width) all (S.rows rows.old) tag (drop used (bits_of octets.now))
+    ensures some { IfOk result (λ reached. reached.settled ≡ Some Settled.Page → 0 < length (S.rows rows.new)) }
+    ensures read { IfOk result (λ reached. reached.settled ≡ None → (all : List ℕ) → IsReadUpTo coding (elements_of width) all (S.rows rows.old) tag (drop used (bits_of octets.now))
         → IsReadUpTo coding (elements_of width) all (S.rows rows.new) reached.tag (drop reached.place (bits_of octets.now))) }
-    ensures judged { IfOk result (λ reached. (all : List ℕ) → IsReadUpTo coding (elements_of width) all (S.rows rows.old) tag (drop used (bits_of octets.now))
-        → AreJudged coding (elements_of width) all (S.rows rows.new) reached.fault) }
-    ensures all { IfOk result (λ reached. spec.is_settled reached.fault ≡ true → reached.place ≡ 8 * length octets.now) }
-    ensures settled { IfOk result (λ reached. spec.is_settled reached.fault ≡ true → (all more : List ℕ) → IsReadUpTo coding (elements_of width) all (S.rows rows.old) tag (drop used (bits_of octets.now))
-        → AreJudged coding (elements_of width) (all ++ more) (S.rows rows.new) reached.fault) }
+    ensures waits { IfOk result (λ reached. reached.settled ≡ None → NoMoreIsWhole coding (elements_of width) (S.rows rows.new) reached.tag (drop reached.place (bits_of octets.now))) }
+    ensures all { IfOk result (λ reached. IsSome reached.settled → reached.place ≡ 8 * length octets.now) }
+    ensures settled { IfOk result (λ reached. (what : Settled) → reached.settled ≡ Some what → (all more : List ℕ) → IsReadUpTo coding (elements_of width) all (S.rows rows.old) tag (drop used (bits_of octets.now))
+        → AreJudged coding (elements_of width) (all ++ more) (S.rows rows.new) (fault_of what)) }
 {
     let mut reader = BitReader::new(octets);
     reader.skip(used);
     let Some(first) = begin(&mut reader, coding, tag) else {
-        let fault = Some(PageFault::NoEol);
         return Ok(Reached {
             place: u128::from(used),
             tag: None,
-            fault,
+            settled: None,
         });
     };
-    let halt = read_rows_on(room, rows, &mut reader, width, coding, first)?;
+    let halt = read_rows_on(room, rows, &mut reader, width, coding, first, 8 * end as u128)?;
     let place = reader.place();
-    let fault = judge(&mut reader, coding, &halt, rows.len());
-    if is_settled(fault) {
+    let settled = settle(&mut reader, coding, &halt, rows.len());
+    if settled.is_some() {
         return Ok(Reached {
             place: 8 * octets.len() as u128,
             tag: Some(halt.tag),
-            fault,
+            settled,
         });
     }
     Ok(Reached {
         place,
         tag: Some(halt.tag),
-        fault,
+        settled: None,
     })
 }
 
@@ -330,7 +377,8 @@ fn begin(reader: &mut BitReader, coding: Coding, tag: Option<bool>) -> Option<bo
     ensures passes { IsSome result → (text : List Bool) × Passes reader.old reader.new text }
     ensures read { IfSome result (λ first. (width : ℕ) (octets : List ℕ) (rows : List Elements) → IsReadUpTo coding width octets rows tag reader.old.left
         → ReadSoFar coding width octets rows 0 first reader.new.left) }
-    ensures none { IsNone result → (tag ≡ None) × ((octets : List ℕ) → reader.old.left ≡ bits_of octets → HasNoEol coding octets) }
+    ensures none { IsNone result → tag ≡ None }
+    ensures no_front { IsNone result → (some : Bool) (front rest : List Bool) → IsFront coding some front → reader.old.left ≡ front ++ rest → ⊥ }
 {
     match tag {
         Some(first) => Some(first),
@@ -394,14 +442,25 @@ fn read_next<S: RowStore>(
     }
 }
 
-/// Where no further row is read: behind this tag, and why, if a line begins there.
+/// Why no further row is read.
+#[derive(Clone, Copy)]
+enum Stop {
+    /// No EOL stands ahead.
+    NoEols,
+    /// No line begins.
+    NoLine,
+    /// A line begins, and no row can be read, at least where no more octets come.
+    Fault(PageFault),
+}
+
+/// Where no further row is read: behind this tag, and why.
 #[derive(Clone, Copy)]
 struct Halt {
     tag: bool,
-    fault: Option<PageFault>,
+    stop: Stop,
 }
 
-/// Reads the rows behind this tag of which the lines and the separators are whole.
+/// Reads the rows behind this tag of which the lines and the separators are whole, up to this place.
 fn read_rows_on<S: RowStore>(
     room: &mut Room,
     rows: &mut S,
@@ -409,6 +468,7 @@ fn read_rows_on<S: RowStore>(
     width: Width,
     coding: Coding,
     first: bool,
+    end: u128,
 ) -> Result<Halt, NoMemory>
     requires few { length (S.rows rows.old) ≤ 20000 }
     requires each { All (λ row. length row ≡ elements_of width) (S.rows rows.old) }
@@ -418,24 +478,34 @@ fn read_rows_on<S: RowStore>(
     ensures read { IfOk result (λ halt. (octets : List ℕ) → ReadSoFar coding (elements_of width) octets (S.rows rows.old) 0 first reader.old.left
         → ReadSoFar coding (elements_of width) octets (S.rows rows.new) 0 halt.tag reader.new.left) }
     ensures passes { OnOk result ((text : List Bool) × Passes reader.old reader.new text) }
-    ensures stops { IfOk result (λ halt. IfSome halt.fault (λ fault. Stops coding (elements_of width) (S.rows rows.new) 0 halt.tag reader.new.left fault)) }
-    ensures no_line { IfOk result (λ halt. IsNone halt.fault → LineBegins reader.new.left → ⊥) }
+    ensures stops { IfOk result (λ halt. (fault : PageFault) → halt.stop ≡ Stop.Fault fault → Stops coding (elements_of width) (S.rows rows.new) 0 halt.tag reader.new.left fault) }
+    ensures no_line { IfOk result (λ halt. halt.stop ≡ Stop.NoLine → LineBegins reader.new.left → ⊥) }
+    ensures no_eol { IfOk result (λ halt. halt.stop ≡ Stop.NoEols → end ≤ reader.new.passed) }
 {
     let Room { line, kept } = room;
     keep_last(kept, rows, width, first);
     let mut tag = first;
-    loop {
+    while reader.place() < end {
         match read_next(rows, line, kept, reader, width, coding, tag)? {
             Next::Row(next) => tag = next,
-            Next::NoLine => return Ok(Halt { tag, fault: None }),
+            Next::NoLine => {
+                return Ok(Halt {
+                    tag,
+                    stop: Stop::NoLine,
+                });
+            }
             Next::Fault(fault) => {
                 return Ok(Halt {
                     tag,
-                    fault: Some(fault),
+                    stop: Stop::Fault(fault),
                 });
             }
         }
     }
+    Ok(Halt {
+        tag,
+        stop: Stop::NoEols,
+    })
 }
 
 /// Keeps the last of rows, if there is one, where this tag says that the next line is two-dimensional.
@@ -452,28 +522,121 @@ fn keep_last<S: RowStore>(kept: &mut RowBuilder, rows: &S, width: Width, tag: bo
     }
 }
 
-/// Why the octets of a page are none, where they end behind these rows and this place: the fault that was
-/// met there, or that of the return to control.
-fn judge(reader: &mut BitReader, coding: Coding, halt: &Halt, count: u32) -> Option<PageFault>
-    requires { IsNone halt.now.fault → LineBegins reader.old.left → ⊥ }
-    ensures fails { IfSome result (λ fault. (width : ℕ) (octets : List ℕ) (rows : List Elements) → count ≡ length rows → length rows ≤ 20000
+/// What octets are whatever follows them, where that is settled at the end of what is read of them.
+fn settle(reader: &mut BitReader, coding: Coding, halt: &Halt, count: u32) -> Option<Settled>
+    requires no_line { halt.now.stop ≡ Stop.NoLine → LineBegins reader.old.left → ⊥ }
+    ensures settled { (what : Settled) → result ≡ Some what → (width : ℕ) (octets more : List ℕ) (rows : List Elements) → count ≡ length rows → length rows ≤ 20000
         → ReadSoFar coding width octets rows 0 halt.now.tag reader.old.left
-        → IfSome halt.now.fault (λ met. Stops coding width rows 0 halt.now.tag reader.old.left met) → FailsPage width coding octets fault) }
-    ensures whole { IsNone result → (width : ℕ) (octets : List ℕ) (rows : List Elements) → count ≡ length rows → length rows ≤ 20000
-        → ReadSoFar coding width octets rows 0 halt.now.tag reader.old.left → MeansRows width coding octets rows }
-    ensures some { IsNone result → 0 < count }
-    ensures settled { spec.is_settled result ≡ true → (width : ℕ) (octets more : List ℕ) (rows : List Elements) → count ≡ length rows → length rows ≤ 20000
-        → ReadSoFar coding width octets rows 0 halt.now.tag reader.old.left
-        → IfSome halt.now.fault (λ met. Stops coding width rows 0 halt.now.tag reader.old.left met) → AreJudged coding width (octets ++ more) rows result }
+        → ((fault : PageFault) → halt.now.stop ≡ Stop.Fault fault → Stops coding width rows 0 halt.now.tag reader.old.left fault) → AreJudged coding width (octets ++ more) rows (fault_of what) }
+    ensures some { result ≡ Some Settled.Page → 0 < count }
+    ensures open { result ≡ None → halt.now.stop ≢ Stop.Fault PageFault.TooManyRows }
 {
-    if halt.fault.is_some() {
-        return halt.fault;
+    match halt.stop {
+        Stop::NoEols => None,
+        Stop::NoLine => pass_end(reader, coding, halt.tag, count).ok(),
+        Stop::Fault(fault) => match fault {
+            PageFault::TooManyRows => Some(Settled::Full),
+            _ => None,
+        },
     }
-    if let Err(fault) = pass_return_to_control(reader, coding, halt.tag) {
-        return Some(fault);
+}
+
+/// Passes the end of a page behind this tag and so many rows, and tells what the octets are. It fails where
+/// there is none.
+fn pass_end(
+    reader: &mut BitReader,
+    coding: Coding,
+    tag: bool,
+    count: u32,
+) -> Result<Settled, PageFault>
+    requires no_line { LineBegins reader.old.left → ⊥ }
+    ensures settled { IfOk result (λ what. (width : ℕ) (octets more : List ℕ) (rows : List Elements) → count ≡ length rows → length rows ≤ 20000
+        → ReadSoFar coding width octets rows 0 tag reader.old.left → AreJudged coding width (octets ++ more) rows (fault_of what)) }
+    ensures some { result ≡ Ok Settled.Page → 0 < count }
+    ensures full { result ≢ Ok Settled.Full }
+    ensures fault { IfErr result (λ fault. (width : ℕ) (octets : List ℕ) (rows : List Elements) → count ≡ length rows → length rows ≤ 20000
+        → ReadSoFar coding width octets rows 0 tag reader.old.left → FailsPage width coding octets fault) }
+{
+    if let Err(fault) = pass_return_to_control(reader, coding, tag) {
+        return Err(fault);
     }
     if count == 0 {
-        return Some(PageFault::Empty);
+        return Ok(Settled::NoRow);
     }
-    None
+    Ok(Settled::Page)
+}
+
+/// Why the octets of a page are none, if they are none, where these rows were read of them, and of the bits
+/// that are not used nothing more can be.
+fn judge<S: RowStore>(
+    rows: &S,
+    octets: &[u8],
+    used: u32,
+    width: Width,
+    coding: Coding,
+    tag: Option<bool>,
+) -> Option<PageFault>
+    requires used { used ≤ 8 * length octets.now }
+    requires few { length (S.rows rows.now) ≤ 20000 }
+    requires each { All (λ row. length row ≡ elements_of width) (S.rows rows.now) }
+    ensures judged { (all : List ℕ) → IsReadUpTo coding (elements_of width) all (S.rows rows.now) tag (drop used (bits_of octets.now))
+        → NoMoreIsWhole coding (elements_of width) (S.rows rows.now) tag (drop used (bits_of octets.now)) → AreJudged coding (elements_of width) all (S.rows rows.now) result }
+    ensures some { IsNone result → 0 < length (S.rows rows.now) }
+{
+    let Some(tag) = tag else {
+        return Some(PageFault::NoEol);
+    };
+    let mut reader = BitReader::new(octets);
+    reader.skip(used);
+    let count = rows.len();
+    if !line_begins(&reader) {
+        return match pass_end(&mut reader, coding, tag, count) {
+            Ok(settled) => settled.fault(),
+            Err(fault) => Some(fault),
+        };
+    }
+    if count == MOST_ROWS {
+        return Some(PageFault::TooManyRows);
+    }
+    Some(judge_line(rows, &mut reader, width, coding, tag))
+}
+
+/// Why the line behind this tag, of which the separator is not whole, is none.
+fn judge_line<S: RowStore>(
+    rows: &S,
+    reader: &mut BitReader,
+    width: Width,
+    coding: Coding,
+    tag: bool,
+) -> PageFault
+    requires each { All (λ row. length row ≡ elements_of width) (S.rows rows.now) }
+    requires begins { LineBegins reader.old.left }
+    requires few { length (S.rows rows.now) < 20000 }
+    ensures { (BeginsRow coding (elements_of width) tag (last_of (S.rows rows.now)) reader.old.left → ⊥) → Stops coding (elements_of width) (S.rows rows.now) 0 tag reader.old.left result }
+{
+    if !pass_line(rows, reader, width, tag) {
+        return PageFault::BadLine(rows.len());
+    }
+    match pass_separator(reader, coding) {
+        Ok(Ahead::Line) => PageFault::BadLine(rows.len()),
+        // not whole, as was told
+        Ok(Ahead::Separator(_)) => PageFault::NoRtc,
+        Err(fault) => fault,
+    }
+}
+
+/// Passes the line behind this tag and these rows, and answers whether it can be read.
+fn pass_line<S: RowStore>(rows: &S, reader: &mut BitReader, width: Width, tag: bool) -> bool
+    requires each { All (λ row. length row ≡ elements_of width) (S.rows rows.now) }
+    ensures read { IsTrue result → (row : Elements) × (text : List Bool) × SpellsRow (elements_of width) tag (last_of (S.rows rows.now)) text row × Passes reader.old reader.new text }
+    ensures fails { result ≡ false → FailsRow (elements_of width) tag (last_of (S.rows rows.now)) reader.old.left }
+{
+    if tag {
+        return pass_line_1d(reader, width).is_ok();
+    }
+    let count = rows.len();
+    if count == 0 {
+        return false;
+    }
+    pass_line_2d(reader, &rows.lend(count - 1)).is_ok()
 }

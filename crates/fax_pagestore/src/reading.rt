@@ -8,7 +8,7 @@ ghost use Rattle.fax_runcodes.specs.Widths.{elements_of};
 ghost use Rattle.fax_pagestore.specs.declared.fault.PageFault.{PageFault};
 ghost use Rattle.fax_pagestore.specs.Pages.{PageValue};
 ghost use Rattle.fax_pagestore.specs.PageTexts.{IsTag, IsFront, IsSeparator, InARow, SpellsRow, ReadSoFar, MeansRows, MeansPage};
-ghost use Rattle.fax_pagestore.specs.PageFaults.{RunsOut, LineBegins, FailsRow, WantsLine, Stops, FailsBehindFront, FailsPage, last_of, row_before};
+ghost use Rattle.fax_pagestore.specs.PageFaults.{RunsOut, LineBegins, FailsRow, WantsLine, Stops, FailsBehindFront, HasNoEol, FailsPage, last_of, row_before};
 
 use crate::white::pass_white_row;
 use crate::{Coding, Format, Page, PageFault, RowStore};
@@ -44,6 +44,9 @@ pub fn read_page<S: RowStore>(
     // Memory aside, octets that mean a page are read, and a fault comes wherever it is met.
     ensures reads { (page : PageValue) → MeansPage format coding octets.now page → (result ≡ Ok page) ⊎ (result ≡ Err PageFault.NoMemory) }
     ensures fails { (fault : PageFault) → FailsPage (elements_of format.width) coding octets.now fault → (result ≡ Err fault) ⊎ (result ≡ Err PageFault.NoMemory) }
+
+    // That there is no EOL is told before memory is taken.
+    ensures no_eol { HasNoEol coding octets.now → result ≡ Err PageFault.NoEol }
 {
     let mut reader = BitReader::new(octets);
     let Some(tag) = pass_front(&mut reader, coding) else {
@@ -102,7 +105,7 @@ pub(crate) fn pass_front(reader: &mut BitReader, coding: Coding) -> Option<bool>
 
 /// What stands behind a separator or a line.
 #[derive(Clone, Copy)]
-enum Ahead {
+pub(crate) enum Ahead {
     /// Fill and an EOL, that is at least 11 zeros and a 1, and this tag behind them (ITU-T T.4, 4.1.2,
     /// 4.1.3 and 4.2.2).
     Separator(bool),
@@ -123,7 +126,7 @@ fn zeros_in_window(reader: &BitReader) -> u32
 /// Passes a separator, or tells that a line begins. Where only zeros are left, or an EOL without its
 /// tag, no return to control can follow.
 #[inline(always)]
-fn pass_separator(reader: &mut BitReader, coding: Coding) -> Result<Ahead, PageFault>
+pub(crate) fn pass_separator(reader: &mut BitReader, coding: Coding) -> Result<Ahead, PageFault>
     ensures separator { (tag : Bool) → result ≡ Ok (Ahead.Separator tag) → (text : List Bool) × IsSeparator coding tag text × Passes reader.old reader.new text }
     ensures line { result ≡ Ok Ahead.Line → LineBegins reader.old.left }
     ensures fault { IfErr result (λ fault. (fault ≡ PageFault.NoRtc) × RunsOut coding reader.old.left) }
@@ -158,7 +161,7 @@ fn pass_filled_eol(reader: &mut BitReader, coding: Coding) -> Result<bool, PageF
 
 /// Whether a line begins: a 1 comes before 11 zeros.
 #[inline]
-fn line_begins(reader: &BitReader) -> bool
+pub(crate) fn line_begins(reader: &BitReader) -> bool
     ensures { IsTrue result ↔ LineBegins reader.now.left }
 {
     zeros_in_window(reader) < EOL_ZEROS

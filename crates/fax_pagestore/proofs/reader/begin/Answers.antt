@@ -11,5 +11,5 @@ returns-in-None-clause-read c =
     let none = subst (λ t. IsReadUpTo c.args.coding width octets rows t c.args.reader.now.left) c.in-None.is read in
     front_read c.args.coding width octets rows first c.args.reader.now c.pass_front.new.reader none.0 none.1 found)
 
-pub returns-in-None-clause-none : goal.returns-in-None-clause-none
-returns-in-None-clause-none c = λ none. (c.in-None.is, λ octets e tag front rest is whole. c.pass_front.ensures.none none tag front rest is (e ∙ whole))
+pub returns-in-None-clause-no_front : goal.returns-in-None-clause-no_front
+returns-in-None-clause-no_front c = λ none some front rest is whole. c.pass_front.ensures.none none some front rest is whole

@@ -3,8 +3,8 @@ use Rattle.fax_runcodes.specs.Widths.{elements_of}
 use Rattle.fax_pagestore.proofs.ReaderLemmas.{RowsRead}
 use Rattle.fax_pagestore.proofs.reader.read_rows_on.Given as goal
 
-abbrev pub invariant-loop-next : goal.invariant-loop-next
-invariant-loop-next g l = RowsRead l.coding (elements_of l.width) l.first (g.S.RowStore.rows l.fn.rows) l.fn.reader l.tag l.kept (g.S.RowStore.rows l.rows) l.reader
+abbrev pub invariant-loop-line : goal.invariant-loop-line
+invariant-loop-line g l = RowsRead l.coding (elements_of l.width) l.first (g.S.RowStore.rows l.fn.rows) l.fn.reader l.tag l.kept (g.S.RowStore.rows l.rows) l.reader
 
-abbrev pub decreases-loop-next : goal.decreases-loop-next
-decreases-loop-next g l = length l.reader.left
+abbrev pub decreases-loop-line : goal.decreases-loop-line
+decreases-loop-line g l = length l.reader.left

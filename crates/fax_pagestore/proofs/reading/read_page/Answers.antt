@@ -1,4 +1,4 @@
-use Rattle.std.proofs.Common.{[], Ok, Err, inl, inr, refl, ◌∙◌, ap}
+use Rattle.std.proofs.Common.{◌++◌, [], Ok, Err, inl, inr, refl, ◌∙◌, ap}
 use Rattle.std.proofs.lemmas.Result.{err_from_is_err_and}
 use Rattle.fax_bits.specs.Reading.{Place}
 use Rattle.fax_runcodes.specs.Widths.{elements_of}
@@ -18,6 +18,12 @@ begun g c =
 -- the octets have no EOL
 no_eol : (g : Over) (c : In_default g) → HasNoEol c.args.coding c.args.octets.now
 no_eol g c = λ tag front rest is e. c.in_default.ensures.none refl tag front rest is (ap (λ (place : Place). place.left) c.new-reader.ensures ∙ e)
+
+-- the octets have one
+has_eol : (g : Over) (c : After-read_rows g) → HasNoEol c.args.coding c.args.octets.now → ⊥
+has_eol g c none =
+    let read = begun g c in
+    none read.front_tag read.front (read.lines ++ (read.separators ++ c.pass_front.new.reader.left)) read.is_front read.bits_are
 
 pub returns-in_default-clause-fault : goal.returns-in_default-clause-fault
 returns-in_default-clause-fault g c = λ _. inl (refl, no_eol g (goal.at.returns-in_default-clause-fault g c).In_default)
@@ -44,6 +50,9 @@ returns-in_err-rows-clause-fails g c =
     rw (p.1, p.2)
     (fails_from c.args.format c.args.coding c.args.octets.now (Err c.in_err-rows.field-0.0) tt (λ ne. inr (c.in_err-rows.ensures.fault ne c.args.octets.now front)))
 
+pub returns-in_err-rows-clause-no_eol : goal.returns-in_err-rows-clause-no_eol
+returns-in_err-rows-clause-no_eol g c = λ none. absurd (has_eol g (goal.at.returns-in_err-rows-clause-no_eol g c).After-read_rows none)
+
 pub new-requires : goal.new-requires
 new-requires g c =
     let front = begun g (goal.at.new-requires g c).After-read_rows in
@@ -64,3 +73,6 @@ returns-clause-fails g c =
     let means : MeansPage c.args.format c.args.coding c.args.octets.now c.new.result =
     rw c.new.ensures (refl, c.in_ok-rows.ensures.ok c.args.octets.now front) in
     fails_from c.args.format c.args.coding c.args.octets.now (Ok c.new.result) means tt
+
+pub returns-clause-no_eol : goal.returns-clause-no_eol
+returns-clause-no_eol g c = λ none. absurd (has_eol g (goal.at.returns-clause-no_eol g c).After-read_rows none)

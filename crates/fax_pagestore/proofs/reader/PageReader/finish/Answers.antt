@@ -9,19 +9,16 @@ pub returns-in-None-clause-reads : goal.returns-in-None-clause-reads
 returns-in-None-clause-reads g c = λ octets page has means.
     let was = c.rows.view_is ∙ c.replace.ensures.value in
     let made = c.new.ensures ∙ ap (λ (r : ReaderValue). let p : PageValue = record { format = r.format; rows = r.rows } in p) was in
-    ap (λ (p : PageValue). Ok p) (same_page octets c.args.self.now page c.new.result has (ap (λ (r : ReaderValue). r.fault) (sym was) ∙ c.in-None.is) means made)
+    ap (λ (p : PageValue). Ok p) (same_page octets c.args.self.now page c.new.result (c.in-None.ensures.judged octets has) means made)
 
 pub returns-in-None-clause-fails : goal.returns-in-None-clause-fails
 returns-in-None-clause-fails g c = λ octets fault has fails.
-    let was = c.rows.view_is ∙ c.replace.ensures.value in
-    absurd (no_fault octets c.args.self.now fault has (ap (λ (r : ReaderValue). r.fault) (sym was) ∙ c.in-None.is) fails)
+    absurd (no_fault c.args.self.now.format c.args.self.now.coding octets fault c.args.self.now.rows (c.in-None.ensures.judged octets has) fails)
 
 pub returns-in-Some-clause-reads : goal.returns-in-Some-clause-reads
 returns-in-Some-clause-reads g c = λ octets page has means.
-    let was = c.rows.view_is ∙ c.replace.ensures.value in
-    absurd (no_page octets c.args.self.now c.in-Some.fault page has (ap (λ (r : ReaderValue). r.fault) (sym was) ∙ c.in-Some.is) means)
+    absurd (no_page c.args.self.now.format c.args.self.now.coding octets c.in-Some.fault page (c.in-Some.ensures.judged octets has) means)
 
 pub returns-in-Some-clause-fails : goal.returns-in-Some-clause-fails
 returns-in-Some-clause-fails g c = λ octets fault has fails.
-    let was = c.rows.view_is ∙ c.replace.ensures.value in
-    ap (λ (f : PageFault). Err f) (same_fault octets c.args.self.now c.in-Some.fault fault has (ap (λ (r : ReaderValue). r.fault) (sym was) ∙ c.in-Some.is) fails)
+    ap (λ (f : PageFault). Err f) (same_fault c.args.self.now.format c.args.self.now.coding octets c.in-Some.fault fault (c.in-Some.ensures.judged octets has) fails)

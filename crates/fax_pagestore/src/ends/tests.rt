@@ -1,0 +1,40 @@
+//! Octets in which EOLs stand, spelt by hand.
+use super::behind_eols;
+use std::rt::HostRuntime;
+
+/// Octets, a place in them, and from where on behind it no EOL stands.
+const CASES: [(&[u8], usize, usize); 20] = [
+    (&[], 0, 0),
+    (&[0x11, 0x22, 0x33], 0, 0),
+    (&[0x11, 0x22, 0x33], 2, 2),
+    // 1s, then an EOL, then 1s: the zeros begin at each bit of an octet
+    (&[0b0000_0000, 0b0001_1111], 0, 1),
+    (&[0b1000_0000, 0b0000_1111], 0, 1),
+    (&[0b1100_0000, 0b0000_0111], 0, 1),
+    (&[0b1110_0000, 0b0000_0011], 0, 1),
+    (&[0b1111_0000, 0b0000_0001], 0, 1),
+    (&[0b1111_1000, 0b0000_0000, 0b1111_1111], 0, 2),
+    (&[0b1111_1100, 0b0000_0000, 0b0111_1111], 0, 2),
+    (&[0b1111_1110, 0b0000_0000, 0b0011_1111], 0, 2),
+    // the last of two EOLs, and one before the place
+    (&[0x00, 0x1f, 0x80, 0x0f, 0x55], 0, 3),
+    (&[0x00, 0x1f, 0x55], 1, 1),
+    (&[0x00], 1, 1),
+    // an EOL, a white line of 1728 elements, and the first octet of the next EOL
+    (&[0x00, 0x14, 0xd9, 0xa8, 0x00], 0, 5),
+    (&[0x00, 0x14, 0xd9], 0, 1),
+    // zeros at the end, to which an EOL may be missing
+    (&[0x00, 0x00, 0x00], 0, 3),
+    (&[0x55, 0xf0], 0, 0),
+    // ten zeros, and eight that count as an EOL
+    (&[0b1000_0000, 0b0001_1111], 0, 0),
+    (&[0b0001_0000, 0b0000_1111], 0, 1),
+];
+
+/// Each case is answered.
+#[test]
+fn no_eol_stands_behind(rt: HostRuntime) {
+    for (octets, from, place) in CASES {
+        assert_eq!(rt; behind_eols(octets, from), place, "{octets:?} from {from}");
+    }
+}
