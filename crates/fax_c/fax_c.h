@@ -29,9 +29,10 @@ extern "C" {
 #endif
 
 /* Of several refusals that hold, the one that comes first is told: that the width is none; that the least
-   bits are too many; that there is nothing to read or to write (FAX_NO_EOL, where there are no octets, and
-   FAX_EMPTY, where there are no run lengths). These are told before any memory is taken. Then comes the
-   page's own fault, or FAX_NO_RUNS, or in the place of either FAX_NO_MEMORY, and last FAX_NO_ROOM. */
+   bits are too many; where a page is read, that there is no EOL; where one is written, that the run lengths are
+   those of no page (FAX_EMPTY, FAX_TOO_MANY_ROWS, FAX_NO_RUNS). These are told before any memory is taken. The
+   other faults of a page that is read come while its rows are taken into memory, so FAX_NO_MEMORY may be told
+   in their place. Last comes FAX_NO_ROOM. */
 enum {
     FAX_DONE = 0,
     /* no EOL in the octets */

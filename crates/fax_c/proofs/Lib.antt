@@ -1,2 +1,3 @@
+pub mod FrontLemmas
 pub mod PackedBits
 pub mod RunsLemmas

@@ -3,13 +3,10 @@ use Rattle.std.proofs.Common.{◌≡◌, ◌≢◌, ℕ, zero, suc, ◌+◌, ◌
 use Rattle.std.proofs.Math.Nat.{mul-suc, mul-le-mul_left}
 use Rattle.std.proofs.lemmas.List.{length-take-le, take_all, length-map, drop-drop}
 use Rattle.std.proofs.lemmas.List.Elements.{All-head, All-tail}
-use Rattle.fax_bits.specs.Bits.{bits_of}
-use Rattle.fax_bits.proofs.BitsLemmas.{bits_of-nil}
 use Rattle.fax_runcodes.specs.declared.Colour.TheVariants.{White}
 use Rattle.fax_runcodes.specs.Painted.{painted, AreRising}
 use Rattle.fax_runcodes.proofs.RunsOfRow.{runs_between, runs_between_are_runs}
 use Rattle.fax_runcodes.proofs.RowLaws.{runs_one}
-use Rattle.fax_pagestore.specs.PageTexts.{IsFront, end_of_line}
 use Rattle.fax_runcodes.specs.declared.Width.{Width}
 use Rattle.fax_runcodes.specs.declared.Width.TheVariants.{W1728, W2048, W2432}
 use Rattle.fax_runcodes.specs.declared.format.Coding.{Coding}
@@ -171,18 +168,3 @@ part_length xs from count room =
 -- what is the same from a place on is so from a later one on
 pub drop_further : (xs ys : List ℕ) (n k : ℕ) → drop n xs ≡ drop n ys → drop (n + k) xs ≡ drop (n + k) ys
 drop_further xs ys n k same = sym (drop-drop k n xs) ∙ ap (drop k) same ∙ drop-drop k n ys
-
--- ---- a text of no octets
-
-front_has_end : (coding : Coding) (tag : Bool) (front rest : List Bool) → IsFront coding tag front → bits_of [] ≡ front ++ rest → ⊥
-unfolding end_of_line
-front_has_end coding tag front rest is none =
-    let (before, ends) = is.ends in
-    let empty : length (bits_of []) ≡ 0 = ap length bits_of-nil in
-    let sizes : length (bits_of []) ≡ length front + length rest = ap length none ∙ length-append front rest in
-    let first : length front ≡ length is.front + length is.tag_text = ap length is.text_is ∙ length-append is.front is.tag_text in
-    let eol : length is.front ≡ length before + 12 = ap length ends ∙ length-append before end_of_line in
-    absurd (omega arith)
-
-pub no_octets_refused : (width : ℕ) (coding : Coding) (octets : List ℕ) → octets ≡ [] → RefusesText width coding octets (Page page.NoEol)
-no_octets_refused width coding octets none = rw none (inl (refl, front_has_end coding))

@@ -84,9 +84,14 @@ pub record AreWritten (width : ℕ) (coding : Coding) (fine : Bool) (least_bits 
   pub written : WritesPage coding fine least_bits rows text
   pub padded : IsPadded octets text
 
--- run lengths of no page: none, those of more rows than a page has, or such as begin with no row's
+-- the run lengths of the rows of a page
+abbrev pub AreRunsOfPage : ℕ → List ℕ → Type 0
+AreRunsOfPage width runs = (rows : List Elements) × AreRows width rows × AreRunsOf runs rows
+
+-- Run lengths of no page: none, those of more rows than a page has, or such as begin with no row's. Want of
+-- memory is told of those of a page alone.
 abbrev pub RefusesRuns : ℕ → List ℕ → Refusal → Type 0
-RefusesRuns width runs (Page page.NoMemory) = Unit {0}
+RefusesRuns width runs (Page page.NoMemory) = AreRunsOfPage width runs
 RefusesRuns width runs (Page page.Empty) = runs ≡ []
 RefusesRuns width runs (Page page.TooManyRows) = (rest : List ℕ) × StandInFront width runs most_rows rest × (rest ≢ [])
 RefusesRuns width runs (Runs n) = (n < most_rows) × (rest : List ℕ) × StandInFront width runs n rest

@@ -9,6 +9,7 @@
 ghost use Rattle.std.specs.Prelude.{◌≡◌, ◌≢◌, ◌≤◌, ◌<◌, [], length, drop, Result, Err};
 ghost use Rattle.fax_runcodes.specs.Rows.{IsWidth};
 ghost use Rattle.fax_pagestore.specs.declared.fault.PageFault.TheVariants as page_faults;
+ghost use Rattle.fax_pagestore.specs.PageFaults.{HasNoEol};
 ghost use Rattle.fax_c.specs.declared.outcome.Filled.{Filled};
 ghost use Rattle.fax_c.specs.declared.outcome.Refusal.{Refusal};
 ghost use Rattle.fax_c.specs.Outcomes.{told};
@@ -40,7 +41,7 @@ pub extern "C" fn fax_read_runs(
     ensures behind { drop result.filled runs.new ≡ drop result.filled runs.old }
     ensures untouched { result.status ≢ 0 → runs.new ≡ runs.old }
     ensures width_first { (IsWidth width → ⊥) → result ≡ told (Err Refusal.Width) }
-    ensures no_octets_next { IsWidth width → octets.now ≡ [] → result ≡ told (Err (Refusal.Page page_faults.NoEol)) }
+    ensures no_eol_next { IsWidth width → HasNoEol (coding_by two_dimensional) octets.now → result ≡ told (Err (Refusal.Page page_faults.NoEol)) }
 {
     Outcome::of(reading::read_runs(alloc, octets, width, two_dimensional, runs))
 }
@@ -60,7 +61,7 @@ pub extern "C" fn fax_read_pixels(
     ensures behind { drop result.filled pixels.new ≡ drop result.filled pixels.old }
     ensures untouched { result.status ≢ 0 → pixels.new ≡ pixels.old }
     ensures width_first { (IsWidth width → ⊥) → result ≡ told (Err Refusal.Width) }
-    ensures no_octets_next { IsWidth width → octets.now ≡ [] → result ≡ told (Err (Refusal.Page page_faults.NoEol)) }
+    ensures no_eol_next { IsWidth width → HasNoEol (coding_by two_dimensional) octets.now → result ≡ told (Err (Refusal.Page page_faults.NoEol)) }
 {
     Outcome::of(reading::read_pixels(alloc, octets, width, two_dimensional, pixels))
 }

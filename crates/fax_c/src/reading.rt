@@ -2,6 +2,7 @@
 ghost use Rattle.std.specs.Prelude.{◌≡◌, ◌++◌, ◌+◌, ◌≤◌, ◌<◌, List, [], ◌∷◌, ℕ, length, take, drop, true, false, Ok, Err, IfOk, IfErr, OnErr, IfSome, IfNone, IsNone};
 ghost use Rattle.fax_runcodes.specs.Rows.{Elements, IsWidth, AreRuns};
 ghost use Rattle.fax_pagestore.specs.PageTexts.{MeansRows};
+ghost use Rattle.fax_pagestore.specs.PageFaults.{HasNoEol};
 ghost use Rattle.fax_c.specs.Calls.{ReadsRuns, ReadsPixels, RefusesText, AreRunsOf, FillsRuns, FillsPixels, coding_by};
 
 use crate::page::{coding_of, width_of};
@@ -23,7 +24,7 @@ pub fn read_runs(
     ensures behind { IfOk result (λ filled. drop filled.items runs.new ≡ drop filled.items runs.old) }
     ensures untouched { OnErr result (runs.new ≡ runs.old) }
     ensures width_first { (IsWidth width → ⊥) → result ≡ Err Refusal.Width }
-    ensures no_octets_next { IsWidth width → octets.now ≡ [] → result ≡ Err (Refusal.Page PageFault.NoEol) }
+    ensures no_eol_next { IsWidth width → HasNoEol (coding_by two_dimensional) octets.now → result ≡ Err (Refusal.Page PageFault.NoEol) }
 {
     let page = read_text(alloc, octets, width, two_dimensional)?;
     fill_runs(&page, runs)
@@ -42,13 +43,13 @@ pub fn read_pixels(
     ensures behind { IfOk result (λ filled. drop filled.items pixels.new ≡ drop filled.items pixels.old) }
     ensures untouched { OnErr result (pixels.new ≡ pixels.old) }
     ensures width_first { (IsWidth width → ⊥) → result ≡ Err Refusal.Width }
-    ensures no_octets_next { IsWidth width → octets.now ≡ [] → result ≡ Err (Refusal.Page PageFault.NoEol) }
+    ensures no_eol_next { IsWidth width → HasNoEol (coding_by two_dimensional) octets.now → result ≡ Err (Refusal.Page PageFault.NoEol) }
 {
     let page = read_text(alloc, octets, width, two_dimensional)?;
     fill_pixels(&page, pixels)
 }
 
-/// Reads a page. That the width is none, or that there are no octets, is told before memory is taken.
+/// Reads a page. That the width is none, or that there is no EOL, is told before memory is taken.
 fn read_text(
     alloc: Global,
     octets: &[u8],
@@ -58,15 +59,12 @@ fn read_text(
     ensures page { IfOk result (λ page. MeansRows width (coding_by two_dimensional) octets.now page.rows) }
     ensures refusal { IfErr result (λ refusal. RefusesText width (coding_by two_dimensional) octets.now refusal) }
     ensures width_first { (IsWidth width → ⊥) → result ≡ Err Refusal.Width }
-    ensures no_octets_next { IsWidth width → octets.now ≡ [] → result ≡ Err (Refusal.Page PageFault.NoEol) }
+    ensures no_eol_next { IsWidth width → HasNoEol (coding_by two_dimensional) octets.now → result ≡ Err (Refusal.Page PageFault.NoEol) }
 {
     let format = Format {
         width: width_of(width)?,
         fine: false,
     };
-    if octets.is_empty() {
-        return Err(Refusal::Page(PageFault::NoEol));
-    }
     let page = read_page(alloc, octets, format, coding_of(two_dimensional))?;
     Ok(page)
 }

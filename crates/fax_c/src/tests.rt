@@ -1,5 +1,6 @@
 //! Pages of one and two rows, and each status.
 use crate::{Outcome, fax_read_pixels, fax_read_runs, fax_write_runs};
+use std::alloc::AllocError;
 use std::process::Abort;
 
 /// A white row: EOL, the row, six EOLs.
@@ -27,6 +28,9 @@ const WIDE: [u8; 13] = [
 /// that is wanted.
 const READ_FAULTS: &[(&[u8], u16, bool, usize, u32, usize)] = &[
     (&[0xff], 1728, false, 4, 1, 0),
+    // an EOL without its tag
+    (&[0x00, 0x01], 1728, true, 4, 1, 0),
+    (&[], 1728, false, 4, 1, 0),
     (&[0x00, 0x14, 0x3f], 1728, false, 4, 2, 0),
     // the white row and no more
     (
@@ -42,7 +46,7 @@ const READ_FAULTS: &[(&[u8], u16, bool, usize, u32, usize)] = &[
     (&WHITE, 1729, false, 4, 8, 0),
     (&TWO_ROWS, 1728, true, 3, 7, 4),
     (&TWO_ROWS, 1728, true, 0, 7, 4),
-    // the width comes first
+    // the width comes first, and then that there is no EOL
     (&[], 1729, false, 0, 8, 0),
 ];
 
@@ -156,6 +160,67 @@ fn writing_tells_its_faults(rt: HostRuntime) {
         let written = fax_write_runs(rt.alloc(), runs, *width, false, false, *least_bits, front);
         assert!(rt; written == refused(*status, *rows, *wanted));
     }
+}
+
+#[test]
+fn more_rows_than_a_page_has_are_told(rt: HostRuntime) -> Result<(), AllocError> {
+    let mut runs = Vec::new(rt.alloc());
+    for _ in 0..20_001 {
+        runs.push(1728u16)?;
+    }
+    let mut octets = [0u8; 12];
+    let written = fax_write_runs(
+        rt.alloc(),
+        runs.as_slice(),
+        1728,
+        false,
+        false,
+        0,
+        &mut octets,
+    );
+    assert!(rt; written == refused(5, 0, 0));
+    // an EOL of 12 bits, 20,000 lines of 17 bits, each with an EOL, and five EOLs
+    runs.truncate(20_000);
+    let written = fax_write_runs(
+        rt.alloc(),
+        runs.as_slice(),
+        1728,
+        false,
+        false,
+        0,
+        &mut octets,
+    );
+    assert!(rt; written == refused(7, 0, 72_509));
+    Ok(())
+}
+
+/// `make memory` refuses each allocation of this test.
+#[test]
+fn faults_that_want_no_memory_are_told(rt: HostRuntime) {
+    let mut octets = [0u8; 12];
+    for (runs, width, least_bits, _, status, rows, _) in WRITE_FAULTS {
+        if *status != 7 {
+            let written = fax_write_runs(
+                rt.alloc(),
+                runs,
+                *width,
+                false,
+                false,
+                *least_bits,
+                &mut octets,
+            );
+            assert!(rt; written == refused(*status, *rows, 0));
+        }
+    }
+    for (octets, width, two_dimensional, _, status, _) in READ_FAULTS {
+        if *status == 1 || *status == 8 {
+            let read = fax_read_runs(rt.alloc(), octets, *width, *two_dimensional, &mut []);
+            assert!(rt; read == refused(*status, 0, 0));
+            let read = fax_read_pixels(rt.alloc(), octets, *width, *two_dimensional, &mut []);
+            assert!(rt; read == refused(*status, 0, 0));
+        }
+    }
+    let _ = println!(rt; "refused: nothing");
 }
 
 #[test]

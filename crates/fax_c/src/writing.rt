@@ -1,13 +1,14 @@
 //! Pages written.
-ghost use Rattle.std.specs.Prelude.{◌≡◌, ◌≢◌, ◌++◌, ◌+◌, ◌≤◌, ◌<◌, List, [], ◌∷◌, ℕ, length, take, drop, Ok, Err, IfOk, IfErr, OnErr};
+ghost use Rattle.std.specs.Prelude.{◌≡◌, ◌≢◌, ◌++◌, ◌+◌, ◌≤◌, ◌<◌, List, [], ◌∷◌, ℕ, length, take, drop, Ok, Err, IfOk, IfErr, OnOk, OnErr, IfSome, IfNone};
 ghost use Rattle.fax_pagestore.specs.PageRows.{AreRows};
 ghost use Rattle.fax_runcodes.specs.Rows.{Elements, IsWidth, AreRuns};
 ghost use Rattle.fax_runcodes.specs.Widths.{elements_of};
-ghost use Rattle.fax_c.specs.Calls.{WritesRuns, RefusesRuns, AreRunsOf, coding_by, most_least_bits};
+ghost use Rattle.fax_c.specs.Calls.{WritesRuns, RefusesRuns, AreRunsOf, AreRunsOfPage, coding_by, most_least_bits};
 
 use crate::page::{coding_of, width_of};
 use crate::reading::put;
 use crate::{Filled, Refusal};
+use fax_bits::NoMemory;
 use fax_pagestore::{Format, PackedRows, Page, PageFault, RowStore, write_page};
 use fax_runcodes::{RowBuilder, Width};
 use std::alloc::Global;
@@ -40,6 +41,7 @@ pub fn write_runs(
     if least_bits > MOST_LEAST_BITS {
         return Err(Refusal::LeastBits);
     }
+    check_runs(runs, width)?;
     let rows: PackedRows = rows_of_runs(alloc, runs, width)?;
     let count = rows.len();
     let page = Page::new(Format { width, fine }, rows);
@@ -53,26 +55,64 @@ pub fn write_runs(
     })
 }
 
-/// The rows of a width whose runs these are. That there are no runs is told before memory is taken.
-fn rows_of_runs<S: RowStore>(alloc: Global, runs: &[u16], width: Width) -> Result<S, Refusal>
-    ensures rows { IfOk result (λ rows. AreRows (elements_of width) (S.rows rows)) }
-    ensures runs { IfOk result (λ rows. AreRunsOf runs.now (S.rows rows)) }
+/// Tells what is wrong with runs of no page. It takes no memory.
+fn check_runs(runs: &[u16], width: Width) -> Result<(), Refusal>
+    ensures page { OnOk result (AreRunsOfPage (elements_of width) runs.now) }
     ensures refusal { IfErr result (λ refusal. RefusesRuns (elements_of width) runs.now refusal) }
     ensures no_runs { runs.now ≡ [] → result ≡ Err (Refusal.Page PageFault.Empty) }
 {
     if runs.is_empty() {
         return Err(Refusal::Page(PageFault::Empty));
     }
+    let mut rest = runs;
+    let mut rows = 0;
+    while !rest.is_empty() {
+        if rows >= MOST_ROWS {
+            return Err(Refusal::Page(PageFault::TooManyRows));
+        }
+        let Some(count) = row_in_front(rest, width) else {
+            return Err(Refusal::Runs(rows));
+        };
+        rest = &rest[count..];
+        rows += 1;
+    }
+    Ok(())
+}
+
+/// How many runs are those of a row of a width which stand in front of these; `None` where those of no such
+/// row do.
+fn row_in_front(runs: &[u16], width: Width) -> Option<usize>
+    ensures some { IfSome result (λ count. (row : Elements) × AreRuns (take count runs.now) row × (length row ≡ elements_of width)) }
+    ensures within { IfSome result (λ count. (0 < count) × (count ≤ length runs.now)) }
+    ensures none { IfNone result ((row : Elements) (first more : List ℕ) → length row ≡ elements_of width → AreRuns first row → runs.now ≡ first ++ more → ⊥) }
+{
+    let elements = width.elements();
+    let mut place = 0;
+    for i in 0..runs.len() {
+        let run = runs[i];
+        if run > elements - place || (run == 0 && i > 0) {
+            return None;
+        }
+        place += run;
+        if place == elements {
+            return Some(i + 1);
+        }
+    }
+    None
+}
+
+/// The rows of the page whose runs these are.
+fn rows_of_runs<S: RowStore>(alloc: Global, runs: &[u16], width: Width) -> Result<S, NoMemory>
+    requires { AreRunsOfPage (elements_of width) runs.now }
+    ensures rows { IfOk result (λ rows. AreRows (elements_of width) (S.rows rows)) }
+    ensures runs { IfOk result (λ rows. AreRunsOf runs.now (S.rows rows)) }
+{
     let mut rows = S::empty(alloc);
     let mut builder = RowBuilder::new(alloc)?;
     let mut rest = runs;
     while !rest.is_empty() {
-        let number = rows.len();
-        if number >= MOST_ROWS {
-            return Err(Refusal::Page(PageFault::TooManyRows));
-        }
         let Some(count) = builder.paint_row(rest, width) else {
-            return Err(Refusal::Runs(number));
+            unreachable!()
         };
         rows.push_lent(&builder.lend())?;
         rest = &rest[count..];

@@ -1,5 +1,4 @@
-use Rattle.std.proofs.Common.{◌≡◌, ◌+◌, ◌∷◌, [], ◌++◌, ◌≤◌, take, ◌∙◌, arith, length-append}
-use Rattle.std.proofs.lemmas.List.{take_all}
+use Rattle.std.proofs.Common.{◌≡◌, ◌+◌, ◌∷◌, [], ◌++◌, take, arith, length-append}
 use Rattle.fax_runcodes.specs.Widths.{elements_of}
 use Rattle.fax_c.proofs.RunsLemmas.{AreRunsOf-push, take_more_at, row_width, most_width}
 use Rattle.fax_c.proofs.reading.count_all_runs.Goals as goal

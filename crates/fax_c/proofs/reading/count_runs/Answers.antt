@@ -1,4 +1,4 @@
-use Rattle.std.proofs.Common.{◌≡◌, ◌+◌, ◌≤◌, length, arith}
+use Rattle.std.proofs.Common.{length, arith}
 use Rattle.fax_runcodes.proofs.PaintedLemmas.{rising_count}
 use Rattle.fax_c.proofs.RunsLemmas.{runs_of_changes}
 use Rattle.fax_c.proofs.reading.count_runs.Goals as goal

@@ -1,4 +1,4 @@
-use Rattle.std.proofs.Common.{◌≡◌, ◌+◌, ◌∷◌, [], ◌++◌, length, take, ◌∙◌, arith, refl, ◌≤◌}
+use Rattle.std.proofs.Common.{◌≡◌, ◌+◌, ◌∷◌, [], ◌++◌, length, take, ◌∙◌, arith, ◌≤◌}
 use Rattle.fax_runcodes.specs.Widths.{elements_of}
 use Rattle.fax_c.proofs.RunsLemmas.{AreRunsOf-push, take_more_at, row_fits, some_width, drop_further}
 use Rattle.fax_c.proofs.reading.fill_runs.Goals as goal

@@ -1,19 +1,12 @@
-use Rattle.std.proofs.Common.{◌≡◌, ℕ, ◌==◌, List, [], ◌∷◌, length, true, refl, sym, subst, arith}
-use Rattle.std.proofs.lemmas.Bool.{eqb-true}
+use Rattle.std.proofs.Common.{◌≡◌, ℕ, List, sym, subst}
 use Rattle.std.proofs.lemmas.Result.{err_from_is_err_and}
 use Rattle.fax_runcodes.specs.declared.format.Coding.{Coding}
 use Rattle.fax_runcodes.specs.Widths.{elements_of}
+use Rattle.fax_pagestore.specs.PageFaults.{HasNoEol}
 use Rattle.fax_c.specs.declared.outcome.Refusal.TheVariants.{Page}
 use Rattle.fax_c.specs.Calls.{RefusesText, coding_by}
-use Rattle.fax_c.proofs.RunsLemmas.{RefusesText-page, no_octets_refused}
+use Rattle.fax_c.proofs.RunsLemmas.{RefusesText-page}
 use Rattle.fax_c.proofs.reading.read_text.Goals as goal
-
-no_items : (xs : List ℕ) → (length xs == 0) ≡ true → xs ≡ []
-no_items [] none = refl
-no_items (x ∷ xs) none = let size : length (x ∷ xs) ≡ 0 = eqb-true (length (x ∷ xs)) 0 none in absurd (omega arith)
-
-pub returns-then-is_empty-clause-refusal : goal.returns-then-is_empty-clause-refusal
-returns-then-is_empty-clause-refusal c = no_octets_refused c.args.width (coding_by c.args.two_dimensional) c.args.octets.now (no_items c.args.octets.now (sym c.if-is_empty.ensures))
 
 pub returns-in_err-page-clause-refusal : goal.returns-in_err-page-clause-refusal
 returns-in_err-page-clause-refusal c =
@@ -28,3 +21,18 @@ returns-in_err-page-clause-refusal c =
     let as_wide = subst (λ (n : ℕ). RefusesText n (coding_by c.args.two_dimensional) octets (Page fault)) wide as_coded in
     let told : RefusesText c.args.width (coding_by c.args.two_dimensional) octets p.0 = rw p.2 as_wide in
     rw p.1 told
+
+-- the coding of the page is the one that the clauses speak of
+as_coded : (is wanted : Coding) (octets : List ℕ) → is ≡ wanted → HasNoEol wanted octets → HasNoEol is octets
+as_coded is wanted octets same none = subst (λ (coding : Coding). HasNoEol coding octets) (sym same) none
+
+pub returns-in_err-page-clause-no_eol_next : goal.returns-in_err-page-clause-no_eol_next
+returns-in_err-page-clause-no_eol_next c = λ width none.
+    let p = err_from_is_err_and c.from_residual-in_err-page.result c.from_residual-in_err-page.ensures.1 in
+    let told = c.in_err-page.ensures.no_eol (as_coded c.coding_of.result (coding_by c.args.two_dimensional) c.args.octets.now c.coding_of.ensures none) in
+    cc (p.1, p.2, told)
+
+pub returns-clause-no_eol_next : goal.returns-clause-no_eol_next
+returns-clause-no_eol_next c = λ width none.
+    let told = c.in_ok-page.ensures.no_eol (as_coded c.coding_of.result (coding_by c.args.two_dimensional) c.args.octets.now c.coding_of.ensures none) in
+    cc told
