@@ -14,9 +14,9 @@ test:
 	$(RT) ci
 
 # Refuses each allocation of a run in turn, both ways and in both codings, of a script, of a page over sockets, and each of a
-# page that is read and written in pieces, of a whole call of the answering and of the calling side, of one through the
-# gateway, and of one that is driven over a wire. It wants a C compiler, and a minute at most behind the proofs of the
-# crates.
+# page that is read and written in pieces, of faults that the calls for C tell without memory, of a whole call of the
+# answering and of the calling side, of one through the gateway, and of one that is driven over a wire. It wants a C
+# compiler, and a minute at most behind the proofs of the crates.
 memory: all
 	tools/refuse-memory $(PROGRAM) samples/hello.hex page
 	tools/refuse-memory $(PROGRAM) samples/hello.hex page --pbm
@@ -27,6 +27,8 @@ memory: all
 	tools/refuse-memory $(PROGRAM) samples/hello.hex loop
 	cd crates/fax_pagestore && $(RT) test > /dev/null
 	tools/refuse-test-memory crates/fax_pagestore/out/fax_pagestore_tests tests::memory::a_page_that_is_refused_memory
+	cd crates/fax_c && $(RT) test > /dev/null
+	tools/refuse-test-memory crates/fax_c/out/fax_c_tests tests::faults_that_want_no_memory_are_told
 	cd crates/fax_answer && $(RT) test > /dev/null
 	tools/refuse-test-memory crates/fax_answer/out/fax_answer_tests tests::memory::a_call_that_is_refused_memory
 	cd crates/fax_call && $(RT) test > /dev/null
