@@ -355,7 +355,15 @@ fn read_up_to<S: RowStore>(
             settled: None,
         });
     };
-    let halt = read_rows_on(room, rows, &mut reader, width, coding, first, 8 * end as u128)?;
+    let halt = read_rows_on(
+        room,
+        rows,
+        &mut reader,
+        width,
+        coding,
+        first,
+        8 * end as u128,
+    )?;
     let place = reader.place();
     let settled = settle(&mut reader, coding, &halt, rows.len());
     if settled.is_some() {

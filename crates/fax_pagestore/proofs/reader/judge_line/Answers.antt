@@ -8,8 +8,7 @@ use Rattle.fax_pagestore.proofs.reader.judge_line.Goals as goal
 pub returns-in-Ok-Line : goal.returns-in-Ok-Line
 returns-in-Ok-Line g c = λ waits.
     let read = c.if-not-pass_line.ensures.read refl in
-    let begins = c.pass_separator.ensures.line (c.in-Ok-Line.is ∙ ap (λ (ahead : Ahead). Ok ahead) c.in-Ok-Line.field-0-is) in
-    (
+    let begins = c.pass_separator.ensures.line (c.in-Ok-Line.is ∙ ap (λ (ahead : Ahead). Ok ahead) c.in-Ok-Line.field-0-is) in (
       c.len-in-Ok-Line.ensures,
       record { one_separator = refl; begins = c.requires.begins; room = c.requires.few },
       inr (c.pass_line.new.reader.left, (read.1, read.0, read.2, read.3.bits), begins),
