@@ -161,7 +161,7 @@ none_behind octets place from first inside same h holds =
 -- ---- what ends with an EOL, and at most one bit behind it
 
 -- where that EOL stands
-ends_at : (text before tag rest bits : List Bool) → text ≡ before ++ (end_of_line ++ tag) → bits ≡ text ++ rest → bits ≡ before ++ (end_of_line ++ (tag ++ rest))
+pub ends_at : (text before tag rest bits : List Bool) → text ≡ before ++ (end_of_line ++ tag) → bits ≡ text ++ rest → bits ≡ before ++ (end_of_line ++ (tag ++ rest))
 ends_at text before tag rest bits ends e =
     e ∙ ap (λ t. t ++ rest) ends ∙ append_assoc before (end_of_line ++ tag) rest ∙ ap (λ t. before ++ t) (append_assoc end_of_line tag rest)
 

@@ -8,6 +8,7 @@ use Rattle.fax_bits.specs.Bits.{bit, word_bits}
 use Rattle.fax_runcodes.specs.declared.format.Coding.{Coding}
 use Rattle.fax_runcodes.specs.declared.format.Coding.TheVariants.{Mr}
 use Rattle.fax_pagestore.specs.PageTexts.{end_of_line, EndsWithEol, IsTag, IsSeparator, IsFront}
+use Rattle.fax_pagestore.specs.Ends.{HoldsNoTaggedEol}
 use Rattle.fax_pagestore.specs.PageFaults.{LineBegins}
 
 -- ---- zeros up to a 1
@@ -208,14 +209,13 @@ IsFront-from coding tag old mid last new zeros r p enough (text, is, q) =
       Passes-then old last new front text (Passes-then old mid last r.text (replicate zeros false ++ true ∷ []) r.passes p) q,
     )
 
--- There is no front where only zeros are left.
+-- There is no EOL where only zeros are left.
 pub no_front : (old mid new : Place) (zeros : ℕ) → FrontSoFar old mid → Passes mid new (replicate zeros false) → length new.left < 1
-    → (coding : Coding) (tag : Bool) (front rest : List Bool) → IsFront coding tag front → old.left ≡ front ++ rest → ⊥
-no_front old mid new zeros r p none coding tag front rest is e =
+    → (coding : Coding) → HoldsNoTaggedEol coding old.left
+no_front old mid new zeros r p none coding tag before tag_text rest is e =
     let bits : old.left ≡ r.text ++ replicate zeros false = r.passes.bits ∙ ap (λ b. r.text ++ b) (only_zeros mid new zeros p none) in
-    let whole : r.text ++ replicate zeros false ≡ is.front ++ (is.tag_text ++ rest) =
-    sym bits ∙ e ∙ ap (λ b. b ++ rest) is.text_is ∙ append_assoc is.front is.tag_text rest in
-    FewZeros-no_eol (r.text ++ replicate zeros false) is.front (is.tag_text ++ rest) (with_zeros old mid zeros r) is.ends whole
+    let whole : r.text ++ replicate zeros false ≡ (before ++ end_of_line) ++ (tag_text ++ rest) = sym bits ∙ e ∙ sym (append_assoc before end_of_line (tag_text ++ rest)) in
+    FewZeros-no_eol (r.text ++ replicate zeros false) (before ++ end_of_line) (tag_text ++ rest) (with_zeros old mid zeros r) (before, refl) whole
 
 -- what begins bits that end with one more bit, and leaves some of them, begins the bits without it
 front_before : (front rest before : List Bool) (b : Bool) → 0 < length rest → front ++ rest ≡ before ++ b ∷ [] → take (length front) before ≡ front
@@ -223,20 +223,21 @@ front_before front rest before b some e =
     let size : length front + length rest ≡ length before + 1 = sym (length-append front rest) ∙ ap length e ∙ length-append before (b ∷ []) in
     sym (take-append-le (length front) before (b ∷ []) (omega arith)) ∙ ap (take (length front)) (sym e) ∙ take-append-le (length front) front rest (omega arith) ∙ take_all (length front) front (omega arith)
 
--- Nor is there one where nothing is left behind the first EOL, and its tag is missing.
+-- Nor is there one with its tag where nothing is left behind the first EOL, and its tag is missing.
 pub no_tag : (old mid new : Place) (zeros : ℕ) → FrontSoFar old mid → Passes mid new (replicate zeros false ++ true ∷ [])
-    → (coding : Coding) → (coding ≡ Mr) × (new.left ≡ []) → (tag : Bool) (front rest : List Bool) → IsFront coding tag front → old.left ≡ front ++ rest → ⊥
-no_tag old mid new zeros r p coding (mr, none) tag front rest is e =
+    → (coding : Coding) → (coding ≡ Mr) × (new.left ≡ []) → HoldsNoTaggedEol coding old.left
+no_tag old mid new zeros r p coding (mr, none) tag front tag_text rest is e =
     let before : List Bool = r.text ++ replicate zeros false in
+    let begin : List Bool = front ++ end_of_line in
     let bits : old.left ≡ before ++ true ∷ [] =
     r.passes.bits ∙ ap (λ b. r.text ++ b) (p.bits ∙ ap (λ b. (replicate zeros false ++ true ∷ []) ++ b) none ∙ append-nil (replicate zeros false ++ true ∷ []))
     ∙ sym (append_assoc r.text (replicate zeros false) (true ∷ [])) in
-    let tagged : is.tag_text ≡ tag ∷ [] = subst (λ (c : Coding). IsTag c tag is.tag_text) mr is.is_tag in
-    let whole : is.front ++ (tag ∷ rest) ≡ before ++ true ∷ [] =
-    ap (λ b. is.front ++ (b ++ rest)) (sym tagged) ∙ sym (append_assoc is.front is.tag_text rest) ∙ ap (λ b. b ++ rest) (sym is.text_is) ∙ sym e ∙ bits in
-    let begins : take (length is.front) before ≡ is.front = front_before is.front (tag ∷ rest) before true (omega arith) whole in
-    FewZeros-no_eol before is.front (drop (length is.front) before) (with_zeros old mid zeros r) is.ends
-    (sym (take-append-drop (length is.front) before) ∙ ap (λ b. b ++ drop (length is.front) before) begins)
+    let tagged : tag_text ≡ tag ∷ [] = subst (λ (c : Coding). IsTag c tag tag_text) mr is in
+    let whole : begin ++ (tag ∷ rest) ≡ before ++ true ∷ [] =
+    ap (λ b. begin ++ (b ++ rest)) (sym tagged) ∙ append_assoc front end_of_line (tag_text ++ rest) ∙ sym e ∙ bits in
+    let begins : take (length begin) before ≡ begin = front_before begin (tag ∷ rest) before true (omega arith) whole in
+    FewZeros-no_eol before begin (drop (length begin) before) (with_zeros old mid zeros r) (front, refl)
+    (sym (take-append-drop (length begin) before) ∙ ap (λ b. b ++ drop (length begin) before) begins)
 
 -- ---- a tag
 

@@ -1,3 +1,4 @@
+pub mod BeforeEolLemmas
 pub mod EndsLemmas
 pub mod FrontLemmas
 pub mod PackedLemmas

@@ -25,15 +25,15 @@ use Rattle.fax_pagestore.specs.declared.fault.PageFault.TheVariants.{NoEol, BadL
 use Rattle.fax_pagestore.specs.PageRows.{most_rows}
 use Rattle.fax_pagestore.specs.Pages.{PageValue}
 use Rattle.fax_pagestore.specs.PageTexts.{end_of_line, IsFront, IsSeparator, InARow, SpellsRow, SpellsRows, ReadSoFar, MeansRows, MeansPage}
-use Rattle.fax_pagestore.specs.PageFaults.{LineBegins, SeparatorBegins, FailsRow, Stops, FailsPage, HasNoEol, last_of, row_before}
+use Rattle.fax_pagestore.specs.PageFaults.{LineBegins, SeparatorBegins, FailsRow, Stops, FailsPage, last_of, row_before}
 use Rattle.fax_pagestore.specs.Readers.{ReadsOne, BeginsRow, ReaderValue, HasRead, IsReadUpTo, NoMoreIsWhole, AreJudged, fault_of, new_reader}
 use Rattle.fax_pagestore.specs.declared.reader.Settled.{Settled}
 use Rattle.fax_pagestore.specs.declared.reader.Stop.{Stop}
 use Rattle.fax_pagestore.specs.declared.reader.Stop.TheVariants.{NoEols, NoLine, Fault}
-use Rattle.fax_pagestore.specs.Ends.{HoldsEol}
-use Rattle.fax_pagestore.proofs.FrontLemmas.{FewZeros-no_eol}
+use Rattle.fax_pagestore.specs.Ends.{HoldsEol, HoldsNoTaggedEol}
+use Rattle.fax_pagestore.proofs.BeforeEolLemmas.{front_behind, nowhere_eol, left_behind, BeginNoEol-none, BeginNoEol-more, HoldsNoTaggedEol-none}
 use Rattle.fax_pagestore.proofs.PageLaws.{pages_are_unique, pages_dont_fail, faults_are_unique}
-use Rattle.fax_pagestore.proofs.EndsLemmas.{ends_hold, begins_before, separator_ends, front_ends}
+use Rattle.fax_pagestore.proofs.EndsLemmas.{ends_hold, begins_before, separator_ends}
 use Rattle.fax_pagestore.proofs.ReadLemmas.{SpellsRow-length, ReadSoFar-lengths, BeginsRow-line, Stops-row}
 use Rattle.fax_pagestore.proofs.TextLemmas.{separator_not_line, line_not_runs_out, width_some}
 use Rattle.fax_pagestore.proofs.PageReading.{Keeps, Knows-kept, SpellsRow-knows, last_of-width, ReadSoFar-row, ReadSoFar-separators}
@@ -283,7 +283,12 @@ ReadSoFar-octets coding width octets piece rows tag left r = record {
 
 IsReadUpTo-octets : (coding : Coding) (width : ℕ) (octets piece : List ℕ) (rows : List Elements) (tag : Option Bool) (left : List Bool)
     → IsReadUpTo coding width octets rows tag left → IsReadUpTo coding width (octets ++ piece) rows tag (left ++ bits_of piece)
-IsReadUpTo-octets coding width octets piece rows None left (none, all) = (none, ap (λ b. b ++ bits_of piece) all ∙ sym (bits_of-append octets piece))
+IsReadUpTo-octets coding width octets piece rows None left (none, before, whole, begin) = (
+  none,
+  before,
+  bits_of-append octets piece ∙ ap (λ b. b ++ bits_of piece) whole ∙ append_assoc before left (bits_of piece),
+  BeginNoEol-more before left (bits_of piece) begin,
+)
 IsReadUpTo-octets coding width octets piece rows (Some tag) left read = ReadSoFar-octets coding width octets piece rows tag left read
 
 -- the bits that are not used, with a piece behind them
@@ -384,15 +389,6 @@ fault_waits coding width rows tag left fault is each not_many s r =
     Stops-row coding width rows 0 tag left fault is (last_of-width width rows each) refl (room_left coding width rows tag left fault (width_some width is) not_many s r) r s
 
 -- where a piece brought no EOL
-piece_front : (coding : Coding) (held piece all : List ℕ) (used n : ℕ) → drop used (bits_of all) ≡ drop used (bits_of held) ++ bits_of piece
-    → n ≤ (used + length (drop used (bits_of held))) - 13 → (HoldsEol (drop n (bits_of all)) → ⊥)
-    → ((tag : Bool) (front rest : List Bool) → IsFront coding tag front → drop used (bits_of held) ≡ front ++ rest → ⊥)
-    → (tag : Bool) (front rest : List Bool) → IsFront coding tag front → drop used (bits_of all) ≡ front ++ rest → ⊥
-piece_front coding held piece all used n bits le none before tag front rest is e =
-    let ends = front_ends coding tag front is in
-    let was = begins_before (bits_of all) (drop used (bits_of held)) (bits_of piece) front ends.0 ends.1 rest used n bits le none ends.2 ends.3 (sym bits ∙ e) in
-    before tag front was.0 is was.1
-
 piece_row : (coding : Coding) (width : ℕ) (rows : List Elements) (tag : Bool) (held piece all : List ℕ) (used n : ℕ) → drop used (bits_of all) ≡ drop used (bits_of held) ++ bits_of piece
     → n ≤ (used + length (drop used (bits_of held))) - 13 → (HoldsEol (drop n (bits_of all)) → ⊥)
     → (BeginsRow coding width tag (last_of rows) (drop used (bits_of held)) → ⊥) → BeginsRow coding width tag (last_of rows) (drop used (bits_of all)) → ⊥
@@ -413,40 +409,42 @@ piece_row coding width rows tag held piece all used n bits le none before r =
       behind = (next, separator, was.0, r.behind.3, refl);
     }
 
-pub piece_waits : (coding : Coding) (width : ℕ) (rows : List Elements) (tag : Option Bool) (held piece all : List ℕ) (used n : ℕ) → used ≤ 8 * length held → all ≡ held ++ piece
-    → n ≤ 8 * length held - 13 → (HoldsEol (drop n (bits_of all)) → ⊥) → NoMoreIsWhole coding width rows tag (drop used (bits_of held)) → NoMoreIsWhole coding width rows tag (drop used (bits_of all))
-piece_waits coding width rows None held piece all used n inside e le none before =
-    let least : n ≤ (used + length (drop used (bits_of held))) - 13 = omega (arith, length-drop used (bits_of held), length-bits_of held) in
-    piece_front coding held piece all used n (with_piece held piece all used inside e) least none before
-piece_waits coding width rows (Some tag) held piece all used n inside e le none before =
+pub piece_waits : (coding : Coding) (width : ℕ) (rows : List Elements) (tag : Option Bool) (held piece all : List ℕ) (used n : ℕ) → IsSome tag → used ≤ 8 * length held
+    → all ≡ held ++ piece → n ≤ 8 * length held - 13 → (HoldsEol (drop n (bits_of all)) → ⊥) → NoMoreIsWhole coding width rows tag (drop used (bits_of held))
+    → NoMoreIsWhole coding width rows tag (drop used (bits_of all))
+piece_waits coding width rows None held piece all used n some inside e le none before = absurd (cc some)
+piece_waits coding width rows (Some tag) held piece all used n some inside e le none before =
     let least : n ≤ (used + length (drop used (bits_of held))) - 13 = omega (arith, length-drop used (bits_of held), length-bits_of held) in
     piece_row coding width rows tag held piece all used n (with_piece held piece all used inside e) least none before
 
 -- ---- the front
 
-pub front_read : (coding : Coding) (width : ℕ) (octets : List ℕ) (rows : List Elements) (tag : Bool) (old new : Place) → rows ≡ [] → old.left ≡ bits_of octets
+pub front_read : (coding : Coding) (width : ℕ) (octets : List ℕ) (rows : List Elements) (tag : Bool) (old new : Place) → IsReadUpTo coding width octets rows None old.left
     → (front : List Bool) × IsFront coding tag front × Passes old new front → ReadSoFar coding width octets rows 0 tag new.left
-front_read coding width octets rows tag old new none all (front, is, p) = record {
-  front = front;
+front_read coding width octets rows tag old new (none, before, whole, begin) (front, is, p) = record {
+  front = before ++ front;
   lines = [];
   separators = [];
   front_tag = tag;
   row_tag = tag;
-  is_front = is;
+  is_front = front_behind coding tag before old.left front new.left begin is p.bits;
   spelt = subst (λ (rs : List Elements). SpellsRows coding width tag None rs [] tag) (sym none) (refl, refl);
   in_a_row = (refl, refl);
-  bits_are = sym all ∙ p.bits;
+  bits_are = whole ∙ ap (λ b. before ++ b) p.bits ∙ sym (append_assoc before front new.left);
 }
 
--- nothing came
-nothing_has_eol : (coding : Coding) → HasNoEol coding []
-nothing_has_eol coding = λ tag front rest is e.
-    FewZeros-no_eol [] is.front (is.tag_text ++ rest) tt is.ends (sym bits_of-nil ∙ e ∙ ap (λ b. b ++ rest) is.text_is ∙ append_assoc is.front is.tag_text rest)
+-- where the bits that are left hold no EOL with its tag, only those behind this place are kept
+pub none_used : (coding : Coding) (width : ℕ) (octets held : List ℕ) (rows : List Elements) (used place : ℕ) → used ≤ place → (used < place → place + 13 ≤ 8 * length held)
+    → HoldsNoTaggedEol coding (drop used (bits_of held)) → IsReadUpTo coding width octets rows None (drop used (bits_of held)) → IsReadUpTo coding width octets rows None (drop place (bits_of held))
+none_used coding width octets held rows used place le enough none read =
+    let behind = left_behind coding octets held used place le enough none (read.1, read.2, read.3) in
+    (read.0, behind.0, behind.1, behind.2)
 
+-- nothing came
 pub nothing_read : (format : Format) (coding : Coding) → HasRead [] (new_reader format coding)
 nothing_read format coding = record {
-  read = λ not_yet. (refl, sym bits_of-nil);
-  waits = λ not_yet tag front rest is e. nothing_has_eol coding tag front rest is (bits_of-nil ∙ e);
+  read = λ not_yet. (refl, [], bits_of-nil, BeginNoEol-none []);
+  waits = λ not_yet. HoldsNoTaggedEol-none coding;
   settled = λ what none. absurd (cc);
 }
 
@@ -467,7 +465,7 @@ settled_judged octets reader what has is =
 -- before the first EOL
 pub no_front_judged : (coding : Coding) (width : ℕ) (octets : List ℕ) (rows : List Elements) (left : List Bool) → IsReadUpTo coding width octets rows None left
     → NoMoreIsWhole coding width rows None left → FailsPage width coding octets NoEol
-no_front_judged coding width octets rows left read waits = inl (refl, λ tag front rest is e. waits tag front rest is (read.1 ∙ e))
+no_front_judged coding width octets rows left (none, before, whole, begin) waits = inl (refl, nowhere_eol coding octets before left whole begin waits)
 
 -- ---- the one answer
 

@@ -10,7 +10,8 @@ use Rattle.fax_pagestore.specs.declared.fault.PageFault.{PageFault}
 use Rattle.fax_pagestore.specs.declared.fault.PageFault.TheVariants.{Empty, TooManyRows}
 use Rattle.fax_pagestore.specs.declared.reader.Settled.{Settled}
 use Rattle.fax_pagestore.specs.declared.reader.Settled.TheVariants.{Page, NoRow, Full}
-use Rattle.fax_pagestore.specs.PageTexts.{IsFront, IsSeparator, SpellsRow, ReadSoFar, MeansRows}
+use Rattle.fax_pagestore.specs.Ends.{HoldsNoTaggedEol, BeginNoEol}
+use Rattle.fax_pagestore.specs.PageTexts.{IsSeparator, SpellsRow, ReadSoFar, MeansRows}
 use Rattle.fax_pagestore.specs.PageFaults.{FailsPage, SeparatorBegins, last_of}
 
 -- A reader: its rows, the tag of the last separator that is read, or none before the first EOL, the bits
@@ -27,9 +28,10 @@ pub record ReaderValue : Type 0 where
 abbrev pub new_reader : Format → Coding → ReaderValue
 new_reader format coding = record { format = format; coding = coding; rows = []; tag = None; left = []; settled = None }
 
--- Of octets these rows are read, and a separator of this tag behind the last; these bits are left.
+-- Of octets these rows are read, and a separator of this tag behind the last; these bits are left. Before the
+-- first EOL there are no rows, and none begins before what is left.
 abbrev pub IsReadUpTo : Coding → ℕ → List ℕ → List Elements → Option Bool → List Bool → Type 0
-IsReadUpTo coding width octets rows None left = (rows ≡ []) × (left ≡ bits_of octets)
+IsReadUpTo coding width octets rows None left = (rows ≡ []) × (before : List Bool) × (bits_of octets ≡ before ++ left) × BeginNoEol before left
 IsReadUpTo coding width octets rows (Some tag) left = ReadSoFar coding width octets rows 0 tag left
 
 -- bits begin with the line of some row, behind a separator of this tag, and a separator behind it
@@ -41,9 +43,9 @@ pub record BeginsRow (coding : Coding) (width : ℕ) (tag : Bool) (before : Opti
   pub bits_are : bits ≡ line ++ rest
   pub behind : SeparatorBegins coding rest
 
--- Of the bits that are left nothing more can be read: no first EOL, or no row with a separator behind it.
+-- Of the bits that are left nothing more can be read: no first EOL with its tag, or no row with a separator behind it.
 abbrev pub NoMoreIsWhole : Coding → ℕ → List Elements → Option Bool → List Bool → Type 0
-NoMoreIsWhole coding width rows None left = (tag : Bool) (front rest : List Bool) → IsFront coding tag front → left ≡ front ++ rest → ⊥
+NoMoreIsWhole coding width rows None left = HoldsNoTaggedEol coding left
 NoMoreIsWhole coding width rows (Some tag) left = BeginsRow coding width tag (last_of rows) left → ⊥
 
 -- what octets are: a page of these rows, or none for this fault

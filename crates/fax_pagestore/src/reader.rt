@@ -5,9 +5,9 @@ ghost use Rattle.fax_bits.specs.Reading.{Passes};
 ghost use Rattle.fax_runcodes.specs.Rows.{Elements};
 ghost use Rattle.fax_runcodes.specs.Widths.{elements_of};
 ghost use Rattle.fax_pagestore.specs.Pages.{PageValue};
-ghost use Rattle.fax_pagestore.specs.PageTexts.{IsFront, ReadSoFar, MeansRows, MeansPage, SpellsRow};
+ghost use Rattle.fax_pagestore.specs.PageTexts.{ReadSoFar, MeansRows, MeansPage, SpellsRow};
 ghost use Rattle.fax_pagestore.specs.PageFaults.{FailsPage, FailsRow, LineBegins, Stops, last_of};
-ghost use Rattle.fax_pagestore.specs.Ends.{HoldsEol};
+ghost use Rattle.fax_pagestore.specs.Ends.{HoldsEol, HoldsNoTaggedEol};
 ghost use Rattle.fax_pagestore.specs.Readers.{ReadsOne, BeginsRow, IsReadUpTo, NoMoreIsWhole, AreJudged, fault_of};
 
 use crate::ends::behind_eols;
@@ -25,9 +25,13 @@ use std::alloc::Global;
 use std::marker::Model;
 use std::mem;
 
+/// How many octets are kept before the first EOL: one whose tag is not there yet begins in the last two (ITU-T
+/// T.4, 4.1.2 and 4.2.2).
+const BEFORE_EOL: usize = 2;
+
 /// Reads a page whose octets come in pieces, as [`crate::read_page`] reads them at once. It keeps the rows
-/// that are read, and the octets behind the last separator, until it is settled what they all are. A line is
-/// read once the EOL behind it is there.
+/// that are read, and the octets behind the last separator, until it is settled what they all are; before the
+/// first EOL two octets at most. A line is read once the EOL behind it is there.
 #[derive(Drop)]
 pub struct PageReader<S: RowStore> {
     format: Format,
@@ -143,7 +147,7 @@ impl<S: RowStore> PageReader<S> {
         // an EOL that ends in the piece begins at most two octets before it
         let from = len.saturating_sub(2);
         let end = behind_eols(self.octets.as_slice(), from);
-        if end == from {
+        if self.tag.is_some() && end == from {
             self.room = Some(room);
             return Ok(());
         }
@@ -299,6 +303,9 @@ fn drop_front(octets: &mut Vec<u8>, n: usize)
     requires { n ≤ length octets.old.items }
     ensures { octets.new.items ≡ drop n octets.old.items }
 {
+    if n == 0 {
+        return;
+    }
     let left = octets.len() - n;
     if left <= n {
         let (front, back) = octets.split_at_mut(n);
@@ -349,8 +356,9 @@ fn read_up_to<S: RowStore>(
     let mut reader = BitReader::new(octets);
     reader.skip(used);
     let Some(first) = begin(&mut reader, coding, tag) else {
+        let unused = 8 * octets.len().saturating_sub(BEFORE_EOL) as u128;
         return Ok(Reached {
-            place: u128::from(used),
+            place: unused.max(u128::from(used)),
             tag: None,
             settled: None,
         });
@@ -386,7 +394,7 @@ fn begin(reader: &mut BitReader, coding: Coding, tag: Option<bool>) -> Option<bo
     ensures read { IfSome result (λ first. (width : ℕ) (octets : List ℕ) (rows : List Elements) → IsReadUpTo coding width octets rows tag reader.old.left
         → ReadSoFar coding width octets rows 0 first reader.new.left) }
     ensures none { IsNone result → tag ≡ None }
-    ensures no_front { IsNone result → (some : Bool) (front rest : List Bool) → IsFront coding some front → reader.old.left ≡ front ++ rest → ⊥ }
+    ensures no_eol { IsNone result → HoldsNoTaggedEol coding reader.old.left }
 {
     match tag {
         Some(first) => Some(first),

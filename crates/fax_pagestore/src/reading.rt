@@ -8,6 +8,7 @@ ghost use Rattle.fax_runcodes.specs.Widths.{elements_of};
 ghost use Rattle.fax_pagestore.specs.declared.fault.PageFault.{PageFault};
 ghost use Rattle.fax_pagestore.specs.Pages.{PageValue};
 ghost use Rattle.fax_pagestore.specs.PageTexts.{IsTag, IsFront, IsSeparator, InARow, SpellsRow, ReadSoFar, MeansRows, MeansPage};
+ghost use Rattle.fax_pagestore.specs.Ends.{HoldsNoTaggedEol};
 ghost use Rattle.fax_pagestore.specs.PageFaults.{RunsOut, LineBegins, FailsRow, WantsLine, Stops, FailsBehindFront, HasNoEol, FailsPage, last_of, row_before};
 
 use crate::white::pass_white_row;
@@ -86,10 +87,10 @@ fn next_bit(reader: &BitReader) -> Option<u64>
 }
 
 /// Passes any bits up to the first EOL, the EOL and its tag, and answers the tag. `None` says that there
-/// is no EOL.
+/// is no EOL with its tag.
 pub(crate) fn pass_front(reader: &mut BitReader, coding: Coding) -> Option<bool>
     ensures found { IfSome result (λ tag. (front : List Bool) × IsFront coding tag front × Passes reader.old reader.new front) }
-    ensures none { IsNone result → (tag : Bool) (front rest : List Bool) → IsFront coding tag front → reader.old.left ≡ front ++ rest → ⊥ }
+    ensures none { IsNone result → HoldsNoTaggedEol coding reader.old.left }
 {
     loop {
         let zeros = reader.skip_zeros();

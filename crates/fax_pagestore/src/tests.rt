@@ -152,7 +152,7 @@ impl Digits {
 }
 
 /// Pages by their texts, and the places at which their rows change colour.
-const PAGES: [(Width, Coding, Digits, &[&str], &[&[u16]]); 18] = [
+const PAGES: [(Width, Coding, Digits, &[&str], &[&[u16]]); 19] = [
     // any bits before the first EOL, fill before another, and anything behind the sixth
     (
         Width::W1728,
@@ -162,6 +162,30 @@ const PAGES: [(Width, Coding, Digits, &[&str], &[&[u16]]); 18] = [
             "1011", EOL, WHITE, "000", EOL, MARKED, EOL, EOL, EOL, EOL, EOL, EOL, "111",
         ],
         &[&[], &[1, 3]],
+    ),
+    // bits before the first EOL that are longer than what is kept of them, with ten zeros in a row
+    (
+        Width::W1728,
+        Coding::Mr,
+        Digits::Binary,
+        &[
+            "10110100000000001011101111",
+            "00000000001",
+            "0101",
+            "00000000001",
+            "11",
+            EOL_1,
+            MARKED,
+            EOL_0,
+            AS_MARKED,
+            EOL_1,
+            EOL_1,
+            EOL_1,
+            EOL_1,
+            EOL_1,
+            EOL_1,
+        ],
+        &[&[1, 3], &[1, 3]],
     ),
     (
         Width::W1728,

@@ -8,8 +8,5 @@ pub returns-in-None-clause-read : goal.returns-in-None-clause-read
 returns-in-None-clause-read c =
     IfSome_then c.pass_front.result c.pass_front.ensures.found
     (λ first found width octets rows read.
-    let none = subst (λ t. IsReadUpTo c.args.coding width octets rows t c.args.reader.now.left) c.in-None.is read in
-    front_read c.args.coding width octets rows first c.args.reader.now c.pass_front.new.reader none.0 none.1 found)
-
-pub returns-in-None-clause-no_front : goal.returns-in-None-clause-no_front
-returns-in-None-clause-no_front c = λ none some front rest is whole. c.pass_front.ensures.none none some front rest is whole
+    front_read c.args.coding width octets rows first c.args.reader.now c.pass_front.new.reader
+    (subst (λ t. IsReadUpTo c.args.coding width octets rows t c.args.reader.now.left) c.in-None.is read) found)

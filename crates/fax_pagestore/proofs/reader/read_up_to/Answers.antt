@@ -5,10 +5,12 @@ use Rattle.fax_bits.proofs.BitsLemmas.{length-bits_of}
 use Rattle.fax_runcodes.specs.Widths.{elements_of}
 use Rattle.fax_mhcode.proofs.LineLaws.{IsWidth-elements}
 use Rattle.fax_pagestore.specs.PageTexts.{ReadSoFar}
+use Rattle.fax_pagestore.specs.Ends.{HoldsNoTaggedEol}
 use Rattle.fax_pagestore.specs.Readers.{IsReadUpTo, NoMoreIsWhole}
-use Rattle.fax_pagestore.proofs.ReaderLemmas.{skipped, reached, IsReached, none_if, behind_all, stopped_waits}
+use Rattle.fax_pagestore.proofs.BeforeEolLemmas.{none_behind_place}
+use Rattle.fax_pagestore.proofs.ReaderLemmas.{skipped, none_used, reached, IsReached, none_if, behind_all, stopped_waits}
 use Rattle.fax_pagestore.proofs.reader.read_up_to.Goals as goal
-use Rattle.fax_pagestore.proofs.reader.read_up_to.Goals.{After-skip, In_ok-halt}
+use Rattle.fax_pagestore.proofs.reader.read_up_to.Goals.{After-skip, In_default, In_ok-halt}
 use Rattle.fax_pagestore.proofs.reader.read_up_to.Given.{Over}
 
 pub skip-requires : goal.skip-requires
@@ -41,10 +43,22 @@ returns-clause-place g c =
     let is = halted g (goal.at.returns-clause-place g c).In_ok-halt in
     omega (arith, is.within, c.place-place.ensures)
 
+-- ---- before the first EOL
+
+-- what is left holds no EOL with its tag
+nothing : (g : Over) (c : In_default g) → HoldsNoTaggedEol c.args.coding (drop c.args.used (bits_of c.args.octets.now))
+nothing g c = subst (HoldsNoTaggedEol c.args.coding) (left_is g (goal.at.In_default g c).After-skip) (c.in_default.ensures.no_eol refl)
+
+pub returns-in_default-clause-read : goal.returns-in_default-clause-read
+returns-in_default-clause-read g c = λ none all read.
+    let at = (goal.at.returns-in_default-clause-read g c).In_default in
+    none_used c.args.coding (elements_of c.args.width) all c.args.octets.now (g.S.RowStore.rows c.args.rows.now) c.args.used c.max.result (omega (arith)) (λ lt. omega (arith)) (nothing g at)
+    (subst (λ t. IsReadUpTo c.args.coding (elements_of c.args.width) all (g.S.RowStore.rows c.args.rows.now) t (drop c.args.used (bits_of c.args.octets.now))) (c.in_default.ensures.none refl) read)
+
 pub returns-in_default-clause-waits : goal.returns-in_default-clause-waits
-returns-in_default-clause-waits g c = λ none tag front rest is e.
-    let at = (goal.at.returns-in_default-clause-waits g c).After-skip in
-    c.in_default.ensures.no_front refl tag front rest is (left_is g at ∙ ap (λ n. drop n (bits_of c.args.octets.now)) (sym c.from.ensures) ∙ e)
+returns-in_default-clause-waits g c = λ none.
+    let at = (goal.at.returns-in_default-clause-waits g c).In_default in
+    none_behind_place c.args.coding c.args.octets.now c.args.used c.max.result (omega (arith)) (nothing g at)
 
 pub returns-clause-read : goal.returns-clause-read
 returns-clause-read g c = λ none all read.

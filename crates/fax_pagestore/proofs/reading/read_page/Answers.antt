@@ -5,6 +5,7 @@ use Rattle.fax_runcodes.specs.Widths.{elements_of}
 use Rattle.fax_pagestore.specs.declared.fault.PageFault.TheVariants.{NoEol}
 use Rattle.fax_pagestore.specs.PageTexts.{ReadSoFar, MeansRows, MeansPage}
 use Rattle.fax_pagestore.specs.PageFaults.{HasNoEol}
+use Rattle.fax_pagestore.proofs.BeforeEolLemmas.{no_front_in}
 use Rattle.fax_pagestore.proofs.PageReading.{ReadSoFar-front, reads_from, fails_from}
 use Rattle.fax_pagestore.proofs.reading.read_page.Goals as goal
 use Rattle.fax_pagestore.proofs.reading.read_page.Goals.{In_default, After-read_rows}
@@ -17,7 +18,8 @@ begun g c =
 
 -- the octets have no EOL
 no_eol : (g : Over) (c : In_default g) → HasNoEol c.args.coding c.args.octets.now
-no_eol g c = λ tag front rest is e. c.in_default.ensures.none refl tag front rest is (ap (λ (place : Place). place.left) c.new-reader.ensures ∙ e)
+no_eol g c = λ tag front rest is e.
+    no_front_in c.args.coding c.new-reader.result.left (c.in_default.ensures.none refl) tag front rest is (ap (λ (place : Place). place.left) c.new-reader.ensures ∙ e)
 
 -- the octets have one
 has_eol : (g : Over) (c : After-read_rows g) → HasNoEol c.args.coding c.args.octets.now → ⊥

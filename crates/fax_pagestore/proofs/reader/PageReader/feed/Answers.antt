@@ -23,7 +23,7 @@ returns-then-end-from-clause-read g c = λ octets has.
     λ holds. c.behind_eols-end.ensures.none
     (subst HoldsEol (ap (λ n. drop (8 * n) (bits_of c.append.new.octets.items)) (sym c.if-end-from.true) ∙ ap (λ (o : List ℕ). drop (8 * c.behind_eols-end.result) (bits_of o)) (sym c.as_slice.ensures.value)) holds) in
     let waits = piece_waits c.self.inside.coding (elements_of c.self.inside.format.width) (g.S.RowStore.rows c.self.inside.rows) c.self.inside.tag c.self.inside.octets.items c.args.piece.now
-    c.append.new.octets.items c.self.inside.used (8 * c.saturating_sub-from.result) c.self.invariant.0 held (omega (arith, c.saturating_sub-from.ensures, c.len-len.ensures)) none (before.waits not_yet) in
+    c.append.new.octets.items c.self.inside.used (8 * c.saturating_sub-from.result) (sym c.is_some-2.ensures ∙ c.if-is_some-2.true) c.self.invariant.0 held (omega (arith, c.saturating_sub-from.ensures, c.len-len.ensures)) none (before.waits not_yet) in
     record {
       read = λ later. more;
       waits = λ later. waits;
