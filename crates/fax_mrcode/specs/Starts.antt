@@ -4,7 +4,7 @@ use Rattle.fax_bits.specs.Reading.{Place, Passes}
 use Rattle.fax_runcodes.specs.declared.Colour.{Colour}
 use Rattle.fax_runcodes.specs.declared.Colour.TheVariants.{White}
 use Rattle.fax_runcodes.specs.Rows.{Elements, other, colour_at, colour_before}
-use Rattle.fax_runcodes.specs.Painted.{painted, colour_after_changes}
+use Rattle.fax_runcodes.specs.Painted.{painted, AreRising, colour_after_changes}
 use Rattle.fax_mrcode.specs.declared.mode.Mode.{Mode}
 use Rattle.fax_mrcode.specs.declared.mode.Offset.{Offset}
 use Rattle.fax_mrcode.specs.declared.reading.Start.{Start}
@@ -14,6 +14,12 @@ use Rattle.fax_mrcode.specs.Modes.{IsAt}
 use Rattle.fax_mrcode.specs.Places.{run_start}
 use Rattle.fax_mrcode.specs.Lines.{Step, Steps}
 use Rattle.fax_mrcode.specs.Windows.{ShowsBehind, FirstAre}
+
+-- A step may start here: not behind the width, against changing places of a reference of this width.
+pub record StepsAt (changes : List ℕ) (width from : ℕ) : Type 0 where
+  pub within : from ≤ width
+  pub rising : AreRising 0 changes width
+  pub few : width ≤ 2432
 
 -- A changing place of the reference changes its colour from this one exactly where it has an index
 -- like this one. Those before the index lie no further right than a0 (`from` is a0 + 1).

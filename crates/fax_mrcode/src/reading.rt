@@ -10,7 +10,7 @@ ghost use Rattle.fax_mrcode.specs.declared.mode.Mode.{Mode};
 ghost use Rattle.fax_mrcode.specs.Modes.{mode_word};
 ghost use Rattle.fax_mrcode.specs.Lines.{SpellsLine};
 ghost use Rattle.fax_mrcode.specs.LineFaults.{FailsLine, Stops, StopsIn, StopsAtRun};
-ghost use Rattle.fax_mrcode.specs.Starts.{IsCursor, IsIndexOfB1, IsStart, IsStartIn, IsTaken, Completes, TakesStep, left_of_a0};
+ghost use Rattle.fax_mrcode.specs.Starts.{IsCursor, IsIndexOfB1, IsStart, IsStartIn, IsTaken, Completes, StepsAt, TakesStep, left_of_a0};
 
 mod ahead;
 mod near;
@@ -177,9 +177,7 @@ fn read_step_in(
     start: Start,
 ) -> Result<Start, LineFault>
     requires start { IsStartIn changes.now width line.old start }
-    requires within { start.from ≤ width }
-    requires rising { AreRising 0 changes.now width }
-    requires few { width ≤ 2432 }
+    requires at { StepsAt changes.now width start.from }
     ensures next { IfOk result (λ next. IsStartIn changes.now width line.new next) }
     ensures ok { IfOk result (λ next. (mode : Mode) × (text : List Bool) × Passes reader.old reader.new (mode_word mode ++ text)
         × TakesStep (painted Colour.White 0 changes.now width) width mode text (left_of_a0 line.old start) start (left_of_a0 line.new next) next) }
@@ -203,9 +201,7 @@ fn read_step(
     start: Start,
 ) -> Result<Start, LineFault>
     requires start { IsStart changes.now width line.old start }
-    requires within { start.from ≤ width }
-    requires rising { AreRising 0 changes.now width }
-    requires few { width ≤ 2432 }
+    requires at { StepsAt changes.now width start.from }
     ensures next { IfOk result (λ next. IsStart changes.now width line.new next) }
     ensures ok { IfOk result (λ next. (mode : Mode) × (text : List Bool) × Passes reader.old reader.new (mode_word mode ++ text)
         × TakesStep (painted Colour.White 0 changes.now width) width mode text line.old start line.new next) }
@@ -228,9 +224,7 @@ fn take_step(
     start: Start,
 ) -> Result<Taken, LineFault>
     requires cursor { IsCursor changes.now start.colour start.from start.index }
-    requires within { start.from ≤ width }
-    requires rising { AreRising 0 changes.now width }
-    requires few { width ≤ 2432 }
+    requires at { StepsAt changes.now width start.from }
     ensures ok { IfOk result (λ taken. (mode : Mode) × (text : List Bool) × Passes reader.old reader.new (mode_word mode ++ text)
         × IsTaken changes.now width mode text start taken) }
     ensures fault { IfErr result (λ fault. (line row : Elements) → Completes width line start.from start.colour row
@@ -252,9 +246,7 @@ fn take_step(
 #[inline]
 fn pass(changes: &[u16], width: u16, start: Start) -> Result<Taken, LineFault>
     requires b1 { IsIndexOfB1 changes.now start.colour start.from start.index }
-    requires within { start.from ≤ width }
-    requires rising { AreRising 0 changes.now width }
-    requires few { width ≤ 2432 }
+    requires at { StepsAt changes.now width start.from }
     ensures ok { IfOk result (λ taken. IsTaken changes.now width Mode.Pass [] start taken) }
     ensures fault { IfErr result (λ fault. (line row : Elements) (bits : List Bool) → Completes width line start.from start.colour row
         → StopsIn (painted Colour.White 0 changes.now width) row Mode.Pass start.from bits fault) }
@@ -277,9 +269,7 @@ fn pass(changes: &[u16], width: u16, start: Start) -> Result<Taken, LineFault>
 #[inline]
 fn vertical(changes: &[u16], width: u16, start: Start, offset: Offset) -> Result<Taken, LineFault>
     requires b1 { IsIndexOfB1 changes.now start.colour start.from start.index }
-    requires within { start.from ≤ width }
-    requires rising { AreRising 0 changes.now width }
-    requires few { width ≤ 2432 }
+    requires at { StepsAt changes.now width start.from }
     ensures ok { IfOk result (λ taken. IsTaken changes.now width (Mode.Vertical offset) [] start taken) }
     ensures fault { IfErr result (λ fault. (line row : Elements) (bits : List Bool) → Completes width line start.from start.colour row
         → StopsIn (painted Colour.White 0 changes.now width) row (Mode.Vertical offset) start.from bits fault) }
@@ -314,9 +304,7 @@ fn horizontal(
     width: u16,
     start: Start,
 ) -> Result<Taken, LineFault>
-    requires within { start.from ≤ width }
-    requires rising { AreRising 0 changes.now width }
-    requires few { width ≤ 2432 }
+    requires at { StepsAt changes.now width start.from }
     ensures ok { IfOk result (λ taken. (text : List Bool) × Passes reader.old reader.new text
         × IsTaken changes.now width Mode.Horizontal text start taken) }
     ensures fault { IfErr result (λ fault. (line row : Elements) → Completes width line start.from start.colour row

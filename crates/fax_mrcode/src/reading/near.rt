@@ -3,12 +3,12 @@ ghost use Rattle.std.specs.Prelude.{List, Bool, ◌+◌, ◌-◌, ◌<◌, ◌�
 ghost use Rattle.fax_bits.specs.Bits.{word_bits};
 ghost use Rattle.fax_bits.specs.Reading.{Place};
 ghost use Rattle.fax_runcodes.specs.Rows.{Elements, other, colour_before};
-ghost use Rattle.fax_runcodes.specs.Painted.{painted, AreRising, colour_after_changes};
+ghost use Rattle.fax_runcodes.specs.Painted.{painted, colour_after_changes};
 ghost use Rattle.fax_runcodes.specs.Spelling.{SpellsRun};
 ghost use Rattle.fax_runcodes.specs.declared.Colour.{Colour};
 ghost use Rattle.fax_mrcode.specs.declared.mode.Mode.{Mode};
 ghost use Rattle.fax_mrcode.specs.Modes.{mode_word};
-ghost use Rattle.fax_mrcode.specs.Starts.{IsBack, IsCursor, IsIndexOfB1, IsStartIn, Rests, TakesStep, TakesNear, StepsSoFar, left_of_a0, start_of};
+ghost use Rattle.fax_mrcode.specs.Starts.{IsBack, IsCursor, IsIndexOfB1, IsStartIn, Rests, StepsAt, TakesStep, TakesNear, StepsSoFar, left_of_a0, start_of};
 
 use super::Start;
 use super::ahead::{Ahead, ShortRuns, ones, past, short_runs};
@@ -49,9 +49,7 @@ pub(super) fn read_near_steps(
     start: Start,
 ) -> Start
     requires start { IsStartIn changes.now width line.old start }
-    requires within { start.from ≤ width }
-    requires rising { AreRising 0 changes.now width }
-    requires few { width ≤ 2432 }
+    requires at { StepsAt changes.now width start.from }
     ensures next { IsStartIn changes.now width line.new result }
     ensures right { start.from ≤ result.from }
     ensures so_far { (old : Place) → StepsSoFar (painted Colour.White 0 changes.now width) width old reader.old (left_of_a0 line.old start) start
@@ -85,9 +83,7 @@ pub(super) fn read_near_steps(
 #[inline]
 fn near_step(line: &mut RowBuilder, changes: &[u16], width: u16, near: Near) -> Option<Near>
     requires start { IsStartIn changes.now width line.old (start_of near) }
-    requires within { near.from ≤ width }
-    requires rising { AreRising 0 changes.now width }
-    requires few { width ≤ 2432 }
+    requires at { StepsAt changes.now width near.from }
     requires known { near.ahead.left ≤ 56 }
     ensures next { IfSome result (λ next. IsStartIn changes.now width line.new (start_of next)) }
     ensures taken { IfSome result (λ next. TakesNear (painted Colour.White 0 changes.now width) width line.old near line.new next) }
@@ -112,9 +108,7 @@ fn near_step(line: &mut RowBuilder, changes: &[u16], width: u16, near: Near) -> 
 #[inline]
 fn near_zeros(line: &mut RowBuilder, changes: &[u16], width: u16, near: Near) -> Near
     requires start { IsStartIn changes.now width line.old (start_of near) }
-    requires within { near.from ≤ width }
-    requires rising { AreRising 0 changes.now width }
-    requires few { width ≤ 2432 }
+    requires at { StepsAt changes.now width near.from }
     requires known { near.ahead.left ≤ 56 }
     requires some { 0 < near.ahead.left }
     requires zero { near.ahead.window / 2 ^ 63 ≡ 1 }
@@ -153,9 +147,7 @@ fn near_vertical(
     word: VerticalWord,
 ) -> Option<Near>
     requires start { IsStartIn changes.now width line.old (start_of near) }
-    requires within { near.from ≤ width }
-    requires rising { AreRising 0 changes.now width }
-    requires few { width ≤ 2432 }
+    requires at { StepsAt changes.now width near.from }
     requires known { near.ahead.left ≤ 56 }
     requires size { length (mode_word (Mode.Vertical word.offset)) ≡ word.bits }
     requires begins { (rest : List Bool) × (word_bits 64 near.ahead.window ≡ mode_word (Mode.Vertical word.offset) ++ rest) }
@@ -202,9 +194,7 @@ fn index_behind(b1: usize, back: u16) -> usize
 #[inline]
 fn near_pass(changes: &[u16], width: u16, near: Near) -> Option<Near>
     requires cursor { IsCursor changes.now (colour_after_changes near.index) near.from near.index }
-    requires within { near.from ≤ width }
-    requires rising { AreRising 0 changes.now width }
-    requires few { width ≤ 2432 }
+    requires at { StepsAt changes.now width near.from }
     requires known { near.ahead.left ≤ 56 }
     requires word { near.ahead.window / 2 ^ 60 ≡ 1 }
     ensures next { IfSome result (λ next. (line : Elements) → IsStartIn changes.now width line (start_of near) → IsStartIn changes.now width line (start_of next)) }
@@ -230,9 +220,7 @@ fn near_pass(changes: &[u16], width: u16, near: Near) -> Option<Near>
 #[inline]
 fn near_horizontal(line: &mut RowBuilder, changes: &[u16], width: u16, near: Near) -> Option<Near>
     requires start { IsStartIn changes.now width line.old (start_of near) }
-    requires within { near.from ≤ width }
-    requires rising { AreRising 0 changes.now width }
-    requires few { width ≤ 2432 }
+    requires at { StepsAt changes.now width near.from }
     requires known { near.ahead.left ≤ 56 }
     requires word { near.ahead.window / 2 ^ 61 ≡ 1 }
     ensures next { IfSome result (λ next. IsStartIn changes.now width line.new (start_of next)) }
@@ -260,9 +248,7 @@ fn turn_at_runs(
     runs: ShortRuns,
 ) -> Option<Near>
     requires start { IsStartIn changes.now width line.old (start_of near) }
-    requires within { near.from ≤ width }
-    requires rising { AreRising 0 changes.now width }
-    requires few { width ≤ 2432 }
+    requires at { StepsAt changes.now width near.from }
     requires first { runs.first < 64 }
     requires second { runs.second < 64 }
     ensures next { IfSome result (λ next. IsStartIn changes.now width line.new (start_of next)) }

@@ -18,7 +18,7 @@ returns-in_err-second-clause-fault c =
     let some : (0 < run) ⊎ (c.args.start.from ≡ 0) = elim first.4 [ inl more ↦ inl more | inr none ↦ inr (eqb-true c.args.start.from 0 none) ] in
     rw (p.1, p.2) (λ line row r. (
     let wide : length row ≡ c.args.width = r.same_width in
-    let colour : colour_before row c.args.start.from ≡ c.args.start.colour = r.here c.requires.within in
+    let colour : colour_before row c.args.start.from ≡ c.args.start.colour = r.here c.requires.at.within in
     let start : c.run_start-a0.result + run ≡ run_start c.args.start.from + run = omega (arith, c.run_start-a0.ensures) in
     inr (
       run,
@@ -52,6 +52,6 @@ returns-clause-ok c =
       first.0 ++ second.0,
       Passes-then c.args.reader.now c.read_stretch.new.reader c.read_stretch-2.new.reader first.0 second.0 passes second.2,
       rw c.run_start-a0.ensures
-          (IsTaken-horizontal c.args.changes.now c.args.width c.requires.rising c.args.start c.requires.within run run2 first.0 second.0
+          (IsTaken-horizontal c.args.changes.now c.args.width c.requires.at.rising c.args.start c.requires.at.within run run2 first.0 second.0
           first.1 (rw c.other.ensures at second.1) some (omega (arith, first.3, c.run_start-a0.ensures)) some2 (omega (arith, second.3, c.run_start-a0.ensures))),
     )

@@ -33,7 +33,7 @@ near_of c line (Some next) takes ahead =
       first = rw ahead (FirstAre-then near.window near.left rest.window rest.left end.left (mode_word Horizontal) (s ++ t) c.past-behind.ensures.behind behind.less word first);
       behind = rw ahead (ShowsBehind-then near.window near.left rest.window rest.left end.window end.left c.past-behind.ensures.behind behind);
       takes = TakesSteps-one (painted White 0 c.args.changes.now c.args.width) c.args.width Horizontal (s ++ t) (left_of_a0 c.args.line.now (start_of c.args.near)) (start_of c.args.near)
-          (left_of_a0 line (start_of next)) (start_of next) c.requires.within (takes s t p q);
+          (left_of_a0 line (start_of next)) (start_of next) c.requires.at.within (takes s t p q);
     }
 near_of c line None takes ahead = takes
 

@@ -14,7 +14,7 @@ use Rattle.fax_mrcode.proofs.reading.near.near_pass.Goals as goal
 pub returns-clause-next : goal.returns-clause-next
 returns-clause-next c = λ line is.
     rw c.next_change-b1.ensures.b1.cursor.parity
-    (pass_taken c.args.changes.now c.args.width c.requires.rising line (start_of c.args.near) is c.requires.within c.next_change-b1.result.index c.next_change-b1.ensures.b1
+    (pass_taken c.args.changes.now c.args.width c.requires.at.rising line (start_of c.args.near) is c.requires.at.within c.next_change-b1.result.index c.next_change-b1.ensures.b1
     c.place_at-b2.result c.place_at-b2.ensures c.if-b2-width.false).0
 
 pub returns-clause-taken : goal.returns-clause-taken
@@ -23,10 +23,10 @@ returns-clause-taken c = λ line is. record {
   first = rw (c.past.ensures.left, append-nil) (FirstAre-word c.args.near.ahead.window c.args.near.ahead.left 4 (mode_word Pass) (word_bits 60 c.args.near.ahead.window) refl (omega arith) (pass_begins c.args.near.ahead.window c.requires.word));
   behind = c.past.ensures.behind;
   takes = rw c.next_change-b1.ensures.b1.cursor.parity
-      (TakesSteps-one (painted White 0 c.args.changes.now c.args.width) c.args.width Pass [] (left_of_a0 line (start_of c.args.near)) (start_of c.args.near) _ _ c.requires.within
-      (pass_taken c.args.changes.now c.args.width c.requires.rising line (start_of c.args.near) is c.requires.within c.next_change-b1.result.index c.next_change-b1.ensures.b1
+      (TakesSteps-one (painted White 0 c.args.changes.now c.args.width) c.args.width Pass [] (left_of_a0 line (start_of c.args.near)) (start_of c.args.near) _ _ c.requires.at.within
+      (pass_taken c.args.changes.now c.args.width c.requires.at.rising line (start_of c.args.near) is c.requires.at.within c.next_change-b1.result.index c.next_change-b1.ensures.b1
       c.place_at-b2.result c.place_at-b2.ensures c.if-b2-width.false).1);
 }
 
 pub overflow_add-result : goal.overflow_add-result
-overflow_add-result c = omega (arith, place_le c.args.changes.now c.args.width c.requires.rising (c.next_change-b1.result.index + 1), c.place_at-b2.ensures, c.requires.few)
+overflow_add-result c = omega (arith, place_le c.args.changes.now c.args.width c.requires.at.rising (c.next_change-b1.result.index + 1), c.place_at-b2.ensures, c.requires.at.few)

@@ -14,11 +14,11 @@ use Rattle.fax_mrcode.proofs.reading.near.near_vertical.Goals.{After-past}
 
 pub overflow_add-past_a1 : goal.overflow_add-past_a1
 overflow_add-past_a1 c =
-    omega (arith, place_le c.args.changes.now c.args.width c.requires.rising c.next_change-b1.result.index, c.next_change-b1.ensures.place, c.right_of_left3.ensures.few, c.requires.few)
+    omega (arith, place_le c.args.changes.now c.args.width c.requires.at.rising c.next_change-b1.result.index, c.next_change-b1.ensures.place, c.right_of_left3.ensures.few, c.requires.at.few)
 
 pub turn_below-requires-clause-same : goal.turn_below-requires-clause-same
 turn_below-requires-clause-same c =
-    may_turn_at c.args.changes.now c.args.width c.requires.rising c.args.line.now (start_of c.args.near) c.requires.start c.requires.within
+    may_turn_at c.args.changes.now c.args.width c.requires.at.rising c.args.line.now (start_of c.args.near) c.requires.start c.requires.at.within
     (c.next_change-b1.result.place + c.right_of_left3.result - 3) (omega arith) (omega arith)
 
 -- a1 lies at the offset from b1
@@ -30,7 +30,7 @@ next : (c : After-past) → (colour_after_changes c.index_behind.result ≡ othe
     × (c.next_change-b1.result.place + c.right_of_left3.result - 3 + 1 ≤ c.args.width
     → IsCursor c.args.changes.now (other (colour_after_changes c.args.near.index)) (c.next_change-b1.result.place + c.right_of_left3.result - 3 + 1) c.index_behind.result)
 next c =
-    next_index c.args.changes.now c.args.width c.requires.rising (colour_after_changes c.args.near.index) c.args.near.from c.next_change-b1.result.index c.next_change-b1.ensures.b1 c.args.word.offset c.args.word.back c.requires.back
+    next_index c.args.changes.now c.args.width c.requires.at.rising (colour_after_changes c.args.near.index) c.args.near.from c.next_change-b1.result.index c.next_change-b1.ensures.b1 c.args.word.offset c.args.word.back c.requires.back
     (c.next_change-b1.result.place + c.right_of_left3.result - 3) (is_at c) (omega arith) c.index_behind.result
     c.index_behind.ensures
 
@@ -38,7 +38,7 @@ pub returns-clause-next : goal.returns-clause-next
 returns-clause-next c =
     let at = (goal.at.returns-clause-next c).After-past in
     rw (next at).0
-    (vertical_taken c.args.changes.now c.args.width c.requires.rising c.args.line.now (start_of c.args.near) c.requires.start c.requires.within c.next_change-b1.result.index c.next_change-b1.ensures.b1 c.args.word.offset
+    (vertical_taken c.args.changes.now c.args.width c.requires.at.rising c.args.line.now (start_of c.args.near) c.requires.start c.requires.at.within c.next_change-b1.result.index c.next_change-b1.ensures.b1 c.args.word.offset
     (c.next_change-b1.result.place + c.right_of_left3.result - 3) c.index_behind.result (is_at at) (omega arith) (omega arith) (next at).1 c.turn_below.new.line c.turn_below.ensures.left c.turn_below.ensures.right).0
 
 pub returns-clause-taken : goal.returns-clause-taken
@@ -53,7 +53,7 @@ returns-clause-taken c =
       first = rw (c.past.ensures.left, append-nil) (FirstAre-word c.args.near.ahead.window c.args.near.ahead.left n word begins.0 size (omega (arith, c.if-bits-near.false)) begins.1);
       behind = c.past.ensures.behind;
       takes = rw (next at).0 (TakesSteps-one (painted White 0 c.args.changes.now c.args.width) c.args.width (Vertical c.args.word.offset) []
-          (left_of_a0 c.args.line.now (start_of c.args.near)) (start_of c.args.near) _ _ c.requires.within
-          (vertical_taken c.args.changes.now c.args.width c.requires.rising c.args.line.now (start_of c.args.near) c.requires.start c.requires.within c.next_change-b1.result.index c.next_change-b1.ensures.b1 c.args.word.offset
+          (left_of_a0 c.args.line.now (start_of c.args.near)) (start_of c.args.near) _ _ c.requires.at.within
+          (vertical_taken c.args.changes.now c.args.width c.requires.at.rising c.args.line.now (start_of c.args.near) c.requires.start c.requires.at.within c.next_change-b1.result.index c.next_change-b1.ensures.b1 c.args.word.offset
           (c.next_change-b1.result.place + c.right_of_left3.result - 3) c.index_behind.result (is_at at) (omega arith) (omega arith) (next at).1 c.turn_below.new.line c.turn_below.ensures.left c.turn_below.ensures.right).1);
     }

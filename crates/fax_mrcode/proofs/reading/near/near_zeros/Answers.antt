@@ -18,22 +18,22 @@ use Rattle.fax_mrcode.proofs.reading.near.near_zeros.Goals.{After-next_change-b1
 
 pub turn_at_all-requires-clause-rising : goal.turn_at_all-requires-clause-rising
 turn_at_all-requires-clause-rising c =
-    places_rise c.args.changes.now c.args.width c.requires.rising c.args.line.now (start_of c.args.near) c.requires.start c.requires.within c.next_change-b1.result.index c.next_change-b1.ensures.b1
+    places_rise c.args.changes.now c.args.width c.requires.at.rising c.args.line.now (start_of c.args.near) c.requires.start c.requires.at.within c.next_change-b1.result.index c.next_change-b1.ensures.b1
     c.min-steps.result c.if-steps-gt0.true (omega (arith, c.min-steps.ensures, c.saturating_sub.ensures)) c.if-near-gt0.true
 
 pub turn_at_all-requires-clause-same : goal.turn_at_all-requires-clause-same
 turn_at_all-requires-clause-same c =
-    places_may_turn c.args.changes.now c.args.width c.requires.rising c.args.line.now (start_of c.args.near) c.requires.start c.requires.within c.next_change-b1.result.index c.next_change-b1.ensures.b1
+    places_may_turn c.args.changes.now c.args.width c.requires.at.rising c.args.line.now (start_of c.args.near) c.requires.start c.requires.at.within c.next_change-b1.result.index c.next_change-b1.ensures.b1
     c.min-steps.result c.if-steps-gt0.true (omega (arith, c.min-steps.ensures, c.saturating_sub.ensures)) c.if-near-gt0.true
 
 pub overflow_add-result : goal.overflow_add-result
 overflow_add-result c =
-    let le = last_le c.args.changes.now c.args.width c.requires.rising (c.next_change-b1.result.index + c.min-steps.result - 1) (omega (arith, c.if-steps-gt0.true, c.min-steps.ensures, c.saturating_sub.ensures)) in
-    omega (arith, le, c.requires.few)
+    let le = last_le c.args.changes.now c.args.width c.requires.at.rising (c.next_change-b1.result.index + c.min-steps.result - 1) (omega (arith, c.if-steps-gt0.true, c.min-steps.ensures, c.saturating_sub.ensures)) in
+    omega (arith, le, c.requires.at.few)
 
 pub returns-then-steps-gt0-clause-next : goal.returns-then-steps-gt0-clause-next
 returns-then-steps-gt0-clause-next c =
-    (zeros_in_line c.args.changes.now c.args.width c.requires.rising c.args.line.now (start_of c.args.near) c.requires.start c.requires.within c.next_change-b1.result.index c.next_change-b1.ensures.b1
+    (zeros_in_line c.args.changes.now c.args.width c.requires.at.rising c.args.line.now (start_of c.args.near) c.requires.start c.requires.at.within c.next_change-b1.result.index c.next_change-b1.ensures.b1
     c.min-steps.result c.if-steps-gt0.true (omega (arith, c.min-steps.ensures, c.saturating_sub.ensures)) c.if-near-gt0.true c.turn_at_all.new.self c.turn_at_all.ensures).0
 
 pub returns-then-steps-gt0-clause-taken : goal.returns-then-steps-gt0-clause-taken
@@ -44,16 +44,16 @@ returns-then-steps-gt0-clause-taken c =
       text = replicate steps true;
       first = rw c.past.ensures.left (FirstAre-word c.args.near.ahead.window c.args.near.ahead.left steps (replicate steps true) begun.0 (length-replicate steps true) (omega (arith, c.min-steps.ensures, c.ones.ensures.few)) begun.1);
       behind = c.past.ensures.behind;
-      takes = (zeros_in_line c.args.changes.now c.args.width c.requires.rising c.args.line.now (start_of c.args.near) c.requires.start c.requires.within c.next_change-b1.result.index c.next_change-b1.ensures.b1
+      takes = (zeros_in_line c.args.changes.now c.args.width c.requires.at.rising c.args.line.now (start_of c.args.near) c.requires.start c.requires.at.within c.next_change-b1.result.index c.next_change-b1.ensures.b1
           steps c.if-steps-gt0.true (omega (arith, c.min-steps.ensures, c.saturating_sub.ensures)) c.if-near-gt0.true c.turn_at_all.new.self c.turn_at_all.ensures).1;
     }
 
 -- ---- one step
 high : (c : After-next_change-b1) → c.next_change-b1.result.place ≤ c.args.width
-high c = rw c.next_change-b1.ensures.place (place_le c.args.changes.now c.args.width c.requires.rising c.next_change-b1.result.index)
+high c = rw c.next_change-b1.ensures.place (place_le c.args.changes.now c.args.width c.requires.at.rising c.next_change-b1.result.index)
 
 right : (c : After-next_change-b1) → c.args.near.from ≤ c.next_change-b1.result.place
-right c = rw c.next_change-b1.ensures.place (b1_right c.args.changes.now c.args.width c.requires.rising (colour_after_changes c.args.near.index) c.args.near.from c.next_change-b1.result.index c.requires.within c.next_change-b1.ensures.b1)
+right c = rw c.next_change-b1.ensures.place (b1_right c.args.changes.now c.args.width c.requires.at.rising (colour_after_changes c.args.near.index) c.args.near.from c.next_change-b1.result.index c.requires.at.within c.next_change-b1.ensures.b1)
 
 turned : (c : After-next_change-b1) → colour_after_changes (c.next_change-b1.result.index + 1) ≡ other (colour_after_changes c.args.near.index)
 turned c = colour_after-more c.next_change-b1.result.index ∙ ap other c.next_change-b1.ensures.b1.cursor.parity
@@ -64,15 +64,15 @@ turn_below-requires-clause-within c = high (goal.at.turn_below-requires-clause-w
 pub turn_below-requires-clause-same : goal.turn_below-requires-clause-same
 turn_below-requires-clause-same c =
     let at = (goal.at.turn_below-requires-clause-same c).After-next_change-b1 in
-    may_turn_at c.args.changes.now c.args.width c.requires.rising c.args.line.now (start_of c.args.near) c.requires.start c.requires.within c.next_change-b1.result.place (right at) (high at)
+    may_turn_at c.args.changes.now c.args.width c.requires.at.rising c.args.line.now (start_of c.args.near) c.requires.start c.requires.at.within c.next_change-b1.result.place (right at) (high at)
 
 pub returns-clause-next : goal.returns-clause-next
 returns-clause-next c =
     let at = (goal.at.returns-clause-next c).After-next_change-b1 in
     rw (turned at)
-    (vertical_taken c.args.changes.now c.args.width c.requires.rising c.args.line.now (start_of c.args.near) c.requires.start c.requires.within c.next_change-b1.result.index c.next_change-b1.ensures.b1 Zero
+    (vertical_taken c.args.changes.now c.args.width c.requires.at.rising c.args.line.now (start_of c.args.near) c.requires.start c.requires.at.within c.next_change-b1.result.index c.next_change-b1.ensures.b1 Zero
     c.next_change-b1.result.place (c.next_change-b1.result.index + 1) c.next_change-b1.ensures.place (right at) (high at)
-    (λ le. cursor_on c.args.changes.now c.args.width c.requires.rising (colour_after_changes c.args.near.index) c.args.near.from c.next_change-b1.result.index c.next_change-b1.result.place c.next_change-b1.ensures.b1 (right at) le (inl (omega (arith, c.next_change-b1.ensures.place))))
+    (λ le. cursor_on c.args.changes.now c.args.width c.requires.at.rising (colour_after_changes c.args.near.index) c.args.near.from c.next_change-b1.result.index c.next_change-b1.result.place c.next_change-b1.ensures.b1 (right at) le (inl (omega (arith, c.next_change-b1.ensures.place))))
     c.turn_below.new.line c.turn_below.ensures.left c.turn_below.ensures.right).0
 
 pub returns-clause-taken : goal.returns-clause-taken
@@ -82,9 +82,9 @@ returns-clause-taken c =
       text = mode_word (Vertical Zero) ++ [];
       first = rw c.past-2.ensures.left (FirstAre-word c.args.near.ahead.window c.args.near.ahead.left 1 (mode_word (Vertical Zero)) (word_bits 63 c.args.near.ahead.window) refl c.requires.some (zero_begins c.args.near.ahead.window c.requires.zero));
       behind = c.past-2.ensures.behind;
-      takes = rw (turned at) (TakesSteps-one (painted White 0 c.args.changes.now c.args.width) c.args.width (Vertical Zero) [] (left_of_a0 c.args.line.now (start_of c.args.near)) (start_of c.args.near) _ _ c.requires.within
-          (vertical_taken c.args.changes.now c.args.width c.requires.rising c.args.line.now (start_of c.args.near) c.requires.start c.requires.within c.next_change-b1.result.index c.next_change-b1.ensures.b1 Zero
+      takes = rw (turned at) (TakesSteps-one (painted White 0 c.args.changes.now c.args.width) c.args.width (Vertical Zero) [] (left_of_a0 c.args.line.now (start_of c.args.near)) (start_of c.args.near) _ _ c.requires.at.within
+          (vertical_taken c.args.changes.now c.args.width c.requires.at.rising c.args.line.now (start_of c.args.near) c.requires.start c.requires.at.within c.next_change-b1.result.index c.next_change-b1.ensures.b1 Zero
           c.next_change-b1.result.place (c.next_change-b1.result.index + 1) c.next_change-b1.ensures.place (right at) (high at)
-          (λ le. cursor_on c.args.changes.now c.args.width c.requires.rising (colour_after_changes c.args.near.index) c.args.near.from c.next_change-b1.result.index c.next_change-b1.result.place c.next_change-b1.ensures.b1 (right at) le (inl (omega (arith, c.next_change-b1.ensures.place))))
+          (λ le. cursor_on c.args.changes.now c.args.width c.requires.at.rising (colour_after_changes c.args.near.index) c.args.near.from c.next_change-b1.result.index c.next_change-b1.result.place c.next_change-b1.ensures.b1 (right at) le (inl (omega (arith, c.next_change-b1.ensures.place))))
           c.turn_below.new.line c.turn_below.ensures.left c.turn_below.ensures.right).1);
     }

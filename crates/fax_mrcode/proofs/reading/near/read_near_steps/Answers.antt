@@ -10,7 +10,7 @@ use Rattle.fax_mrcode.proofs.reading.near.read_near_steps.Goals.{After-skip, els
 
 pub loop-near-init : goal.loop-near-init
 loop-near-init c =
-    rw (c.requires.start.is_start.cursor c.requires.within).parity (record {
+    rw (c.requires.start.is_start.cursor c.requires.at.within).parity (record {
       few = omega arith;
       shows = Shows-first c.window.result c.known-known.result c.args.reader.now.left c.known-known.ensures c.window.ensures.bits;
       is_start = c.requires.start;

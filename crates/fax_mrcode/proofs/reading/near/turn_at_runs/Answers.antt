@@ -20,14 +20,14 @@ pub turn_below-requires-clause-same : goal.turn_below-requires-clause-same
 turn_below-requires-clause-same c =
     let at = (goal.at.turn_below-requires-clause-same c).After-turn_below-arg-1 in
     rw c.saturating_sub.ensures
-    (one_may_turn c.args.changes.now c.args.width c.requires.rising c.args.line.now (start_of c.args.near) c.requires.start c.requires.within c.args.runs.first c.args.runs.second
+    (one_may_turn c.args.changes.now c.args.width c.requires.at.rising c.args.line.now (start_of c.args.near) c.requires.start c.requires.at.within c.args.runs.first c.args.runs.second
     (first_some at) (second_some at) (omega (arith, c.saturating_sub.ensures)))
 
 pub turn_below-requires-2-clause-same : goal.turn_below-requires-2-clause-same
 turn_below-requires-2-clause-same c =
     let at = (goal.at.turn_below-requires-2-clause-same c).After-turn_below-arg-1 in
     rw c.saturating_sub.ensures
-    (two_may_turn c.args.changes.now c.args.width c.requires.rising c.args.line.now (start_of c.args.near) c.requires.start c.requires.within c.args.runs.first c.args.runs.second
+    (two_may_turn c.args.changes.now c.args.width c.requires.at.rising c.args.line.now (start_of c.args.near) c.requires.start c.requires.at.within c.args.runs.first c.args.runs.second
     (first_some at) (second_some at) (omega (arith, c.saturating_sub.ensures))
     c.turn_below.new.line (rw c.saturating_sub.ensures at c.turn_below.ensures.left) (rw c.saturating_sub.ensures at c.turn_below.ensures.right))
 
@@ -35,7 +35,7 @@ pub returns-clause-next : goal.returns-clause-next
 returns-clause-next c =
     let at = (goal.at.returns-clause-next c).After-turn_below-arg-1 in
     rw c.saturating_sub.ensures
-    (horizontal_next c.args.changes.now c.args.width c.requires.rising c.args.line.now (start_of c.args.near) c.requires.start c.requires.within c.args.runs.first c.args.runs.second
+    (horizontal_next c.args.changes.now c.args.width c.requires.at.rising c.args.line.now (start_of c.args.near) c.requires.start c.requires.at.within c.args.runs.first c.args.runs.second
     (first_some at) (second_some at) (omega (arith, c.saturating_sub.ensures))
     c.turn_below.new.line (rw c.saturating_sub.ensures at c.turn_below.ensures.left) (rw c.saturating_sub.ensures at c.turn_below.ensures.right)
     c.turn_below-2.new.line (rw c.saturating_sub.ensures at c.turn_below-2.ensures.left) (rw c.saturating_sub.ensures at c.turn_below-2.ensures.right))
@@ -44,7 +44,7 @@ pub returns-clause-taken : goal.returns-clause-taken
 returns-clause-taken c =
     let at = (goal.at.returns-clause-taken c).After-turn_below-arg-1 in
     rw c.saturating_sub.ensures
-    (horizontal_taken c.args.changes.now c.args.width c.requires.rising c.args.line.now (start_of c.args.near) c.requires.start c.requires.within c.args.runs.first c.args.runs.second
+    (horizontal_taken c.args.changes.now c.args.width c.requires.at.rising c.args.line.now (start_of c.args.near) c.requires.start c.requires.at.within c.args.runs.first c.args.runs.second
     (first_some at) (second_some at) (omega (arith, c.saturating_sub.ensures))
     c.turn_below.new.line (rw c.saturating_sub.ensures at c.turn_below.ensures.left) (rw c.saturating_sub.ensures at c.turn_below.ensures.right)
     c.turn_below-2.new.line (rw c.saturating_sub.ensures at c.turn_below-2.ensures.left) (rw c.saturating_sub.ensures at c.turn_below-2.ensures.right))
