@@ -3,6 +3,7 @@
 use Rattle.std.proofs.Common.{◌≡◌, ℕ, ◌+◌, ◌-◌, ◌<◌, ◌≤◌, Bool, List, [], ◌∷◌, ◌++◌, length, refl, sym, ◌∙◌, ap, subst, arith, append_assoc, inl, inr, ◌⊎◌, Result, Ok, Err, IsOk, OnOk, IfErr}
 use Rattle.std.proofs.lemmas.List.{append_cancel_left}
 use Rattle.std.proofs.lemmas.Bool.{cases_eq, cases_lt}
+use Rattle.fax_bits.specs.Reading.{Place, Passes}
 use Rattle.fax_runcodes.specs.declared.Colour.{Colour}
 use Rattle.fax_runcodes.specs.declared.fault.RunFault.{RunFault}
 use Rattle.fax_runcodes.specs.Rows.{Elements, IsWidth, other, colour_at, colour_before}
@@ -275,6 +276,20 @@ pub fails_from : {T : Type 0} (reference : Elements) (bits : List Bool) (result 
     → (fault : LineFault) → FailsLine reference bits fault → result ≡ Err fault
 fails_from reference bits (Ok t) line w o e fault f = absurd (SpellsLine-not_fails reference bits o.0 o.1 line fault w o.2 o.3 f)
 fails_from reference bits (Err other) line w o e fault f = ap (λ (k : LineFault). Err k) (FailsLine-one reference bits other fault w e f)
+
+-- what passes a line to its end, or to the step that cannot be taken
+pub passes_from : {T : Type 0} (reference : Elements) (old new : Place) (result : Result T LineFault) → length reference ≤ 2432
+    → IfErr result (λ fault. (fails : FailsLine reference old.left fault) × Passes old new fails.text)
+    → (row : Elements) (text rest : List Bool) → SpellsLine reference text row → old.left ≡ text ++ rest → IsOk result
+passes_from reference old new (Ok t) w e row text rest l b = refl
+passes_from reference old new (Err fault) w e row text rest l b = absurd (SpellsLine-not_fails reference old.left text rest row fault w l b e.0)
+
+pub stops_from : {T : Type 0} (reference : Elements) (old new : Place) (result : Result T LineFault) → length reference ≤ 2432
+    → OnOk result ((row : Elements) × (text : List Bool) × SpellsLine reference text row × Passes old new text)
+    → IfErr result (λ fault. (fails : FailsLine reference old.left fault) × Passes old new fails.text)
+    → (fault : LineFault) → FailsLine reference old.left fault → result ≡ Err fault
+stops_from reference old new (Ok t) w o e fault f = absurd (SpellsLine-not_fails reference old.left o.1 new.left o.0 fault w o.2 o.3.bits f)
+stops_from reference old new (Err other) w o e fault f = ap (λ (k : LineFault). Err k) (FailsLine-one reference old.left other fault w e.0 f)
 
 pub IsWidth-few : (width : ℕ) → IsWidth width → width ≤ 2432
 IsWidth-few width (inl a) = omega arith

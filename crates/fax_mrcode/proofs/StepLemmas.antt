@@ -435,22 +435,30 @@ Completes-on ps width line start is_start inside =
       here = λ le. before_stretch row start.colour start.from width is_start.first reach s;
     }
 
+-- a fault behind the steps so far, and the place that they end at
+pub FailsLine-at : (reference : Elements) (ps : List ℕ) (width : ℕ) (old mid : Place) (line : Elements) (start : Start) (fault : LineFault) → length reference ≡ width → StepsSoFar reference width old mid line start
+    → IsStart ps width line start → start.from ≤ width → ((row : Elements) → Completes width line start.from start.colour row → Stops reference row start.from mid.left fault)
+    → (fails : FailsLine reference old.left fault) × Passes old mid fails.text
+FailsLine-at reference ps width old mid line start fault wide so_far is_start inside stops =
+    let row : Elements = line ++ replicate (width - length line) start.colour in
+    let c : Completes width line start.from start.colour row = Completes-on ps width line start is_start inside in
+    let size : length row ≡ width = c.same_width in (
+      record {
+        row = row;
+        modes = so_far.modes;
+        from = start.from;
+        text = so_far.text;
+        rest = mid.left;
+        same_width = size ∙ sym wide;
+        steps = so_far.steps row c;
+        bits_are = so_far.passes.bits;
+        within = omega arith;
+        stops = stops row c;
+      },
+      so_far.passes,
+    )
+
 -- a fault behind the steps so far
 pub FailsLine-from : (reference : Elements) (ps : List ℕ) (width : ℕ) (old mid : Place) (line : Elements) (start : Start) (fault : LineFault) → length reference ≡ width → StepsSoFar reference width old mid line start
     → IsStart ps width line start → start.from ≤ width → ((row : Elements) → Completes width line start.from start.colour row → Stops reference row start.from mid.left fault) → FailsLine reference old.left fault
-FailsLine-from reference ps width old mid line start fault wide so_far is_start inside stops =
-    let row : Elements = line ++ replicate (width - length line) start.colour in
-    let c : Completes width line start.from start.colour row = Completes-on ps width line start is_start inside in
-    let size : length row ≡ width = c.same_width in
-    record {
-      row = row;
-      modes = so_far.modes;
-      from = start.from;
-      text = so_far.text;
-      rest = mid.left;
-      same_width = size ∙ sym wide;
-      steps = so_far.steps row c;
-      bits_are = so_far.passes.bits;
-      within = omega arith;
-      stops = stops row c;
-    }
+FailsLine-from reference ps width old mid line start fault wide so_far is_start inside stops = (FailsLine-at reference ps width old mid line start fault wide so_far is_start inside stops).0

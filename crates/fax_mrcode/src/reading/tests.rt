@@ -36,27 +36,34 @@ const LINES: [(&[u16], &[u8], u128, &[u16]); 10] = [
     ),
 ];
 
-/// The runs of the reference, the octets, and why they are no line.
-const FAULTS: [(&[u16], &[u8], LineFault); 10] = [
+/// The runs of the reference, the octets, how many bits the steps have that can be taken, and why the
+/// next one cannot.
+const FAULTS: [(&[u16], &[u8], u128, LineFault); 13] = [
     // pass with b2 at the width
-    (&[1728], &[0x18], LineFault::BadPlace),
+    (&[1728], &[0x18], 0, LineFault::BadPlace),
     // horizontal with white 1728 + 1
-    (&[1728], &[0x29, 0xb1, 0xc0], LineFault::PastWidth),
+    (&[1728], &[0x29, 0xb1, 0xc0], 0, LineFault::PastWidth),
     // horizontal with white 1 and black 0
-    (&[1728], &[0x23, 0x86, 0xe0], LineFault::BadPlace),
+    (&[1728], &[0x23, 0x86, 0xe0], 0, LineFault::BadPlace),
     // horizontal, and then a part of a word
-    (&[1728], &[0x20], LineFault::Run(RunFault::End)),
+    (&[1728], &[0x20], 0, LineFault::Run(RunFault::End)),
     // horizontal, and then no word
-    (&[1728], &[0x20, 0x00], LineFault::Run(RunFault::NoWord)),
+    (&[1728], &[0x20, 0x00], 0, LineFault::Run(RunFault::NoWord)),
     // the front of an extension
-    (&[1728], &[0x02], LineFault::NoMode),
-    (&[1728], &[], LineFault::NoMode),
+    (&[1728], &[0x02], 0, LineFault::NoMode),
+    (&[1728], &[], 0, LineFault::NoMode),
     // VR1 from the width
-    (&[1728], &[0x60], LineFault::BadPlace),
+    (&[1728], &[0x60], 0, LineFault::BadPlace),
     // V0, VL3
-    (&[4, 1, 1723], &[0x82], LineFault::BadPlace),
+    (&[4, 1, 1723], &[0x82], 1, LineFault::BadPlace),
     // V0, VL1
-    (&[4, 1, 1723], &[0xa0], LineFault::BadPlace),
+    (&[4, 1, 1723], &[0xa0], 1, LineFault::BadPlace),
+    // V0, horizontal with black 3 and then a part of a word
+    (&[4, 1, 1723], &[0x98], 1, LineFault::Run(RunFault::End)),
+    // pass, and then no word of a mode
+    (&[4, 1, 1723], &[0x10, 0x00], 4, LineFault::NoMode),
+    // horizontal with white 0 and black 3, VR1 from the width
+    (&[1728], &[0x26, 0xb3], 13, LineFault::BadPlace),
 ];
 
 /// Reads a line against the row of such runs into a builder that is cleared before.
@@ -109,7 +116,7 @@ fn reads_line_after_line_into_one_builder(rt: HostRuntime) -> Result<(), Fail> {
 #[test]
 fn says_why_it_reads_no_line(rt: HostRuntime) -> Result<(), Fail> {
     let mut line = RowBuilder::new(rt.alloc())?;
-    for (runs, octets, fault) in FAULTS {
+    for (runs, octets, _, fault) in FAULTS {
         let mut reader = BitReader::new(octets);
         let result = read_into(&mut line, &mut reader, rt.alloc(), runs)?;
         assert_eq!(rt; result, Err(fault), "at {octets:?}");
@@ -149,12 +156,12 @@ fn passes_lines_without_their_rows(rt: HostRuntime) -> Result<(), Fail> {
 
 #[test]
 fn says_why_it_passes_no_line(rt: HostRuntime) -> Result<(), Fail> {
-    for (runs, octets, fault) in FAULTS {
+    for (runs, octets, bits, fault) in FAULTS {
         let reference = Row::from_runs(rt.alloc(), runs)?;
         let mut reader = BitReader::new(octets);
         let result = pass_line_2d(&mut reader, &reference.lend());
         assert_eq!(rt; result, Err(fault), "at {octets:?}");
-        assert_eq!(rt; reader.place(), 0, "at {octets:?}");
+        assert_eq!(rt; reader.place(), bits, "at {octets:?}");
     }
     Ok(())
 }
