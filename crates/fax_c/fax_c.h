@@ -30,9 +30,10 @@ extern "C" {
 
 /* Of several refusals that hold, the one that comes first is told: that the width is none; that the least
    bits are too many; where a page is read, that there is no EOL; where one is written, that the run lengths are
-   those of no page (FAX_EMPTY, FAX_TOO_MANY_ROWS, FAX_NO_RUNS). These are told before any memory is taken. The
-   other faults of a page that is read come while its rows are taken into memory, so FAX_NO_MEMORY may be told
-   in their place. Last comes FAX_NO_ROOM. */
+   those of no page (FAX_EMPTY, FAX_TOO_MANY_ROWS, FAX_NO_RUNS). These are told in place of FAX_NO_MEMORY, also
+   where memory is refused; all but FAX_TOO_MANY_ROWS and FAX_NO_RUNS before any is taken. The other faults of a
+   page that is read come while its rows are taken into memory, so FAX_NO_MEMORY may be told in their place.
+   Last comes FAX_NO_ROOM. */
 enum {
     FAX_DONE = 0,
     /* no EOL in the octets */

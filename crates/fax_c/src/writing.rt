@@ -8,7 +8,6 @@ ghost use Rattle.fax_c.specs.Calls.{WritesRuns, RefusesRuns, AreRunsOf, AreRunsO
 use crate::page::{coding_of, width_of};
 use crate::reading::put;
 use crate::{Filled, Refusal};
-use fax_bits::NoMemory;
 use fax_pagestore::{Format, PackedRows, Page, PageFault, RowStore, write_page};
 use fax_runcodes::{RowBuilder, Width};
 use std::alloc::Global;
@@ -41,8 +40,7 @@ pub fn write_runs(
     if least_bits > MOST_LEAST_BITS {
         return Err(Refusal::LeastBits);
     }
-    check_runs(runs, width)?;
-    let rows: PackedRows = rows_of_runs(alloc, runs, width)?;
+    let rows: PackedRows = checked_rows(alloc, runs, width)?;
     let count = rows.len();
     let page = Page::new(Format { width, fine }, rows);
     let text = write_page(alloc, &page, coding_of(two_dimensional), least_bits)?;
@@ -53,6 +51,47 @@ pub fn write_runs(
         rows: count,
         items: filled,
     })
+}
+
+/// The rows of the page whose runs these are. What is wrong with runs is told also where memory is refused.
+fn checked_rows<S: RowStore>(alloc: Global, runs: &[u16], width: Width) -> Result<S, Refusal>
+    ensures rows { IfOk result (λ rows. AreRows (elements_of width) (S.rows rows)) }
+    ensures runs { IfOk result (λ rows. AreRunsOf runs.now (S.rows rows)) }
+    ensures refusal { IfErr result (λ refusal. RefusesRuns (elements_of width) runs.now refusal) }
+    ensures no_runs { runs.now ≡ [] → result ≡ Err (Refusal.Page PageFault.Empty) }
+{
+    let rows = rows_of_runs(alloc, runs, width);
+    if let Err(Refusal::Page(PageFault::NoMemory)) = rows {
+        check_runs(runs, width)?;
+    }
+    rows
+}
+
+/// The rows of the page whose runs these are. Where memory is refused, the runs behind are not looked at.
+fn rows_of_runs<S: RowStore>(alloc: Global, runs: &[u16], width: Width) -> Result<S, Refusal>
+    ensures rows { IfOk result (λ rows. AreRows (elements_of width) (S.rows rows)) }
+    ensures runs { IfOk result (λ rows. AreRunsOf runs.now (S.rows rows)) }
+    ensures refusal { IfErr result (λ refusal. refusal ≢ Refusal.Page PageFault.NoMemory → RefusesRuns (elements_of width) runs.now refusal) }
+    ensures no_runs { runs.now ≡ [] → result ≡ Err (Refusal.Page PageFault.Empty) }
+{
+    if runs.is_empty() {
+        return Err(Refusal::Page(PageFault::Empty));
+    }
+    let mut rows = S::empty(alloc);
+    let mut builder = RowBuilder::new(alloc)?;
+    let mut rest = runs;
+    while !rest.is_empty() {
+        let number = rows.len();
+        if number >= MOST_ROWS {
+            return Err(Refusal::Page(PageFault::TooManyRows));
+        }
+        let Some(count) = builder.paint_row(rest, width) else {
+            return Err(Refusal::Runs(number));
+        };
+        rows.push_lent(&builder.lend())?;
+        rest = &rest[count..];
+    }
+    Ok(rows)
 }
 
 /// Tells what is wrong with runs of no page. It takes no memory.
@@ -99,23 +138,4 @@ fn row_in_front(runs: &[u16], width: Width) -> Option<usize>
         }
     }
     None
-}
-
-/// The rows of the page whose runs these are.
-fn rows_of_runs<S: RowStore>(alloc: Global, runs: &[u16], width: Width) -> Result<S, NoMemory>
-    requires { AreRunsOfPage (elements_of width) runs.now }
-    ensures rows { IfOk result (λ rows. AreRows (elements_of width) (S.rows rows)) }
-    ensures runs { IfOk result (λ rows. AreRunsOf runs.now (S.rows rows)) }
-{
-    let mut rows = S::empty(alloc);
-    let mut builder = RowBuilder::new(alloc)?;
-    let mut rest = runs;
-    while !rest.is_empty() {
-        let Some(count) = builder.paint_row(rest, width) else {
-            unreachable!()
-        };
-        rows.push_lent(&builder.lend())?;
-        rest = &rest[count..];
-    }
-    Ok(rows)
 }
