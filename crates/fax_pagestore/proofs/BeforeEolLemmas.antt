@@ -20,7 +20,7 @@ behind_front before left front rest e le =
     sym (drop_at before left (length before) refl) ∙ ap (drop (length before)) e ∙ drop-append-le (length before) front rest le
 
 -- a front that ends within bits, whatever follows them
-within : (bits more front rest : List Bool) → bits ++ more ≡ front ++ rest → length front ≤ length bits → bits ≡ front ++ drop (length front) bits
+pub within : (bits more front rest : List Bool) → bits ++ more ≡ front ++ rest → length front ≤ length bits → bits ≡ front ++ drop (length front) bits
 within bits more front rest e le =
     let begins : take (length front) bits ≡ front =
     sym (take-append-le (length front) bits more le) ∙ ap (take (length front)) e ∙ take_at front rest (length front) refl in

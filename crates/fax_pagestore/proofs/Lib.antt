@@ -7,6 +7,7 @@ pub mod PageReading
 pub mod ReadLemmas
 pub mod ReaderLemmas
 pub mod RowsWritten
+pub mod StaysLemmas
 pub mod TextLemmas
 pub mod WaitingLemmas
 pub mod WhiteLemmas

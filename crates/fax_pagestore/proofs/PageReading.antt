@@ -14,7 +14,7 @@ use Rattle.fax_pagestore.specs.declared.fault.PageFault.TheVariants.{NoEol, BadL
 use Rattle.fax_pagestore.specs.PageRows.{most_rows}
 use Rattle.fax_pagestore.specs.Pages.{PageValue}
 use Rattle.fax_pagestore.specs.PageTexts.{IsFront, IsSeparator, InARow, SpellsRow, SpellsRows, ReadSoFar, MeansRows, MeansPage}
-use Rattle.fax_pagestore.specs.PageFaults.{RunsOut, LineBegins, last_of, FailsRow, WantsLine, Stops, FailsBehindFront, FailsPage, row_before}
+use Rattle.fax_pagestore.specs.PageFaults.{RunsOut, LineBegins, BreaksReturn, BreaksOff, StopsInReturn, last_of, FailsRow, WantsLine, Stops, FailsBehindFront, FailsPage, row_before}
 use Rattle.fax_pagestore.proofs.ReadLemmas.{HasWidth, SpellsRow-length, row_behind, row_behind-last}
 use Rattle.fax_pagestore.proofs.PageLaws.{pages_are_unique, pages_dont_fail, faults_are_unique}
 
@@ -220,21 +220,51 @@ fails_here : (coding : Coding) (width : ℕ) (first tag : Bool) (before : Option
 fails_here coding width first tag before old new rows fault r stops octets front =
     record { rows = rows; further = 0; tag = tag; rest = new.left; few = r.few; at_most_six = omega arith; read = r.read octets front; stops = stops }
 
+-- no return to control
+pub broken_stops : (coding : Coding) (width : ℕ) (rows : List Elements) (n : ℕ) (tag : Bool) (bits : List Bool) → BreaksReturn coding n tag bits → Stops coding width rows n tag bits NoRtc
+broken_stops coding width rows n tag bits b = elim b [ inl line ↦ inr (inl line) | inr tagged ↦ inr (inr (inl tagged)) ]
+
 -- behind further separators
-pub return_fails : (coding : Coding) (width : ℕ) (first tag : Bool) (before : Option Elements) (old new : Place) (rows : List Elements) (fault : PageFault)
+pub return_fails : (coding : Coding) (width : ℕ) (first tag : Bool) (before : Option Elements) (old new : Place) (rows : List Elements)
     → RowsSoFar coding width first old tag before new rows
-    → ((n : ℕ) × (text rest : List Bool) × (last : Bool) × (n ≤ 5) × InARow coding tag n text last × (new.left ≡ text ++ rest)
-    × ((wide : ℕ) (read : List Elements) → Stops coding wide read n last rest fault))
-    → (octets : List ℕ) → ReadSoFar coding width octets [] 0 first old.left → FailsBehindFront coding width octets fault
-return_fails coding width first tag before old new rows fault r (n, text, rest, last, le, in_a_row, e, stops) octets front = record {
+    → StopsInReturn coding tag new.left (λ n last rest. Stops coding width rows n last rest NoRtc)
+    → (octets : List ℕ) → ReadSoFar coding width octets [] 0 first old.left → FailsBehindFront coding width octets NoRtc
+return_fails coding width first tag before old new rows r s octets front = record {
   rows = rows;
-  further = n;
-  tag = last;
-  rest = rest;
+  further = s.further;
+  tag = s.last;
+  rest = s.rest;
   few = r.few;
-  at_most_six = le;
-  read = ReadSoFar-separators coding width octets rows n tag last new.left text rest (r.read octets front) in_a_row e;
-  stops = stops width rows;
+  at_most_six = s.at_most_six;
+  read = ReadSoFar-separators coding width octets rows s.further tag s.last new.left s.text s.rest (r.read octets front) s.in_a_row s.bits_are;
+  stops = s.reason;
+}
+
+-- the reason, told as why nothing more is read
+pub return_broken : (coding : Coding) (width : ℕ) (rows : List Elements) (tag : Bool) (bits : List Bool) → StopsInReturn coding tag bits (BreaksReturn coding)
+    → StopsInReturn coding tag bits (λ n last rest. Stops coding width rows n last rest NoRtc)
+return_broken coding width rows tag bits s = record {
+  further = s.further;
+  text = s.text;
+  last = s.last;
+  rest = s.rest;
+  at_most_six = s.at_most_six;
+  in_a_row = s.in_a_row;
+  bits_are = s.bits_are;
+  reason = broken_stops coding width rows s.further s.last s.rest s.reason;
+}
+
+pub return_breaks_off : (coding : Coding) (width : ℕ) (rows : List Elements) (tag : Bool) (bits : List Bool) → StopsInReturn coding tag bits (BreaksOff coding)
+    → StopsInReturn coding tag bits (λ n last rest. Stops coding width rows n last rest NoRtc)
+return_breaks_off coding width rows tag bits s = record {
+  further = s.further;
+  text = s.text;
+  last = s.last;
+  rest = s.rest;
+  at_most_six = s.at_most_six;
+  in_a_row = s.in_a_row;
+  bits_are = s.bits_are;
+  reason = inl s.reason;
 }
 
 -- A line begins behind as many rows as a page may have.
@@ -302,13 +332,19 @@ row_goes_on coding width tag before old mid rows row n (text, spelt, p) begins s
 
 -- behind so many further separators of a return to control a line begins
 pub line_in_return : (coding : Coding) (first tag : Bool) (k : ℕ) (old mid : Place) → (LineBegins old.left → ⊥) → k < 5
-    → (text : List Bool) × InARow coding first k text tag × Passes old mid text → LineBegins mid.left
-    → (n : ℕ) × (text rest : List Bool) × (last : Bool) × (n ≤ 5) × InARow coding first n text last × (old.left ≡ text ++ rest)
-    × ((width : ℕ) (rows : List Elements) → Stops coding width rows n last rest NoRtc)
+    → (text : List Bool) × InARow coding first k text tag × Passes old mid text → LineBegins mid.left → StopsInReturn coding first old.left (BreaksReturn coding)
 line_in_return coding first tag zero old mid none lt (text, in_a_row, p) begins =
     absurd (none (subst LineBegins (sym (p.bits ∙ ap (λ b. b ++ mid.left) in_a_row.0)) begins))
-line_in_return coding first tag (suc k) old mid none lt (text, in_a_row, p) begins =
-    (suc k, text, mid.left, tag, omega arith, in_a_row, p.bits, λ width rows. inr (inl (omega arith, omega arith, begins)))
+line_in_return coding first tag (suc k) old mid none lt (text, in_a_row, p) begins = record {
+  further = suc k;
+  text = text;
+  last = tag;
+  rest = mid.left;
+  at_most_six = omega arith;
+  in_a_row = in_a_row;
+  bits_are = p.bits;
+  reason = inl (omega arith, omega arith, begins);
+}
 
 -- all of them were passed
 pub return_whole : (coding : Coding) (first tag : Bool) (k : ℕ) (old new : Place) → k ≡ 5 → tag ≡ true

@@ -25,7 +25,7 @@ use Rattle.fax_pagestore.specs.declared.fault.PageFault.TheVariants.{NoEol, BadL
 use Rattle.fax_pagestore.specs.PageRows.{most_rows}
 use Rattle.fax_pagestore.specs.Pages.{PageValue}
 use Rattle.fax_pagestore.specs.PageTexts.{end_of_line, IsFront, IsSeparator, InARow, SpellsRow, SpellsRows, ReadSoFar, MeansRows, MeansPage}
-use Rattle.fax_pagestore.specs.PageFaults.{LineBegins, SeparatorBegins, FailsRow, Stops, FailsPage, last_of, row_before}
+use Rattle.fax_pagestore.specs.PageFaults.{LineBegins, SeparatorBegins, BreaksReturn, StopsInReturn, FailsRow, Stops, FailsPage, last_of, row_before}
 use Rattle.fax_pagestore.specs.Readers.{ReadsOne, BeginsRow, ReaderValue, HasRead, IsReadUpTo, NoMoreIsWhole, AreJudged, fault_of, new_reader}
 use Rattle.fax_pagestore.specs.declared.reader.Settled.{Settled}
 use Rattle.fax_pagestore.specs.declared.reader.Stop.{Stop}
@@ -36,7 +36,8 @@ use Rattle.fax_pagestore.proofs.PageLaws.{pages_are_unique, pages_dont_fail, fau
 use Rattle.fax_pagestore.proofs.EndsLemmas.{ends_hold, begins_before, separator_ends}
 use Rattle.fax_pagestore.proofs.ReadLemmas.{SpellsRow-length, ReadSoFar-lengths, BeginsRow-line, Stops-row}
 use Rattle.fax_pagestore.proofs.TextLemmas.{separator_not_line, line_not_runs_out, width_some}
-use Rattle.fax_pagestore.proofs.PageReading.{Keeps, Knows-kept, SpellsRow-knows, last_of-width, ReadSoFar-row, ReadSoFar-separators}
+use Rattle.fax_pagestore.proofs.PageReading.{Keeps, Knows-kept, SpellsRow-knows, last_of-width, ReadSoFar-row, ReadSoFar-separators, return_broken}
+use Rattle.fax_pagestore.proofs.StaysLemmas.{StopsInReturn-more}
 
 -- ---- one row more
 
@@ -130,21 +131,18 @@ pub stops_fail : (coding : Coding) (width : ℕ) (octets : List ℕ) (rows : Lis
 stops_fail coding width octets rows tag rest fault few read stops =
     inr record { rows = rows; further = 0; tag = tag; rest = rest; few = few; at_most_six = omega arith; read = read; stops = stops }
 
-pub return_fails_page : (coding : Coding) (width : ℕ) (octets : List ℕ) (rows : List Elements) (tag : Bool) (bits : List Bool) (fault : PageFault) → length rows ≤ most_rows
-    → ReadSoFar coding width octets rows 0 tag bits
-    → ((n : ℕ) × (text rest : List Bool) × (last : Bool) × (n ≤ 5) × InARow coding tag n text last × (bits ≡ text ++ rest)
-    × ((wide : ℕ) (read : List Elements) → Stops coding wide read n last rest fault))
-    → FailsPage width coding octets fault
-return_fails_page coding width octets rows tag bits fault few read (n, text, rest, last, le, in_a_row, e, stops) =
+pub return_fails_page : (coding : Coding) (width : ℕ) (octets : List ℕ) (rows : List Elements) (tag : Bool) (bits : List Bool) → length rows ≤ most_rows
+    → ReadSoFar coding width octets rows 0 tag bits → StopsInReturn coding tag bits (λ n last rest. Stops coding width rows n last rest NoRtc) → FailsPage width coding octets NoRtc
+return_fails_page coding width octets rows tag bits few read s =
     inr record {
       rows = rows;
-      further = n;
-      tag = last;
-      rest = rest;
+      further = s.further;
+      tag = s.last;
+      rest = s.rest;
       few = few;
-      at_most_six = le;
-      read = ReadSoFar-separators coding width octets rows n tag last bits text rest read in_a_row e;
-      stops = stops width rows;
+      at_most_six = s.at_most_six;
+      read = ReadSoFar-separators coding width octets rows s.further tag s.last bits s.text s.rest read s.in_a_row s.bits_are;
+      stops = s.reason;
     }
 
 pub none_fail : (coding : Coding) (width : ℕ) (octets : List ℕ) (rows : List Elements) (tag : Bool) (old new : Place) → length rows ≡ 0
@@ -310,15 +308,18 @@ Passes-more : (old new : Place) (text more : List Bool) → Passes old new text
     Passes before behind text)
 Passes-more old new text more p = record { bits = ap (λ b. b ++ more) p.bits ∙ append_assoc text new.left more; place = p.place }
 
-LineBegins-more : (bits more : List Bool) → LineBegins bits → LineBegins (bits ++ more)
-LineBegins-more bits more (zeros, rest, few, e) = (zeros, rest ++ more, few, ap (λ b. b ++ more) e ∙ append_assoc (replicate zeros false) (true ∷ rest) more)
+-- a fault that stays
+pub fault_stays : (coding : Coding) (width : ℕ) (octets more : List ℕ) (rows : List Elements) (tag : Bool) (bits : List Bool) (fault : PageFault) → length rows ≤ most_rows
+    → ReadSoFar coding width octets rows 0 tag bits → ((behind : List Bool) → Stops coding width rows 0 tag (bits ++ behind) fault) → FailsPage width coding (octets ++ more) fault
+fault_stays coding width octets more rows tag bits fault few read stops =
+    stops_fail coding width (octets ++ more) rows tag (bits ++ bits_of more) fault few (ReadSoFar-octets coding width octets more rows tag bits read) (stops (bits_of more))
 
--- a line behind so many rows
-pub too_many_stay : (coding : Coding) (width : ℕ) (octets more : List ℕ) (rows : List Elements) (tag : Bool) (bits : List Bool) → length rows ≤ most_rows
-    → ReadSoFar coding width octets rows 0 tag bits → Stops coding width rows 0 tag bits TooManyRows → FailsPage width coding (octets ++ more) TooManyRows
-too_many_stay coding width octets more rows tag bits few read (one, begins, full) =
-    stops_fail coding width (octets ++ more) rows tag (bits ++ bits_of more) TooManyRows few (ReadSoFar-octets coding width octets more rows tag bits read)
-    (one, LineBegins-more bits (bits_of more) begins, full)
+-- a return to control that is broken
+pub broken_stays : (coding : Coding) (width : ℕ) (octets more : List ℕ) (rows : List Elements) (tag : Bool) (bits : List Bool) → length rows ≤ most_rows
+    → ReadSoFar coding width octets rows 0 tag bits → StopsInReturn coding tag bits (BreaksReturn coding) → FailsPage width coding (octets ++ more) NoRtc
+broken_stays coding width octets more rows tag bits few read s =
+    return_fails_page coding width (octets ++ more) rows tag (bits ++ bits_of more) few (ReadSoFar-octets coding width octets more rows tag bits read)
+    (return_broken coding width rows tag (bits ++ bits_of more) (StopsInReturn-more coding tag bits (bits_of more) s))
 
 pub none_stay : (coding : Coding) (width : ℕ) (octets more : List ℕ) (rows : List Elements) (tag : Bool) (old new : Place) → length rows ≡ 0
     → ReadSoFar coding width octets rows 0 tag old.left → (text : List Bool) × InARow coding tag 5 text true × Passes old new text → FailsPage width coding (octets ++ more) Empty
@@ -498,9 +499,11 @@ pub OnOk_is : {T E : Type 0} (result : Result T E) (P : Type 0) → OnOk result 
 OnOk_is (Ok value) P p is = p
 OnOk_is (Err fault) P p is = absurd (cc is)
 
-pub IfErr_some : {T E : Type 0} (result : Result T E) (P : E → Type 0) → IfErr result P → (IsOk result → ⊥) → (fault : E) × P fault
-IfErr_some (Ok value) P p none = absurd (none refl)
-IfErr_some (Err fault) P p none = (fault, p)
+pub IfSome_at : {A : Type 0} (value : Option A) (P : A → Type 0) → IfSome value P → (what : A) → value ≡ Some what → P what
+IfSome_at (Some value) P p what is =
+    let same : value ≡ what = cc is in
+    subst P same p
+IfSome_at None P p what is = absurd (cc is)
 
 -- a two-dimensional line against the last row
 pub SpellsRow-last : (width : ℕ) (tag : Bool) (rows : List Elements) (reference : Elements) (old new : Place) → tag ≡ false → last_of rows ≡ Some reference

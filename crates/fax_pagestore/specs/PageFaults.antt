@@ -10,7 +10,7 @@ use Rattle.fax_mhcode.specs.declared.fault.LineFault.{LineFault}
 use Rattle.fax_pagestore.specs.declared.fault.PageFault.{PageFault}
 use Rattle.fax_pagestore.specs.declared.fault.PageFault.TheVariants.{NoEol, BadLine, NoRtc, Empty, TooManyRows, NoMemory}
 use Rattle.fax_pagestore.specs.PageRows.{most_rows}
-use Rattle.fax_pagestore.specs.PageTexts.{IsSeparator, IsFront, SpellsRow, ReadSoFar}
+use Rattle.fax_pagestore.specs.PageTexts.{IsSeparator, IsFront, InARow, SpellsRow, ReadSoFar}
 
 abbrev pub AreZeros : List Bool → Type 0
 AreZeros bits = (n : ℕ) × (bits ≡ replicate n false)
@@ -74,6 +74,28 @@ Stops coding width rows further tag bits (BadLine n) = (n ≡ length rows) × Wa
     × (FailsRow width tag (last_of rows) bits ⊎ ((rest : List Bool) × ReadsRow width tag (last_of rows) bits rest × LineBegins rest))
 Stops coding width rows further tag bits NoEol = ⊥
 Stops coding width rows further tag bits NoMemory = ⊥
+
+-- A return to control is broken, where so many further separators were read, of which the last has this tag: a
+-- line begins behind two to five separators, or one of tag 0 is followed by another or is the sixth.
+abbrev pub BreaksReturn : Coding → ℕ → Bool → List Bool → Type 0
+BreaksReturn coding further tag bits =
+    ((0 < further) × (further < 5) × LineBegins bits)
+    ⊎ ((tag ≡ false) × (((further < 5) × SeparatorBegins coding bits) ⊎ (further ≡ 5)))
+
+-- no further separator is whole before the sixth
+abbrev pub BreaksOff : Coding → ℕ → Bool → List Bool → Type 0
+BreaksOff coding further tag bits = (further < 5) × RunsOut coding bits
+
+-- Behind a separator of this tag stand at most five more, and behind these, for this reason, no return to control.
+pub record StopsInReturn (coding : Coding) (tag : Bool) (bits : List Bool) (Reason : ℕ → Bool → List Bool → Type 0) : Type 0 where
+  pub further : ℕ
+  pub text : List Bool
+  pub last : Bool
+  pub rest : List Bool
+  pub at_most_six : further ≤ 5
+  pub in_a_row : InARow coding tag further text last
+  pub bits_are : bits ≡ text ++ rest
+  pub reason : Reason further last rest
 
 -- what was read before nothing more is
 pub record FailsBehindFront (coding : Coding) (width : ℕ) (octets : List ℕ) (fault : PageFault) : Type 0 where

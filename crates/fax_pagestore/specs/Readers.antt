@@ -1,15 +1,17 @@
 -- Pages that are read as their octets come: what a reader is, and which octets have come to it.
-use Rattle.std.specs.Prelude.{◌≡◌, ℕ, Bool, true, false, List, [], ◌∷◌, ◌++◌, Option, Some, None, length, take}
+use Rattle.std.specs.Prelude.{◌≡◌, ◌≢◌, ◌≤◌, ℕ, Bool, true, false, List, [], ◌∷◌, ◌++◌, Option, Some, None, length, take}
 use Rattle.fax_bits.specs.Bits.{bits_of}
 use Rattle.fax_bits.specs.Reading.{Place, Passes}
 use Rattle.fax_runcodes.specs.declared.format.Coding.{Coding}
 use Rattle.fax_runcodes.specs.declared.format.Format.{Format}
 use Rattle.fax_runcodes.specs.Rows.{Elements}
 use Rattle.fax_runcodes.specs.Widths.{elements_of}
+use Rattle.fax_runcodes.specs.declared.fault.RunFault.TheVariants.{End}
+use Rattle.fax_mhcode.specs.declared.fault.LineFault.{LineFault}
+use Rattle.fax_mhcode.specs.declared.fault.LineFault.TheVariants.{Run, NoMode}
 use Rattle.fax_pagestore.specs.declared.fault.PageFault.{PageFault}
-use Rattle.fax_pagestore.specs.declared.fault.PageFault.TheVariants.{Empty, TooManyRows}
 use Rattle.fax_pagestore.specs.declared.reader.Settled.{Settled}
-use Rattle.fax_pagestore.specs.declared.reader.Settled.TheVariants.{Page, NoRow, Full}
+use Rattle.fax_pagestore.specs.declared.reader.Settled.TheVariants.{Page, NoPage}
 use Rattle.fax_pagestore.specs.Ends.{HoldsNoTaggedEol, BeginNoEol}
 use Rattle.fax_pagestore.specs.PageTexts.{IsSeparator, SpellsRow, ReadSoFar, MeansRows}
 use Rattle.fax_pagestore.specs.PageFaults.{FailsPage, SeparatorBegins, last_of}
@@ -56,8 +58,12 @@ AreJudged coding width octets rows (Some fault) = FailsPage width coding octets 
 -- why octets of which it is settled what they are are no page, if they are none
 abbrev pub fault_of : Settled → Option PageFault
 fault_of Page = None
-fault_of NoRow = Some Empty
-fault_of Full = Some TooManyRows
+fault_of (NoPage fault) = Some fault
+
+-- No bits mend this fault of a line, where these are left at the run or the step that cannot be taken: they don't
+-- end inside a code word, nor inside a mode word, of which the longest has 7 bits (ITU-T T.4, table 4/T.4).
+abbrev pub StaysBad : LineFault → List Bool → Type 0
+StaysBad fault bits = (fault ≢ Run End) × (fault ≡ NoMode → 7 ≤ length bits)
 
 -- These octets came to a reader, whatever the pieces in which they came. What can be read of them is read. Once
 -- it is settled what they are, no bits are kept, and they are that with any octets behind them.

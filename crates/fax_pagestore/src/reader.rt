@@ -1,26 +1,26 @@
 //! Pages read as their octets come.
-ghost use Rattle.std.specs.Prelude.{ℕ, Bool, List, [], ◌∷◌, ◌≡◌, ◌≢◌, ◌<◌, ◌≤◌, ◌*◌, ◌++◌, Some, None, All, take, drop, length, IfOk, IfErr, OnOk, OnErr, IfSome, IsSome, IsTrue, IsNone, IsOk, Ok, Err, true, false};
+ghost use Rattle.std.specs.Prelude.{ℕ, Bool, List, [], ◌∷◌, ◌≡◌, ◌≢◌, ◌<◌, ◌≤◌, ◌*◌, ◌++◌, ◌↔◌, Some, None, All, take, drop, length, IfOk, IfErr, OnOk, OnErr, IfSome, IsSome, IsTrue, IsNone, IsOk, Ok, Err, true, false};
 ghost use Rattle.fax_bits.specs.Bits.{bits_of};
 ghost use Rattle.fax_bits.specs.Reading.{Passes};
 ghost use Rattle.fax_runcodes.specs.Rows.{Elements};
 ghost use Rattle.fax_runcodes.specs.Widths.{elements_of};
 ghost use Rattle.fax_pagestore.specs.Pages.{PageValue};
 ghost use Rattle.fax_pagestore.specs.PageTexts.{ReadSoFar, MeansRows, MeansPage, SpellsRow};
-ghost use Rattle.fax_pagestore.specs.PageFaults.{FailsPage, FailsRow, LineBegins, Stops, last_of};
+ghost use Rattle.fax_pagestore.specs.PageFaults.{FailsPage, FailsRow, LineBegins, Stops, WantsLine, last_of};
 ghost use Rattle.fax_pagestore.specs.Ends.{HoldsEol, HoldsNoTaggedEol};
-ghost use Rattle.fax_pagestore.specs.Readers.{ReadsOne, BeginsRow, IsReadUpTo, NoMoreIsWhole, AreJudged, fault_of};
+ghost use Rattle.fax_pagestore.specs.Readers.{ReadsOne, BeginsRow, IsReadUpTo, NoMoreIsWhole, AreJudged, StaysBad, fault_of};
 
 use crate::ends::behind_eols;
 use crate::reading::{
-    Ahead, MOST_ROWS, line_ahead, line_begins, pass_front, pass_return_to_control, pass_separator,
-    read_row,
+    Ahead, Ending, MOST_ROWS, line_ahead, line_begins, pass_front, pass_return_to_control,
+    pass_separator, read_row,
 };
 use crate::white::pass_white_row;
 use crate::{Coding, Format, Page, PageFault, RowStore};
 use fax_bits::{BitReader, NoMemory};
-use fax_mhcode::pass_line_1d;
+use fax_mhcode::{LineFault, pass_line_1d};
 use fax_mrcode::pass_line_2d;
-use fax_runcodes::{Colour, RowBuilder, Width};
+use fax_runcodes::{Colour, RowBuilder, RunFault, Width};
 use std::alloc::Global;
 use std::marker::Model;
 use std::mem;
@@ -54,10 +54,8 @@ pub struct PageReader<S: RowStore> {
 enum Settled {
     /// A page, since its end was read.
     Page,
-    /// No page, since its end was read before a line.
-    NoRow,
-    /// No page, since a line begins behind 20,000 rows.
-    Full,
+    /// No page, for this fault, which no octets mend.
+    NoPage(PageFault),
 }
 
 impl Settled {
@@ -67,8 +65,7 @@ impl Settled {
     {
         match self {
             Settled::Page => None,
-            Settled::NoRow => Some(PageFault::Empty),
-            Settled::Full => Some(PageFault::TooManyRows),
+            Settled::NoPage(fault) => Some(fault),
         }
     }
 }
@@ -373,7 +370,7 @@ fn read_up_to<S: RowStore>(
         8 * end as u128,
     )?;
     let place = reader.place();
-    let settled = settle(&mut reader, coding, &halt, rows.len());
+    let settled = settle(rows, &mut reader, width, coding, &halt);
     if settled.is_some() {
         return Ok(Reached {
             place: 8 * octets.len() as u128,
@@ -538,48 +535,93 @@ fn keep_last<S: RowStore>(kept: &mut RowBuilder, rows: &S, width: Width, tag: bo
     }
 }
 
-/// What octets are whatever follows them, where that is settled at the end of what is read of them.
-fn settle(reader: &mut BitReader, coding: Coding, halt: &Halt, count: u32) -> Option<Settled>
+/// What octets are whatever follows them, where that is settled at the end of what is read of them. The reader
+/// stands anywhere then.
+fn settle<S: RowStore>(
+    rows: &S,
+    reader: &mut BitReader,
+    width: Width,
+    coding: Coding,
+    halt: &Halt,
+) -> Option<Settled>
+    requires few { length (S.rows rows.now) ≤ 20000 }
+    requires each { All (λ row. length row ≡ elements_of width) (S.rows rows.now) }
     requires no_line { halt.now.stop ≡ Stop.NoLine → LineBegins reader.old.left → ⊥ }
-    ensures settled { (what : Settled) → result ≡ Some what → (width : ℕ) (octets more : List ℕ) (rows : List Elements) → count ≡ length rows → length rows ≤ 20000
-        → ReadSoFar coding width octets rows 0 halt.now.tag reader.old.left
-        → ((fault : PageFault) → halt.now.stop ≡ Stop.Fault fault → Stops coding width rows 0 halt.now.tag reader.old.left fault) → AreJudged coding width (octets ++ more) rows (fault_of what) }
-    ensures some { result ≡ Some Settled.Page → 0 < count }
-    ensures open { result ≡ None → halt.now.stop ≢ Stop.Fault PageFault.TooManyRows }
+    requires stops { (fault : PageFault) → halt.now.stop ≡ Stop.Fault fault → Stops coding (elements_of width) (S.rows rows.now) 0 halt.now.tag reader.old.left fault }
+    ensures settled { IfSome result (λ what. (octets more : List ℕ) → ReadSoFar coding (elements_of width) octets (S.rows rows.now) 0 halt.now.tag reader.old.left
+        → AreJudged coding (elements_of width) (octets ++ more) (S.rows rows.now) (fault_of what)) }
+    ensures some { result ≡ Some Settled.Page → 0 < length (S.rows rows.now) }
+    ensures open { IsNone result → halt.now.stop ≢ Stop.Fault PageFault.TooManyRows }
 {
     match halt.stop {
         Stop::NoEols => None,
-        Stop::NoLine => pass_end(reader, coding, halt.tag, count).ok(),
-        Stop::Fault(fault) => match fault {
-            PageFault::TooManyRows => Some(Settled::Full),
-            _ => None,
-        },
+        Stop::NoLine => pass_end(reader, coding, halt.tag, rows.len()),
+        Stop::Fault(fault) if stays(rows, reader, width, coding, halt.tag, fault) => {
+            Some(Settled::NoPage(fault))
+        }
+        Stop::Fault(_) => None,
     }
 }
 
-/// Passes the end of a page behind this tag and so many rows, and tells what the octets are. It fails where
-/// there is none.
-fn pass_end(
+/// Whether a fault that is met behind this tag stays, whatever follows.
+fn stays<S: RowStore>(
+    rows: &S,
     reader: &mut BitReader,
+    width: Width,
     coding: Coding,
     tag: bool,
-    count: u32,
-) -> Result<Settled, PageFault>
-    requires no_line { LineBegins reader.old.left → ⊥ }
-    ensures settled { IfOk result (λ what. (width : ℕ) (octets more : List ℕ) (rows : List Elements) → count ≡ length rows → length rows ≤ 20000
-        → ReadSoFar coding width octets rows 0 tag reader.old.left → AreJudged coding width (octets ++ more) rows (fault_of what)) }
-    ensures some { result ≡ Ok Settled.Page → 0 < count }
-    ensures full { result ≢ Ok Settled.Full }
-    ensures fault { IfErr result (λ fault. (width : ℕ) (octets : List ℕ) (rows : List Elements) → count ≡ length rows → length rows ≤ 20000
-        → ReadSoFar coding width octets rows 0 tag reader.old.left → FailsPage width coding octets fault) }
+    fault: PageFault,
+) -> bool
+    requires each { All (λ row. length row ≡ elements_of width) (S.rows rows.now) }
+    requires stops { Stops coding (elements_of width) (S.rows rows.now) 0 tag reader.old.left fault }
+    ensures stays { IsTrue result → (more : List Bool) → Stops coding (elements_of width) (S.rows rows.now) 0 tag (reader.old.left ++ more) fault }
+    ensures many { result ≡ false → fault ≢ PageFault.TooManyRows }
 {
-    if let Err(fault) = pass_return_to_control(reader, coding, tag) {
-        return Err(fault);
+    match fault {
+        PageFault::TooManyRows => true,
+        PageFault::BadLine(_) => stays_bad(rows, reader, width, coding, tag),
+        _ => false,
     }
-    if count == 0 {
-        return Ok(Settled::NoRow);
+}
+
+/// Whether the line behind this tag, or what comes behind it before 11 zeros, is bad whatever follows.
+fn stays_bad<S: RowStore>(
+    rows: &S,
+    reader: &mut BitReader,
+    width: Width,
+    coding: Coding,
+    tag: bool,
+) -> bool
+    requires each { All (λ row. length row ≡ elements_of width) (S.rows rows.now) }
+    requires wants { WantsLine (S.rows rows.now) 0 reader.old.left }
+    ensures { IsTrue result → (more : List Bool) → Stops coding (elements_of width) (S.rows rows.now) 0 tag (reader.old.left ++ more) (PageFault.BadLine (length (S.rows rows.now))) }
+{
+    match pass_line(rows, reader, width, tag) {
+        Found::Line => match pass_separator(reader, coding) {
+            Ok(Ahead::Line) => true,
+            _ => false,
+        },
+        Found::NoLine => true,
+        Found::BreaksOff => false,
     }
-    Ok(Settled::Page)
+}
+
+/// Passes the end of a page behind this tag and so many rows, and tells what the octets are; `None` where an EOL
+/// is not whole.
+fn pass_end(reader: &mut BitReader, coding: Coding, tag: bool, count: u32) -> Option<Settled>
+    requires no_line { LineBegins reader.old.left → ⊥ }
+    ensures settled { IfSome result (λ what. (width : ℕ) (octets more : List ℕ) (rows : List Elements) → count ≡ length rows → length rows ≤ 20000
+        → ReadSoFar coding width octets rows 0 tag reader.old.left → AreJudged coding width (octets ++ more) rows (fault_of what)) }
+    ensures some { result ≡ Some Settled.Page → 0 < count }
+    ensures none { IsNone result → (width : ℕ) (octets : List ℕ) (rows : List Elements) → count ≡ length rows → length rows ≤ 20000
+        → ReadSoFar coding width octets rows 0 tag reader.old.left → FailsPage width coding octets PageFault.NoRtc }
+{
+    match pass_return_to_control(reader, coding, tag) {
+        Ending::Whole if count == 0 => Some(Settled::NoPage(PageFault::Empty)),
+        Ending::Whole => Some(Settled::Page),
+        Ending::Broken => Some(Settled::NoPage(PageFault::NoRtc)),
+        Ending::BreaksOff => None,
+    }
 }
 
 /// Why the octets of a page are none, if they are none, where these rows were read of them, and of the bits
@@ -607,8 +649,8 @@ fn judge<S: RowStore>(
     let count = rows.len();
     if !line_begins(&reader) {
         return match pass_end(&mut reader, coding, tag, count) {
-            Ok(settled) => settled.fault(),
-            Err(fault) => Some(fault),
+            Some(settled) => settled.fault(),
+            None => Some(PageFault::NoRtc),
         };
     }
     if count == MOST_ROWS {
@@ -630,8 +672,9 @@ fn judge_line<S: RowStore>(
     requires few { length (S.rows rows.now) < 20000 }
     ensures { (BeginsRow coding (elements_of width) tag (last_of (S.rows rows.now)) reader.old.left → ⊥) → Stops coding (elements_of width) (S.rows rows.now) 0 tag reader.old.left result }
 {
-    if !pass_line(rows, reader, width, tag) {
-        return PageFault::BadLine(rows.len());
+    match pass_line(rows, reader, width, tag) {
+        Found::Line => {}
+        Found::NoLine | Found::BreaksOff => return PageFault::BadLine(rows.len()),
     }
     match pass_separator(reader, coding) {
         Ok(Ahead::Line) => PageFault::BadLine(rows.len()),
@@ -641,18 +684,49 @@ fn judge_line<S: RowStore>(
     }
 }
 
-/// Passes the line behind this tag and these rows, and answers whether it can be read.
-fn pass_line<S: RowStore>(rows: &S, reader: &mut BitReader, width: Width, tag: bool) -> bool
-    requires each { All (λ row. length row ≡ elements_of width) (S.rows rows.now) }
-    ensures read { IsTrue result → (row : Elements) × (text : List Bool) × SpellsRow (elements_of width) tag (last_of (S.rows rows.now)) text row × Passes reader.old reader.new text }
-    ensures fails { result ≡ false → FailsRow (elements_of width) tag (last_of (S.rows rows.now)) reader.old.left }
+/// What stands behind a separator, looked at without its row.
+#[derive(Clone, Copy)]
+enum Found {
+    /// A line.
+    Line,
+    /// No line, whatever follows.
+    NoLine,
+    /// A line that breaks off: it is none, at least where no more octets come.
+    BreaksOff,
+}
+
+/// The bits of the longest mode word (ITU-T T.4, table 4/T.4).
+const LONGEST_MODE: u32 = 7;
+
+/// Passes the line behind this tag and these rows, if it can be read. Else the reader stands anywhere.
+fn pass_line<S: RowStore>(rows: &S, reader: &mut BitReader, width: Width, tag: bool) -> Found
+    requires { All (λ row. length row ≡ elements_of width) (S.rows rows.now) }
+    ensures line { result ≡ Found.Line → (row : Elements) × (text : List Bool) × SpellsRow (elements_of width) tag (last_of (S.rows rows.now)) text row × Passes reader.old reader.new text }
+    ensures fails { result ≢ Found.Line → FailsRow (elements_of width) tag (last_of (S.rows rows.now)) reader.old.left }
+    ensures stays { result ≡ Found.NoLine → (more : List Bool) → FailsRow (elements_of width) tag (last_of (S.rows rows.now)) (reader.old.left ++ more) }
 {
     if tag {
-        return pass_line_1d(reader, width).is_ok();
+        let passed = pass_line_1d(reader, width);
+        return line_found(passed, reader);
     }
     let count = rows.len();
     if count == 0 {
-        return false;
+        return Found::NoLine;
     }
-    pass_line_2d(reader, &rows.lend(count - 1)).is_ok()
+    let passed = pass_line_2d(reader, &rows.lend(count - 1));
+    line_found(passed, reader)
+}
+
+/// What was found where a line was to be passed. The reader stands at the step that cannot be taken, if there is
+/// one.
+fn line_found(passed: Result<(), LineFault>, reader: &BitReader) -> Found
+    ensures line { result ≡ Found.Line ↔ IsOk passed }
+    ensures stays { result ≡ Found.NoLine → IfErr passed (λ fault. StaysBad fault reader.now.left) }
+{
+    match passed {
+        Ok(()) => Found::Line,
+        Err(LineFault::Run(RunFault::End)) => Found::BreaksOff,
+        Err(LineFault::NoMode) if !reader.has(LONGEST_MODE) => Found::BreaksOff,
+        Err(_) => Found::NoLine,
+    }
 }

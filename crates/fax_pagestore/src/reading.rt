@@ -9,7 +9,7 @@ ghost use Rattle.fax_pagestore.specs.declared.fault.PageFault.{PageFault};
 ghost use Rattle.fax_pagestore.specs.Pages.{PageValue};
 ghost use Rattle.fax_pagestore.specs.PageTexts.{IsTag, IsFront, IsSeparator, InARow, SpellsRow, ReadSoFar, MeansRows, MeansPage};
 ghost use Rattle.fax_pagestore.specs.Ends.{HoldsNoTaggedEol};
-ghost use Rattle.fax_pagestore.specs.PageFaults.{RunsOut, LineBegins, FailsRow, WantsLine, Stops, FailsBehindFront, HasNoEol, FailsPage, last_of, row_before};
+ghost use Rattle.fax_pagestore.specs.PageFaults.{RunsOut, LineBegins, BreaksReturn, BreaksOff, StopsInReturn, FailsRow, WantsLine, Stops, FailsBehindFront, HasNoEol, FailsPage, last_of, row_before};
 
 use crate::white::pass_white_row;
 use crate::{Coding, Format, Page, PageFault, RowStore};
@@ -178,27 +178,36 @@ pub(crate) fn line_ahead(reader: &BitReader) -> Option<u64>
     line_begins(reader).then_some(window)
 }
 
+/// How a return to control ends.
+#[derive(Clone, Copy)]
+pub(crate) enum Ending {
+    /// With its sixth EOL.
+    Whole,
+    /// It is none, whatever follows.
+    Broken,
+    /// An EOL is not whole: it is none, at least where no more octets come.
+    BreaksOff,
+}
+
 /// Passes the last five of the six EOLs that end a page, behind the first and its tag. Each of the six
 /// has tag 1 (ITU-T T.4, 4.1.4 and 4.2.4).
 #[cold]
-pub(crate) fn pass_return_to_control(
-    reader: &mut BitReader,
-    coding: Coding,
-    first: bool,
-) -> Result<(), PageFault>
+pub(crate) fn pass_return_to_control(reader: &mut BitReader, coding: Coding, first: bool) -> Ending
     requires { LineBegins reader.old.left → ⊥ }
-    ensures ok { OnOk result ((text : List Bool) × InARow coding first 5 text true × Passes reader.old reader.new text) }
-    ensures fault { IfErr result (λ fault. (n : ℕ) × (text rest : List Bool) × (last : Bool) × (n ≤ 5) × InARow coding first n text last
-        × (reader.old.left ≡ text ++ rest) × ((width : ℕ) (rows : List Elements) → Stops coding width rows n last rest fault)) }
+    ensures whole { result ≡ Ending.Whole → (text : List Bool) × InARow coding first 5 text true × Passes reader.old reader.new text }
+    ensures broken { result ≡ Ending.Broken → StopsInReturn coding first reader.old.left (BreaksReturn coding) }
+    ensures breaks_off { result ≡ Ending.BreaksOff → StopsInReturn coding first reader.old.left (BreaksOff coding) }
 {
     let mut tag = first;
     for _ in 0..FURTHER_EOLS {
-        match pass_separator(reader, coding)? {
-            Ahead::Separator(next) if tag => tag = next,
-            _ => return Err(PageFault::NoRtc),
+        match pass_separator(reader, coding) {
+            Ok(Ahead::Separator(next)) if tag => tag = next,
+            Ok(_) => return Ending::Broken,
+            // there is one fault here alone: the bits run out
+            Err(_) => return Ending::BreaksOff,
         }
     }
-    if tag { Ok(()) } else { Err(PageFault::NoRtc) }
+    if tag { Ending::Whole } else { Ending::Broken }
 }
 
 /// Reads the line behind n rows, of which the last is kept, into the builder, in place of what is there,
@@ -287,7 +296,10 @@ fn read_rows<S: RowStore>(
             mem::swap(&mut line, &mut kept);
         }
     }
-    pass_return_to_control(reader, coding, tag)?;
+    match pass_return_to_control(reader, coding, tag) {
+        Ending::Whole => {}
+        Ending::Broken | Ending::BreaksOff => return Err(PageFault::NoRtc),
+    }
     if rows.len() == 0 {
         return Err(PageFault::Empty);
     }

@@ -329,7 +329,7 @@ const PAGES: [(Width, Coding, Digits, &[&str], &[&[u16]]); 19] = [
 ];
 
 /// Why texts are no page.
-const REFUSED: [(Coding, Digits, &[&str], PageFault); 21] = [
+const REFUSED: [(Coding, Digits, &[&str], PageFault); 23] = [
     (Coding::Mh, Digits::Binary, &[], PageFault::NoEol),
     (Coding::Mh, Digits::Binary, &[WHITE], PageFault::NoEol),
     (Coding::Mh, Digits::Binary, &["0000", EOL], PageFault::NoRtc),
@@ -347,6 +347,24 @@ const REFUSED: [(Coding, Digits, &[&str], PageFault); 21] = [
         Digits::Binary,
         &[EOL_0, AS_WHITE, EOL_1],
         PageFault::BadLine(0),
+    ),
+    // seven zeros, which begin no mode word, and a page behind them
+    (
+        Coding::Mr,
+        Digits::Binary,
+        &[
+            EOL_1, WHITE, EOL_0, "00000001", EOL_1, WHITE, EOL_1, EOL_1, EOL_1, EOL_1, EOL_1, EOL_1,
+        ],
+        PageFault::BadLine(1),
+    ),
+    // an EOL of tag 0 in the return to control, and a page behind it
+    (
+        Coding::Mr,
+        Digits::Binary,
+        &[
+            EOL_1, WHITE, EOL_1, EOL_0, EOL_1, WHITE, EOL_1, EOL_1, EOL_1, EOL_1, EOL_1, EOL_1,
+        ],
+        PageFault::NoRtc,
     ),
     // an extension behind the first line, and a 1
     (

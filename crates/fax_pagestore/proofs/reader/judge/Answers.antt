@@ -35,17 +35,17 @@ read_here g c all read =
     subst (λ bits. ReadSoFar c.args.coding (elements_of c.args.width) all (g.S.RowStore.rows c.args.rows.now) 0 c.in-Some.tag bits) (left_is g c)
     (subst (λ t. IsReadUpTo c.args.coding (elements_of c.args.width) all (g.S.RowStore.rows c.args.rows.now) t (drop c.args.used (bits_of c.args.octets.now))) c.in-Some.is read)
 
-pub returns-in-Ok-clause-judged : goal.returns-in-Ok-clause-judged
-returns-in-Ok-clause-judged g c = λ all read waits.
-    let here = read_here g (goal.at.returns-in-Ok-clause-judged g c).After-skip all read in
-    let judged = c.in-Ok.ensures.settled (elements_of c.args.width) all [] (g.S.RowStore.rows c.args.rows.now) c.len-count.ensures c.requires.few here in
+pub returns-in-Some-pass_end-clause-judged : goal.returns-in-Some-pass_end-clause-judged
+returns-in-Some-pass_end-clause-judged g c = λ all read waits.
+    let here = read_here g (goal.at.returns-in-Some-pass_end-clause-judged g c).After-skip all read in
+    let judged = c.in-Some-pass_end.ensures.settled (elements_of c.args.width) all [] (g.S.RowStore.rows c.args.rows.now) c.len-count.ensures c.requires.few here in
     subst (AreJudged c.args.coding (elements_of c.args.width) all (g.S.RowStore.rows c.args.rows.now)) (sym c.fault.ensures)
-    (subst (λ octets. AreJudged c.args.coding (elements_of c.args.width) octets (g.S.RowStore.rows c.args.rows.now) (fault_of c.in-Ok.settled)) (append-nil all) judged)
+    (subst (λ octets. AreJudged c.args.coding (elements_of c.args.width) octets (g.S.RowStore.rows c.args.rows.now) (fault_of c.in-Some-pass_end.settled)) (append-nil all) judged)
 
-pub returns-in-Err-clause-judged : goal.returns-in-Err-clause-judged
-returns-in-Err-clause-judged g c = λ all read waits.
-    let here = read_here g (goal.at.returns-in-Err-clause-judged g c).After-skip all read in
-    c.in-Err.ensures.fault (elements_of c.args.width) all (g.S.RowStore.rows c.args.rows.now) c.len-count.ensures c.requires.few here
+pub returns-in-None-clause-judged : goal.returns-in-None-clause-judged
+returns-in-None-clause-judged g c = λ all read waits.
+    let here = read_here g (goal.at.returns-in-None-clause-judged g c).After-skip all read in
+    c.in-None.ensures.none refl (elements_of c.args.width) all (g.S.RowStore.rows c.args.rows.now) c.len-count.ensures c.requires.few here
 
 pub returns-then-count-eq-MOST_ROWS-clause-judged : goal.returns-then-count-eq-MOST_ROWS-clause-judged
 returns-then-count-eq-MOST_ROWS-clause-judged g c = λ all read waits.

@@ -8,7 +8,7 @@ use Rattle.fax_pagestore.specs.PageTexts.{ReadSoFar}
 use Rattle.fax_pagestore.specs.Ends.{HoldsNoTaggedEol}
 use Rattle.fax_pagestore.specs.Readers.{IsReadUpTo, NoMoreIsWhole}
 use Rattle.fax_pagestore.proofs.BeforeEolLemmas.{none_behind_place}
-use Rattle.fax_pagestore.proofs.ReaderLemmas.{skipped, none_used, reached, IsReached, none_if, behind_all, stopped_waits}
+use Rattle.fax_pagestore.proofs.ReaderLemmas.{skipped, none_used, reached, IsReached, IfSome_at, behind_all, stopped_waits}
 use Rattle.fax_pagestore.proofs.reader.read_up_to.Goals as goal
 use Rattle.fax_pagestore.proofs.reader.read_up_to.Goals.{After-skip, In_default, In_ok-halt}
 use Rattle.fax_pagestore.proofs.reader.read_up_to.Given.{Over}
@@ -68,7 +68,7 @@ returns-clause-read g c = λ none all read.
 pub returns-clause-waits : goal.returns-clause-waits
 returns-clause-waits g c = λ none.
     let at = (goal.at.returns-clause-waits g c).In_ok-halt in
-    let not_many = c.settle-settled.ensures.open (none_if c.settle-settled.result (sym c.is_some.ensures ∙ c.if-is_some.false)) in
+    let not_many = c.settle-settled.ensures.open (sym c.is_some.ensures ∙ c.if-is_some.false) in
     subst (NoMoreIsWhole c.args.coding (elements_of c.args.width) (g.S.RowStore.rows c.read_rows_on.new.rows) (Some c.in_ok-halt.halt.tag)) (place_left g at c.place-place.result c.place-place.ensures)
     (stopped_waits c.args.coding (elements_of c.args.width) (g.S.RowStore.rows c.read_rows_on.new.rows) c.in_ok-halt.halt.tag c.read_rows_on.new.reader.left c.in_ok-halt.halt.stop
     (IsWidth-elements c.args.width) c.in_ok-halt.ensures.each
@@ -77,4 +77,4 @@ returns-clause-waits g c = λ none.
 pub returns-then-is_some-clause-settled : goal.returns-then-is_some-clause-settled
 returns-then-is_some-clause-settled g c = λ what is all more read.
     let at = (goal.at.returns-then-is_some-clause-settled g c).In_ok-halt in
-    c.settle-settled.ensures.settled what is (elements_of c.args.width) all more (g.S.RowStore.rows c.read_rows_on.new.rows) c.len.ensures c.in_ok-halt.ensures.few (read_on g at all read) c.in_ok-halt.ensures.stops
+    IfSome_at c.settle-settled.result _ c.settle-settled.ensures.settled what is all more (read_on g at all read)

@@ -1,11 +1,11 @@
-use Rattle.std.proofs.Common.{◌≡◌, ◌<◌, length, [], ◌∷◌, ◌++◌, true, false, arith, refl, sym, ap, ◌∙◌, subst}
+use Rattle.std.proofs.Common.{◌≡◌, ◌<◌, length, [], ◌∷◌, ◌++◌, true, false, arith, refl, sym, ap, inl, inr, ◌∙◌, subst}
 use Rattle.std.proofs.lemmas.Result.{err_from_is_err_and}
 use Rattle.fax_bits.specs.Reading.{Place}
 use Rattle.fax_runcodes.specs.Rows.{Elements, IsWidth}
 use Rattle.fax_runcodes.specs.Widths.{elements_of}
 use Rattle.fax_mhcode.proofs.LineLaws.{IsWidth-elements}
 use Rattle.fax_pagestore.specs.PageFaults.{LineBegins, last_of, row_before}
-use Rattle.fax_pagestore.proofs.PageReading.{RowsSoFar, RowsSoFar-row, RowsSoFar-pushed, RowsSoFar-still, RowsSoFar-known, RowsSoFar-whole, Keeps-push, Keeps-width, Knows-kept, full_fails, row_fails, return_fails, empty_fails}
+use Rattle.fax_pagestore.proofs.PageReading.{RowsSoFar, RowsSoFar-row, RowsSoFar-pushed, RowsSoFar-still, RowsSoFar-known, RowsSoFar-whole, Keeps-push, Keeps-width, Knows-kept, full_fails, row_fails, return_fails, return_broken, return_breaks_off, empty_fails}
 use Rattle.fax_pagestore.proofs.reading.read_rows.Goals as goal
 use Rattle.fax_pagestore.proofs.reading.read_rows.Goals.{After-len-n, After-read_row, After-push_lent-in-Some}
 use Rattle.fax_pagestore.proofs.reading.read_rows.Given.{Over}
@@ -114,19 +114,22 @@ loop-window-preserved g c =
     let one : c.in_ok-tag.tag ≡ true = c.if-not-tag.false in
     (more g at.After-push_lent-in-Some (pushed g at.After-push_lent-in-Some c.in_ok-push_lent-2.ensures.pushed) (known_still g at.After-read_row (known g at.After-len-n)), λ two. cc)
 
-pub returns-in_err-pass_return_to_control-clause-fault : goal.returns-in_err-pass_return_to_control-clause-fault
-returns-in_err-pass_return_to_control-clause-fault g c =
-    let p = err_from_is_err_and c.from_residual-in_err-pass_return_to_control.result c.from_residual-in_err-pass_return_to_control.ensures.1 in
-    rw (p.1, p.2)
-    (λ _. return_fails c.args.coding (elements_of c.args.width) c.args.first c.loop-window.tag (last_of (g.S.RowStore.rows c.loop-window.rows)) c.args.reader.now c.loop-window.reader (g.S.RowStore.rows c.loop-window.rows)
-    c.in_err-pass_return_to_control.field-0.0 c.loop-window.invariant.0 c.in_err-pass_return_to_control.ensures.fault)
+pub returns-in-Broken : goal.returns-in-Broken
+returns-in-Broken g c = record {
+  ok = tt;
+  fault = λ _. return_fails c.args.coding (elements_of c.args.width) c.args.first c.loop-window.tag (last_of (g.S.RowStore.rows c.loop-window.rows)) c.args.reader.now c.loop-window.reader (g.S.RowStore.rows c.loop-window.rows)
+      c.loop-window.invariant.0 (elim c.in-Broken.is [
+        | inl broken ↦ return_broken c.args.coding (elements_of c.args.width) (g.S.RowStore.rows c.loop-window.rows) c.loop-window.tag c.loop-window.reader.left (c.pass_return_to_control.ensures.broken broken)
+        | inr off ↦ return_breaks_off c.args.coding (elements_of c.args.width) (g.S.RowStore.rows c.loop-window.rows) c.loop-window.tag c.loop-window.reader.left (c.pass_return_to_control.ensures.breaks_off off)
+      ]);
+}
 
 pub returns-then-len-eq0-clause-fault : goal.returns-then-len-eq0-clause-fault
 returns-then-len-eq0-clause-fault g c =
     λ _. empty_fails c.args.coding (elements_of c.args.width) c.args.first c.loop-window.tag (last_of (g.S.RowStore.rows c.loop-window.rows)) c.args.reader.now c.loop-window.reader c.pass_return_to_control.new.reader
-    (g.S.RowStore.rows c.loop-window.rows) c.loop-window.invariant.0 c.in_ok-pass_return_to_control.ensures.ok (sym c.len.ensures ∙ c.if-len-eq0.true)
+    (g.S.RowStore.rows c.loop-window.rows) c.loop-window.invariant.0 (c.pass_return_to_control.ensures.whole c.in-Whole.is) (sym c.len.ensures ∙ c.if-len-eq0.true)
 
 pub returns-clause-ok : goal.returns-clause-ok
 returns-clause-ok g c =
     RowsSoFar-whole c.args.coding (elements_of c.args.width) c.args.first c.loop-window.tag (last_of (g.S.RowStore.rows c.loop-window.rows)) c.args.reader.now c.loop-window.reader c.pass_return_to_control.new.reader
-    (g.S.RowStore.rows c.loop-window.rows) c.loop-window.invariant.0 c.in_ok-pass_return_to_control.ensures.ok (omega (arith, c.len.ensures, c.if-len-eq0.false))
+    (g.S.RowStore.rows c.loop-window.rows) c.loop-window.invariant.0 (c.pass_return_to_control.ensures.whole c.in-Whole.is) (omega (arith, c.len.ensures, c.if-len-eq0.false))
