@@ -2,7 +2,7 @@
 RT ?= rt
 PROGRAM = crates/faxgate/out/faxgate
 
-.PHONY: all test memory bench interop tables
+.PHONY: all test format memory bench interop tables
 
 # Proves and builds the program, and says where it lies.
 all:
@@ -12,6 +12,10 @@ all:
 # The merge gate: every proof from nothing, the wrong bodies, the tests, the stored run.
 test:
 	$(RT) ci
+
+# Puts every crate into the layout of `rt fmt`, which the gate wants, and `rt check` does not ask for.
+format:
+	for crate in crates/*/; do (cd "$$crate" && $(RT) fmt) || exit 1; done
 
 # Refuses each allocation of a run in turn, both ways and in both codings, of a script, of a page over sockets, and each of a
 # page that is read and written in pieces, of faults that the calls for C tell without memory, of a whole call of the
