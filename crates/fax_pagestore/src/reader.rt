@@ -122,7 +122,7 @@ impl<S: RowStore> PageReader<S> {
     }
 
     /// Takes the next octets, and reads each row of which the line and the separator are there. Behind the end
-    /// of a page, and where a line begins behind 20,000 rows, it takes nothing and no memory. An `Err` is that of
+    /// of a page, and behind a fault that no octets mend, it takes nothing and no memory. An `Err` is that of
     /// memory, and changes nothing.
     pub fn feed(&mut self, piece: &[u8]) -> Result<(), PageFault>
         ensures read { OnOk result ((octets : List ℕ) → HasRead octets self.old → HasRead (octets ++ piece.now) self.new) }
