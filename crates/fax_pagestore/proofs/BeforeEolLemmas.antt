@@ -1,5 +1,5 @@
 -- What stands before the first EOL, and what of it matters no more.
-use Rattle.std.proofs.Common.{◌≡◌, ℕ, ◌+◌, ◌-◌, ◌*◌, ◌<◌, ◌≤◌, Bool, true, false, List, [], ◌∷◌, ◌++◌, length, take, drop, refl, sym, ◌∙◌, ap, subst, arith, append_assoc, append-nil, length-append, length-drop, inl, inr}
+use Rattle.std.proofs.Common.{◌≡◌, ℕ, ◌+◌, ◌-◌, ◌*◌, ◌<◌, ◌≤◌, Bool, true, List, [], ◌∷◌, ◌++◌, length, take, drop, refl, sym, ◌∙◌, ap, subst, arith, append_assoc, append-nil, length-append, length-drop, inl, inr}
 use Rattle.std.proofs.lemmas.List.{drop_at, drop-drop, drop-append-le, take-append-le, take_at, take-append-drop, length-take-le}
 use Rattle.std.proofs.Math.Seq.{take-append-add}
 use Rattle.std.proofs.lemmas.Bool.{cases_lt}
@@ -7,7 +7,7 @@ use Rattle.fax_bits.specs.Bits.{bits_of}
 use Rattle.fax_bits.proofs.BitsLemmas.{length-bits_of}
 use Rattle.fax_runcodes.specs.declared.format.Coding.{Coding}
 use Rattle.fax_runcodes.specs.declared.format.Coding.TheVariants.{Mh, Mr}
-use Rattle.fax_pagestore.specs.PageTexts.{end_of_line, IsTag, IsFront, EndsWithEol}
+use Rattle.fax_pagestore.specs.PageTexts.{end_of_line, IsTag, IsFront}
 use Rattle.fax_pagestore.specs.PageFaults.{HasNoEol}
 use Rattle.fax_pagestore.specs.Ends.{HoldsNoTaggedEol, BeginNoEol}
 use Rattle.fax_pagestore.proofs.EndsLemmas.{ends_at}

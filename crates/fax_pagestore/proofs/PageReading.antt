@@ -330,22 +330,6 @@ pub row_goes_on : (coding : Coding) (width : ℕ) (tag : Bool) (before : Option 
 row_goes_on coding width tag before old mid rows row n (text, spelt, p) begins size k wants =
     (sym size, wants, inr (mid.left, (text, row, SpellsRow-knows width tag before rows text row k spelt, p.bits), begins))
 
--- behind so many further separators of a return to control a line begins
-pub line_in_return : (coding : Coding) (first tag : Bool) (k : ℕ) (old mid : Place) → (LineBegins old.left → ⊥) → k < 5
-    → (text : List Bool) × InARow coding first k text tag × Passes old mid text → LineBegins mid.left → StopsInReturn coding first old.left (BreaksReturn coding)
-line_in_return coding first tag zero old mid none lt (text, in_a_row, p) begins =
-    absurd (none (subst LineBegins (sym (p.bits ∙ ap (λ b. b ++ mid.left) in_a_row.0)) begins))
-line_in_return coding first tag (suc k) old mid none lt (text, in_a_row, p) begins = record {
-  further = suc k;
-  text = text;
-  last = tag;
-  rest = mid.left;
-  at_most_six = omega arith;
-  in_a_row = in_a_row;
-  bits_are = p.bits;
-  reason = inl (omega arith, omega arith, begins);
-}
-
 -- all of them were passed
 pub return_whole : (coding : Coding) (first tag : Bool) (k : ℕ) (old new : Place) → k ≡ 5 → tag ≡ true
     → (text : List Bool) × InARow coding first k text tag × Passes old new text → (text : List Bool) × InARow coding first 5 text true × Passes old new text

@@ -1,5 +1,5 @@
 -- Pages that are read as their octets come.
-use Rattle.std.proofs.Common.{◌≡◌, ◌≢◌, ℕ, zero, suc, ◌+◌, ◌-◌, ◌*◌, ◌/◌, ◌%◌, ◌<◌, ◌≤◌, Bool, true, false, List, [], ◌∷◌, ◌++◌, All, Option, Some, None, length, take, drop, replicate, slice_get, slice_index_or, IfSome, IsSome, IsNone, is_some, Result, Ok, Err, IsOk, IfErr, OnOk, zero-add, refl, sym, ◌∙◌, ap, subst, arith, append_assoc, append-nil, length-append, length-drop, inl, inr}
+use Rattle.std.proofs.Common.{◌≡◌, ◌≢◌, ℕ, zero, suc, ◌+◌, ◌-◌, ◌*◌, ◌/◌, ◌%◌, ◌<◌, ◌≤◌, Bool, true, false, List, [], ◌∷◌, ◌++◌, All, Option, Some, None, length, take, drop, replicate, slice_get, slice_index_or, IfSome, IsSome, is_some, Result, Ok, Err, IsOk, OnOk, zero-add, refl, sym, ◌∙◌, ap, subst, arith, append_assoc, append-nil, length-append, length-drop, inl, inr}
 use Rattle.std.proofs.lemmas.List.{nil_from_length, length_push, drop_at, drop-drop, drop-append-le, take-append-drop, append_cancel_left, length-replicate, replicate-append-replicate, get_or-replicate}
 use Rattle.std.proofs.lemmas.List.Elements.{All-push}
 use Rattle.std.proofs.Math.Seq.{drop-length}
@@ -25,7 +25,7 @@ use Rattle.fax_pagestore.specs.declared.fault.PageFault.TheVariants.{NoEol, BadL
 use Rattle.fax_pagestore.specs.PageRows.{most_rows}
 use Rattle.fax_pagestore.specs.Pages.{PageValue}
 use Rattle.fax_pagestore.specs.PageTexts.{end_of_line, IsFront, IsSeparator, InARow, SpellsRow, SpellsRows, ReadSoFar, MeansRows, MeansPage}
-use Rattle.fax_pagestore.specs.PageFaults.{LineBegins, SeparatorBegins, BreaksReturn, StopsInReturn, FailsRow, Stops, FailsPage, last_of, row_before}
+use Rattle.fax_pagestore.specs.PageFaults.{LineBegins, BreaksReturn, StopsInReturn, FailsRow, Stops, FailsPage, last_of, row_before}
 use Rattle.fax_pagestore.specs.Readers.{ReadsOne, BeginsRow, ReaderValue, HasRead, IsReadUpTo, NoMoreIsWhole, AreJudged, fault_of, new_reader}
 use Rattle.fax_pagestore.specs.declared.reader.Settled.{Settled}
 use Rattle.fax_pagestore.specs.declared.reader.Stop.{Stop}

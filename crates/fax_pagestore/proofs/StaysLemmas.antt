@@ -1,8 +1,7 @@
 -- Faults that stay, whatever bits follow.
-use Rattle.std.proofs.Common.{◌≡◌, ◌≢◌, ℕ, ◌+◌, ◌<◌, ◌≤◌, Bool, true, false, List, [], ◌∷◌, ◌++◌, Option, Some, None, length, take, drop, replicate, Result, Ok, Err, IsOk, IfErr, refl, sym, ◌∙◌, ap, subst, arith, append_assoc, length-append, length-drop, inl, inr}
+use Rattle.std.proofs.Common.{◌≡◌, ◌≢◌, ℕ, ◌+◌, ◌≤◌, Bool, true, false, List, ◌∷◌, ◌++◌, length, take, drop, replicate, Result, Ok, Err, IsOk, IfErr, refl, sym, ◌∙◌, ap, subst, arith, append_assoc, length-append, length-drop, inl, inr}
 use Rattle.std.proofs.lemmas.List.{take-append-drop, take-append-le, take_at, nil_from_length, append_cancel_left}
 use Rattle.std.proofs.lemmas.Bool.{cases_lt}
-use Rattle.fax_bits.specs.Bits.{bits_of}
 use Rattle.fax_bits.specs.Reading.{Place, Passes}
 use Rattle.fax_runcodes.specs.declared.format.Coding.{Coding}
 use Rattle.fax_runcodes.specs.declared.Colour.{Colour}
@@ -23,9 +22,7 @@ use Rattle.fax_mrcode.specs.Places.{run_start}
 use Rattle.fax_mrcode.specs.LineFaults as mr
 use Rattle.fax_pagestore.specs.declared.fault.PageFault.{PageFault}
 use Rattle.fax_pagestore.specs.declared.fault.PageFault.TheVariants.{BadLine, TooManyRows}
-use Rattle.fax_pagestore.specs.PageRows.{most_rows}
-use Rattle.fax_pagestore.specs.PageTexts.{IsSeparator, ReadSoFar}
-use Rattle.fax_pagestore.specs.PageFaults.{LineBegins, SeparatorBegins, BreaksReturn, StopsInReturn, WantsLine, FailsRow, ReadsRow, Stops, FailsPage, last_of}
+use Rattle.fax_pagestore.specs.PageFaults.{LineBegins, SeparatorBegins, BreaksReturn, StopsInReturn, WantsLine, FailsRow, ReadsRow, Stops, last_of}
 use Rattle.fax_pagestore.specs.Readers.{StaysBad}
 use Rattle.fax_pagestore.proofs.BeforeEolLemmas.{within}
 

@@ -1,5 +1,5 @@
 -- Pages that are read as their octets come: what a reader is, and which octets have come to it.
-use Rattle.std.specs.Prelude.{◌≡◌, ◌≢◌, ◌≤◌, ℕ, Bool, true, false, List, [], ◌∷◌, ◌++◌, Option, Some, None, length, take}
+use Rattle.std.specs.Prelude.{◌≡◌, ◌≢◌, ◌≤◌, ℕ, Bool, List, [], ◌∷◌, ◌++◌, Option, Some, None, length, take}
 use Rattle.fax_bits.specs.Bits.{bits_of}
 use Rattle.fax_bits.specs.Reading.{Place, Passes}
 use Rattle.fax_runcodes.specs.declared.format.Coding.{Coding}

@@ -1,6 +1,9 @@
-//! Times pages that come in pieces beside `read_page` of the same octets. It times nothing but where the
-//! environment names a page: see bench/README.md.
-use crate::{Coding, Format, PackedRows, Page, PageFault, PageReader, read_page, write_page};
+//! Times pages that are read and written in pieces beside `read_page` and `write_page` of the same octets. It
+//! times nothing but where the environment names a page: see bench/README.md.
+use crate::{
+    Coding, Format, PackedRows, Page, PageFault, PageReader, PageWriter, read_page, write_page,
+};
+use fax_bits::NoMemory;
 use fax_runcodes::Width;
 use std::alloc::Global;
 use std::test::Fail;
@@ -11,6 +14,13 @@ const FORMAT: Format = Format {
     width: Width::W1728,
     fine: true,
 };
+
+/// What is timed.
+#[derive(Clone, Copy, Debug)]
+enum Work {
+    Read,
+    Write,
+}
 
 /// Reads a page that comes in pieces of so many octets, or whole.
 fn read_in(
@@ -29,9 +39,30 @@ fn read_in(
     reader.finish()
 }
 
-/// The least nanoseconds of processor time of 40 reads.
+/// Writes a page of which these are the octets, in pieces of so many, or whole.
+fn write_in(
+    alloc: Global,
+    page: &Page<PackedRows>,
+    octets: &[u8],
+    cut: Option<usize>,
+    coding: Coding,
+) -> Result<(), NoMemory> {
+    let Some(cut) = cut else {
+        write_page(alloc, page, coding, 0)?;
+        return Ok(());
+    };
+    let mut writer = PageWriter::new(alloc, page.format(), coding, 0);
+    for _ in octets.chunks(cut.max(1)) {
+        writer.next(page, cut)?;
+    }
+    Ok(())
+}
+
+/// The least nanoseconds of processor time of 40 reads or writes.
 fn least_time(
     rt: &HostRuntime,
+    work: Work,
+    page: &Page<PackedRows>,
     octets: &[u8],
     cut: Option<usize>,
     coding: Coding,
@@ -39,11 +70,32 @@ fn least_time(
     let mut least = u128::MAX;
     for _ in 0..40 {
         let start = rt.thread_cpu_time()?.as_nanos();
-        read_in(rt.alloc(), octets, cut, coding)?;
+        match work {
+            Work::Read => drop(read_in(rt.alloc(), octets, cut, coding)?),
+            Work::Write => write_in(rt.alloc(), page, octets, cut, coding)?,
+        }
         let end = rt.thread_cpu_time()?.as_nanos();
         least = least.min(end.saturating_sub(start));
     }
     Ok(least)
+}
+
+/// Prints how long it takes in pieces, in per cent of what it takes as a whole.
+fn print_times(
+    rt: &HostRuntime,
+    work: Work,
+    page: &Page<PackedRows>,
+    coding: Coding,
+) -> Result<(), Fail> {
+    let octets = write_page(rt.alloc(), page, coding, 0)?;
+    let whole = least_time(rt, work, page, octets.as_slice(), None, coding)?;
+    println!(rt; "{work:?} {coding:?}, whole: {} microseconds", whole / 1000)?;
+    for cut in [300, 100, 7, 1] {
+        let pieces = least_time(rt, work, page, octets.as_slice(), Some(cut), coding)?;
+        let percent = pieces.saturating_mul(100) / whole.max(1);
+        println!(rt; "{work:?} {coding:?}, pieces of {cut} octets: {percent} per cent of that")?;
+    }
+    Ok(())
 }
 
 #[test]
@@ -54,14 +106,8 @@ fn times_pieces(rt: HostRuntime) -> Result<(), Fail> {
     let text = fs::read(&rt, path.as_str())?;
     let page: Page<PackedRows> = read_page(rt.alloc(), text.as_slice(), FORMAT, Coding::Mr)?;
     for coding in [Coding::Mh, Coding::Mr] {
-        let octets = write_page(rt.alloc(), &page, coding, 0)?;
-        let whole = least_time(&rt, octets.as_slice(), None, coding)?;
-        println!(rt; "{coding:?}, whole: {} microseconds", whole / 1000)?;
-        for cut in [300, 100, 7, 1] {
-            let pieces = least_time(&rt, octets.as_slice(), Some(cut), coding)?;
-            let percent = pieces.saturating_mul(100) / whole.max(1);
-            println!(rt; "{coding:?}, pieces of {cut} octets: {percent} per cent of that")?;
-        }
+        print_times(&rt, Work::Read, &page, coding)?;
+        print_times(&rt, Work::Write, &page, coding)?;
     }
     Ok(())
 }

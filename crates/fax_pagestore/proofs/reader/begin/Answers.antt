@@ -1,4 +1,4 @@
-use Rattle.std.proofs.Common.{subst, ◌∙◌}
+use Rattle.std.proofs.Common.{subst}
 use Rattle.std.proofs.lemmas.Option.{IfSome_then}
 use Rattle.fax_pagestore.specs.Readers.{IsReadUpTo}
 use Rattle.fax_pagestore.proofs.ReaderLemmas.{front_read}

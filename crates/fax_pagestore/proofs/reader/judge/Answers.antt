@@ -1,4 +1,4 @@
-use Rattle.std.proofs.Common.{◌≡◌, ◌++◌, List, ℕ, Bool, Some, [], drop, length, refl, sym, ap, ◌∙◌, subst, arith, append-nil}
+use Rattle.std.proofs.Common.{◌≡◌, List, ℕ, Some, [], drop, length, refl, sym, ap, ◌∙◌, subst, arith, append-nil}
 use Rattle.fax_bits.specs.Bits.{bits_of}
 use Rattle.fax_bits.specs.Reading.{Place}
 use Rattle.fax_bits.proofs.BitsLemmas.{length-bits_of}

@@ -1,5 +1,4 @@
-use Rattle.std.proofs.Common.{◌≡◌, ◌-◌, ◌++◌, Bool, sym, ap, ◌∙◌, arith, subst}
-use Rattle.fax_runcodes.specs.Rows.{Elements}
+use Rattle.std.proofs.Common.{◌-◌, ◌++◌, Bool, sym, arith, subst}
 use Rattle.fax_runcodes.specs.Widths.{elements_of}
 use Rattle.fax_pagestore.specs.PageFaults.{FailsRow, last_of}
 use Rattle.fax_pagestore.proofs.ReaderLemmas.{last_of_at, OnOk_is, SpellsRow-last, FailsRow-last}

@@ -1,4 +1,4 @@
-use Rattle.std.proofs.Common.{◌≡◌, List, ℕ, Some, length, drop, refl, sym, ap, ◌∙◌, subst, inl, arith}
+use Rattle.std.proofs.Common.{◌≡◌, List, ℕ, Some, length, drop, refl, sym, ap, ◌∙◌, subst, arith}
 use Rattle.fax_bits.specs.Bits.{bits_of}
 use Rattle.fax_bits.specs.Reading.{Place}
 use Rattle.fax_bits.proofs.BitsLemmas.{length-bits_of}

@@ -2,9 +2,8 @@ use Rattle.std.proofs.Common.{Bool, List, ◌++◌, ap, ◌∙◌, add-one, Ok, 
 use Rattle.fax_bits.specs.Reading.{Passes}
 use Rattle.fax_bits.proofs.ReadingLemmas.{Passes-then}
 use Rattle.fax_pagestore.specs.PageTexts.{IsSeparator}
-use Rattle.fax_pagestore.specs.PageFaults.{LineBegins}
 use Rattle.fax_pagestore.specs.declared.reading.Ahead.{Ahead}
-use Rattle.fax_pagestore.proofs.PageReading.{InARow-push, line_in_return, return_whole}
+use Rattle.fax_pagestore.proofs.PageReading.{InARow-push, return_whole}
 use Rattle.fax_pagestore.proofs.reading.pass_return_to_control.Goals as goal
 
 pub loop-preserved : goal.loop-preserved

@@ -1,7 +1,6 @@
-use Rattle.std.proofs.Common.{◌≡◌, ◌≢◌, ◌++◌, ◌/◌, ◌%◌, ◌*◌, List, ℕ, Some, None, IsSome, is_some, drop, length, sym, ap, ◌∙◌, subst, arith}
+use Rattle.std.proofs.Common.{◌≡◌, ◌++◌, ◌/◌, ◌%◌, ◌*◌, List, ℕ, None, IsSome, is_some, drop, sym, ap, ◌∙◌, subst, arith}
 use Rattle.fax_bits.specs.Bits.{bits_of}
 use Rattle.fax_runcodes.specs.Widths.{elements_of}
-use Rattle.fax_pagestore.specs.declared.reader.Settled.{Settled}
 use Rattle.fax_pagestore.specs.Ends.{HoldsEol}
 use Rattle.fax_pagestore.specs.Readers.{HasRead, ReaderValue, IsReadUpTo, NoMoreIsWhole}
 use Rattle.fax_pagestore.proofs.ReaderLemmas.{some_if, none_if, IsReadUpTo-more, HasRead-settled, drop_place, nothing_left, piece_waits}
