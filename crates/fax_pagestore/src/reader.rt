@@ -599,6 +599,7 @@ fn stays_bad<S: RowStore>(
     match pass_line(rows, reader, width, tag) {
         Found::Line => match pass_separator(reader, coding) {
             Ok(Ahead::Line) => true,
+            // an EOL that is not whole may become so
             _ => false,
         },
         Found::NoLine => true,
