@@ -1,5 +1,5 @@
 -- Where EOLs stand in bits and in octets, and where none does.
-use Rattle.std.proofs.Common.{◌≡◌, ℕ, ◌+◌, ◌-◌, ◌*◌, ◌/◌, ◌%◌, ◌^◌, ◌<◌, ◌≤◌, Bool, true, false, List, [], ◌∷◌, ◌++◌, length, take, drop, get_or, replicate, refl, sym, ◌∙◌, ap, subst, arith, append_assoc, length-append, inl, inr}
+use Rattle.std.proofs.Common.{◌≡◌, ℕ, zero, suc, ◌+◌, ◌-◌, ◌*◌, ◌/◌, ◌%◌, ◌^◌, ◌<◌, ◌≤◌, Bool, true, false, List, [], ◌∷◌, ◌++◌, length, take, drop, get_or, replicate, refl, sym, ◌∙◌, ap, subst, arith, append_assoc, length-append, inl, inr}
 use Rattle.std.proofs.lemmas.List.{take_at, drop_at, drop-drop, drop-append-le, take-append-le, take-append-drop, replicate-append-replicate, take-replicate, drop-replicate, length-replicate, drop_more, get_or-drop}
 use Rattle.std.proofs.Math.Seq.{drop-length}
 use Rattle.std.proofs.lemmas.Bool.{cases_lt}
@@ -9,7 +9,7 @@ use Rattle.fax_bits.proofs.BitsLemmas.{bits_of-nil, bits_of-cons, length-bits_of
 use Rattle.fax_runcodes.specs.declared.format.Coding.{Coding}
 use Rattle.fax_runcodes.specs.declared.format.Coding.TheVariants.{Mh, Mr}
 use Rattle.fax_pagestore.specs.PageTexts.{end_of_line, IsTag, IsSeparator, IsFront}
-use Rattle.fax_pagestore.specs.Ends.{HoldsEol}
+use Rattle.fax_pagestore.specs.Ends.{HoldsEol, CountsNot}
 
 -- ---- zeros
 
@@ -152,6 +152,38 @@ NoEol-turn octets place behind some inside fits h nonzero wide =
 -- nothing stands behind all octets
 pub NoEol-end : (octets : List ℕ) → NoEol (drop (length octets) octets) 255
 NoEol-end octets = subst (λ (os : List ℕ). NoEol os 255) (sym (drop-length octets)) NoEol-nil
+
+-- the same of the last octet
+pub NoEol-last : (octets : List ℕ) → ((i : ℕ) → get_or octets i 0 < 256) → 0 < length octets → 0 < get_or octets (length octets - 1) 0
+    → NoEol (drop (length octets - 1) octets) (get_or octets (length octets - 1) 0)
+NoEol-last octets fits some last = NoEol-turn octets (length octets) 255 some (omega arith) fits (NoEol-end octets) last (λ half. omega arith)
+
+-- one octet before a place
+pub NoEol-before : (octets : List ℕ) (place : ℕ) → 0 < place → place < length octets → ((i : ℕ) → get_or octets i 0 < 256) → NoEol (drop place octets) (get_or octets place 0)
+    → CountsNot (get_or octets (place - 1) 0) (get_or octets (place - 1 + 1) 0) → NoEol (drop (place - 1) octets) (get_or octets (place - 1) 0)
+NoEol-before octets place some inside fits h not =
+    let same : get_or octets (place - 1 + 1) 0 ≡ get_or octets place 0 = ap (λ i. get_or octets i 0) (omega arith) in
+    NoEol-turn octets place (get_or octets place 0) some (omega arith) fits h not.0 (λ half. omega (arith, not.1 half, same))
+
+-- many
+pub NoEol-block : (octets : List ℕ) (first : ℕ) (n : ℕ) → ((i : ℕ) → get_or octets i 0 < 256) → first + n < length octets
+    → ((i : ℕ) → first ≤ i → i < first + n → CountsNot (get_or octets i 0) (get_or octets (i + 1) 0))
+    → NoEol (drop (first + n) octets) (get_or octets (first + n) 0) → NoEol (drop first octets) (get_or octets first 0)
+NoEol-block octets first zero fits inside not h = subst (λ (i : ℕ). NoEol (drop i octets) (get_or octets i 0)) (omega arith) h
+NoEol-block octets first (suc n) fits inside not h =
+    let back : first + suc n - 1 ≡ first + n = omega arith in
+    let here : NoEol (drop (first + suc n - 1) octets) (get_or octets (first + suc n - 1) 0) =
+    NoEol-before octets (first + suc n) (omega arith) inside fits h (not (first + suc n - 1) (omega arith) (omega arith)) in
+    NoEol-block octets first n fits (omega arith) (λ i from below. not i from (omega arith)) (subst (λ (i : ℕ). NoEol (drop i octets) (get_or octets i 0)) back here)
+
+-- what it says where a place is known
+pub NoEol-at : (octets : List ℕ) (place : ℕ) → place < length octets → 0 < get_or octets place 0 → (HoldsEol (drop (8 * place) (bits_of octets)) → ⊥)
+    → NoEol (drop place octets) (get_or octets place 0)
+NoEol-at octets place inside some none = record {
+  first_is = sym (ap (λ os. get_or os 0 255) (drop_more octets place 0 inside));
+  some = some;
+  none = λ holds. none (subst HoldsEol (sym (drop-bits_of place octets (omega arith))) holds);
+}
 
 -- what it says of the bits behind a place
 pub none_behind : (octets : List ℕ) (place from first : ℕ) → place ≤ length octets → from ≡ place → NoEol (drop place octets) first → HoldsEol (drop (8 * from) (bits_of octets)) → ⊥

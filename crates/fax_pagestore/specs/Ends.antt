@@ -1,5 +1,5 @@
 -- Where an EOL stands in bits (ITU-T T.4, 4.1.2).
-use Rattle.std.specs.Prelude.{◌≡◌, ◌≤◌, Bool, List, ◌++◌, length}
+use Rattle.std.specs.Prelude.{ℕ, ◌≡◌, ◌<◌, ◌≤◌, ◌%◌, Bool, List, ◌++◌, length}
 use Rattle.fax_runcodes.specs.declared.format.Coding.{Coding}
 use Rattle.fax_pagestore.specs.PageTexts.{end_of_line, IsTag}
 
@@ -14,3 +14,8 @@ HoldsNoTaggedEol coding bits = (tag : Bool) (before tag_text rest : List Bool) �
 -- in bits no EOL begins before those that are left, whatever follows
 abbrev pub BeginNoEol : (before left : List Bool) → Type 0
 BeginNoEol before left = (more front rest : List Bool) → before ++ (left ++ more) ≡ front ++ (end_of_line ++ rest) → length before ≤ length front
+
+-- An octet is not 0, nor do four zeros at its end stand before four zeros of the octet behind. Of 11 zeros in a row some have one
+-- or the other (ITU-T T.4, 4.1.2).
+abbrev pub CountsNot : (octet behind : ℕ) → Type 0
+CountsNot octet behind = (0 < octet) × (octet % 16 ≡ 0 → 16 ≤ behind)

@@ -1,13 +1,16 @@
 //! Where in octets no EOL stands.
-ghost use Rattle.std.specs.Prelude.{◌*◌, ◌≤◌, drop, length};
+ghost use Rattle.std.specs.Prelude.{ℕ, ◌≡◌, ◌<◌, ◌≤◌, ◌+◌, ◌-◌, ◌*◌, IsTrue, false, drop, get_or, length};
 ghost use Rattle.fax_bits.specs.Bits.{bits_of};
-ghost use Rattle.fax_pagestore.specs.Ends.{HoldsEol};
+ghost use Rattle.fax_pagestore.specs.Ends.{HoldsEol, CountsNot};
 
 #[cfg(test)]
 mod tests;
 
 /// Four zeros are the low half of an octet that this divides, and the high half of one below this.
 const HALF: u8 = 16;
+
+/// How many octets are looked at side by side.
+const BLOCK: usize = 16;
 
 /// From which octet on, at this one or behind it, no EOL stands in octets. It may be a later one than need
 /// be: an octet of zeros counts as an EOL, and so do two half octets of zeros side by side in two octets,
@@ -17,14 +20,48 @@ pub(crate) fn behind_eols(octets: &[u8], from: usize) -> usize
     ensures within { (from ≤ result) × (result ≤ length octets.now) }
     ensures none { HoldsEol (drop (8 * result) (bits_of octets.now)) → ⊥ }
 {
-    // the octet behind, and where there is none, one without zeros
-    let mut behind = u8::MAX;
-    for place in (from..octets.len()).rev() {
-        let octet = octets[place];
-        if octet % HALF == 0 && (octet == 0 || behind < HALF) {
+    let len = octets.len();
+    if from == len || octets[len - 1] == 0 {
+        return len;
+    }
+    for place in (from..behind_blocks(octets, from)).rev() {
+        if counts(octets[place], octets[place + 1]) {
             return place + 1;
         }
-        behind = octet;
     }
     from
+}
+
+/// The place of the last octet, or of one so many whole blocks before it that none of them has an EOL.
+fn behind_blocks(octets: &[u8], from: usize) -> usize
+    requires from { from < length octets.now }
+    requires last { 0 < get_or octets.now (length octets.now - 1) 0 }
+    ensures within { (from ≤ result) × (result < length octets.now) }
+    ensures none { HoldsEol (drop (8 * result) (bits_of octets.now)) → ⊥ }
+    ensures some { 0 < get_or octets.now result 0 }
+{
+    let mut place = octets.len() - 1;
+    while place - from >= BLOCK && block_is_clear(octets, place - BLOCK) {
+        place -= BLOCK;
+    }
+    place
+}
+
+/// Whether none of the octets of the block that begins here counts as an EOL, all looked at side by side.
+fn block_is_clear(octets: &[u8], first: usize) -> bool
+    requires { first + 16 < length octets.now }
+    ensures { IsTrue result → (i : ℕ) → first ≤ i → i < first + 16 → CountsNot (get_or octets.now i 0) (get_or octets.now (i + 1) 0) }
+{
+    let mut found = false;
+    for place in first..first + BLOCK {
+        found |= counts(octets[place], octets[place + 1]);
+    }
+    !found
+}
+
+/// Whether an octet counts as an EOL, before this one.
+fn counts(octet: u8, behind: u8) -> bool
+    ensures { result ≡ false → CountsNot octet behind }
+{
+    (octet % HALF == 0) & ((octet == 0) | (behind < HALF))
 }

@@ -38,3 +38,18 @@ fn no_eol_stands_behind(rt: HostRuntime) {
         assert_eq!(rt; behind_eols(octets, from), place, "{octets:?} from {from}");
     }
 }
+
+/// Among many octets, which are looked at in blocks, an EOL is found at each place.
+#[test]
+fn an_eol_is_found_at_each_place(rt: HostRuntime) {
+    for place in 0..59 {
+        let mut octets = [0x55; 60];
+        octets[place] = 0b1111_0000;
+        octets[place + 1] = 0b0000_0001;
+        assert_eq!(rt; behind_eols(&octets, 0), place + 1);
+        assert_eq!(rt; behind_eols(&octets, place), place + 1);
+        assert_eq!(rt; behind_eols(&octets, place + 1), place + 1);
+    }
+    assert_eq!(rt; behind_eols(&[0x55; 60], 0), 0);
+    assert_eq!(rt; behind_eols(&[0x50; 60], 7), 7);
+}

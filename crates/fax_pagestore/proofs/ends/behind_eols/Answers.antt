@@ -1,27 +1,20 @@
-use Rattle.std.proofs.Common.{◌≡◌, ℕ, ◌+◌, ◌-◌, ◌%◌, ◌<◌, ◌≤◌, get_or, arith}
-use Rattle.fax_pagestore.proofs.EndsLemmas.{NoEol-end, NoEol-turn, none_behind}
+use Rattle.std.proofs.Common.{◌+◌, ◌-◌, get_or, length, refl, arith}
+use Rattle.fax_pagestore.proofs.EndsLemmas.{NoEol-end, NoEol-at, NoEol-before, none_behind}
 use Rattle.fax_pagestore.proofs.ends.behind_eols.Goals as goal
-use Rattle.fax_pagestore.proofs.ends.behind_eols.Goals.{else-octet-eq0-via-then-octet-eq0+else-behind-lt-HALF, then-octet-eq0-2, else-octet-eq0-2, else-octet-eq0-via-else-octet-eq0}
 
 pub loop-place-init : goal.loop-place-init
-loop-place-init c = (c.requires, NoEol-end c.args.octets.now)
+loop-place-init c = (omega (arith, c.behind_blocks-place.ensures.within), omega (arith, c.behind_blocks-place.ensures.within), NoEol-at c.args.octets.now c.behind_blocks-place.result (omega (arith, c.behind_blocks-place.ensures.within)) c.behind_blocks-place.ensures.some c.behind_blocks-place.ensures.none)
 
-pub returns-then-behind-lt-HALF-clause-none : goal.returns-then-behind-lt-HALF-clause-none
-returns-then-behind-lt-HALF-clause-none c =
-    none_behind c.args.octets.now c.loop-place.place (c.loop-place.place - 1 + 1) c.loop-place.behind (omega arith) (omega arith) c.loop-place.invariant.1
+pub returns-then-from-len-clause-none : goal.returns-then-from-len-clause-none
+returns-then-from-len-clause-none c = none_behind c.args.octets.now (length c.args.octets.now) (length c.args.octets.now) 255 (omega arith) (omega arith) (NoEol-end c.args.octets.now)
+
+pub returns-then-counts-clause-none : goal.returns-then-counts-clause-none
+returns-then-counts-clause-none c =
+    none_behind c.args.octets.now c.loop-place.place (c.loop-place.place - 1 + 1) (get_or c.args.octets.now c.loop-place.place 0) (omega arith) (omega arith) c.loop-place.invariant.2
 
 pub loop-place-preserved : goal.loop-place-preserved
-loop-place-preserved c =
-    let octet : ℕ = get_or c.args.octets.now (c.loop-place.place - 1) 0 in
-    let apart : (0 < octet) × (octet % 16 ≡ 0 → 16 ≤ c.loop-place.behind) = elim c.else-octet-eq0.branch [
-      | else-octet-eq0-via-then-octet-eq0+else-behind-lt-HALF w ↦ elim w.if-octet-eq0-2.branch [
-        | then-octet-eq0-2 v ↦ (omega arith, λ half. omega arith)
-        | else-octet-eq0-2 v ↦ (omega arith, λ half. omega arith)
-      ]
-      | else-octet-eq0-via-else-octet-eq0 w ↦ (omega arith, λ half. omega arith)
-    ] in
-    (omega arith, NoEol-turn c.args.octets.now c.loop-place.place c.loop-place.behind (omega arith) (omega arith) (λ i. omega (arith, c.type_inv.octets i)) c.loop-place.invariant.1 apart.0 apart.1)
+loop-place-preserved c = (omega arith, omega arith, NoEol-before c.args.octets.now c.loop-place.place (omega arith) (omega (arith, c.loop-place.invariant.1)) (λ i. omega (arith, c.type_inv.octets i)) c.loop-place.invariant.2 (c.if-counts.ensures refl))
 
 pub returns-clause-none : goal.returns-clause-none
 returns-clause-none c =
-    none_behind c.args.octets.now c.loop-place.place c.args.from c.loop-place.behind (omega arith) (omega arith) c.loop-place.invariant.1
+    none_behind c.args.octets.now c.loop-place.place c.args.from (get_or c.args.octets.now c.loop-place.place 0) (omega arith) (omega arith) c.loop-place.invariant.2
