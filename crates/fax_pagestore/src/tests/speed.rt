@@ -15,6 +15,9 @@ const FORMAT: Format = Format {
     fine: true,
 };
 
+/// How often a page is read, or written, in each way; the least time counts.
+const ROUNDS: usize = 400;
+
 /// What is timed.
 #[derive(Clone, Copy, Debug)]
 enum Work {
@@ -58,8 +61,8 @@ fn write_in(
     Ok(())
 }
 
-/// The least nanoseconds of processor time of 40 reads or writes.
-fn least_time(
+/// The nanoseconds of processor time of one read or write.
+fn time_of(
     rt: &HostRuntime,
     work: Work,
     page: &Page<PackedRows>,
@@ -67,34 +70,35 @@ fn least_time(
     cut: Option<usize>,
     coding: Coding,
 ) -> Result<u128, Fail> {
-    let mut least = u128::MAX;
-    for _ in 0..40 {
-        let start = rt.thread_cpu_time()?.as_nanos();
-        match work {
-            Work::Read => drop(read_in(rt.alloc(), octets, cut, coding)?),
-            Work::Write => write_in(rt.alloc(), page, octets, cut, coding)?,
-        }
-        let end = rt.thread_cpu_time()?.as_nanos();
-        least = least.min(end.saturating_sub(start));
+    let start = rt.thread_cpu_time()?.as_nanos();
+    match work {
+        Work::Read => drop(read_in(rt.alloc(), octets, cut, coding)?),
+        Work::Write => write_in(rt.alloc(), page, octets, cut, coding)?,
     }
-    Ok(least)
+    let end = rt.thread_cpu_time()?.as_nanos();
+    Ok(end.saturating_sub(start))
 }
 
-/// Prints how long it takes in pieces, in per cent of what it takes as a whole.
+/// Prints how long it takes in pieces and as a whole. The two take turns, so that what slows the machine for a while
+/// slows both.
 fn print_times(
     rt: &HostRuntime,
     work: Work,
     page: &Page<PackedRows>,
     coding: Coding,
+    cut: usize,
 ) -> Result<(), Fail> {
     let octets = write_page(rt.alloc(), page, coding, 0)?;
-    let whole = least_time(rt, work, page, octets.as_slice(), None, coding)?;
-    println!(rt; "{work:?} {coding:?}, whole: {} microseconds", whole / 1000)?;
-    for cut in [300, 100, 7, 1] {
-        let pieces = least_time(rt, work, page, octets.as_slice(), Some(cut), coding)?;
-        let percent = pieces.saturating_mul(100) / whole.max(1);
-        println!(rt; "{work:?} {coding:?}, pieces of {cut} octets: {percent} per cent of that")?;
+    let (mut whole, mut pieces) = (u128::MAX, u128::MAX);
+    for _ in 0..ROUNDS {
+        whole = whole.min(time_of(rt, work, page, octets.as_slice(), None, coding)?);
+        pieces = pieces.min(time_of(rt, work, page, octets.as_slice(), Some(cut), coding)?);
     }
+    let percent = pieces.saturating_mul(100) / whole.max(1);
+    println!(rt;
+        "{work:?} {coding:?}: whole {} microseconds, in pieces of {cut} octets {percent} per cent of that",
+        whole / 1000
+    )?;
     Ok(())
 }
 
@@ -106,8 +110,11 @@ fn times_pieces(rt: HostRuntime) -> Result<(), Fail> {
     let text = fs::read(&rt, path.as_str())?;
     let page: Page<PackedRows> = read_page(rt.alloc(), text.as_slice(), FORMAT, Coding::Mr)?;
     for coding in [Coding::Mh, Coding::Mr] {
-        print_times(&rt, Work::Read, &page, coding)?;
-        print_times(&rt, Work::Write, &page, coding)?;
+        for work in [Work::Read, Work::Write] {
+            for cut in [300, 100, 7, 1] {
+                print_times(&rt, work, &page, coding, cut)?;
+            }
+        }
     }
     Ok(())
 }
