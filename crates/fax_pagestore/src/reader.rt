@@ -10,6 +10,9 @@ ghost use Rattle.fax_pagestore.specs.PageFaults.{FailsPage, FailsRow, LineBegins
 ghost use Rattle.fax_pagestore.specs.Ends.{HoldsEol, HoldsNoTaggedEol};
 ghost use Rattle.fax_pagestore.specs.Readers.{ReadsOne, BeginsRow, IsReadUpTo, NoMoreIsWhole, AreJudged, StaysBad, fault_of};
 
+#[cfg(test)]
+mod tests;
+
 use crate::ends::behind_eols;
 use crate::reading::{
     Ahead, Ending, MOST_ROWS, line_ahead, line_begins, pass_front, pass_return_to_control,
