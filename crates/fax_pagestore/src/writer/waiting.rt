@@ -7,6 +7,10 @@ use fax_bits::{BitWriter, NoMemory, Octets};
 use std::alloc::Global;
 use std::marker::Model;
 
+/// For how many octets room is made behind the bits that wait: for a line of text, and a packet of lines. A longer
+/// line makes its own.
+const ROOM: usize = 512;
+
 /// Bits in order. Those in front that were given are kept until more bits are written.
 #[derive(Drop)]
 pub(super) struct Waiting {
@@ -61,15 +65,17 @@ impl Waiting {
         self.bits
     }
 
-    /// A writer of the same bits.
+    /// A writer of the same bits, with room for a line of text.
     pub fn to_writer(&self) -> Result<BitWriter, NoMemory>
         ensures { IfOk result (λ writer. writer ≡ self.now) }
     {
         let octets = &self.octets[self.given..];
         let mut writer = BitWriter::new(*self.octets.allocator());
+        let mut roomy = writer.take_with_room(octets.len() + ROOM)?;
         for octet in octets {
-            writer.put(u32::from(*octet), 8)?;
+            roomy.put(u32::from(*octet), 8);
         }
+        let mut writer = roomy.into_writer();
         writer.cut(self.bits);
         Ok(writer)
     }
