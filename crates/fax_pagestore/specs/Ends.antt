@@ -15,7 +15,7 @@ HoldsNoTaggedEol coding bits = (tag : Bool) (before tag_text rest : List Bool) �
 abbrev pub BeginNoEol : (before left : List Bool) → Type 0
 BeginNoEol before left = (more front rest : List Bool) → before ++ (left ++ more) ≡ front ++ (end_of_line ++ rest) → length before ≤ length front
 
--- An octet is not 0, nor do four zeros at its end stand before four zeros of the octet behind. Of 11 zeros in a row some have one
--- or the other (ITU-T T.4, 4.1.2).
+-- An octet does not count as an EOL, before this one: it is not 0, and where it ends with four zeros the octet behind does not
+-- begin with four. Each EOL has one that counts, wherever its 11 zeros begin (ITU-T T.4, 4.1.2).
 abbrev pub CountsNot : (octet behind : ℕ) → Type 0
 CountsNot octet behind = (0 < octet) × (octet % 16 ≡ 0 → 16 ≤ behind)
