@@ -2,7 +2,7 @@
 RT ?= rt
 PROGRAM = crates/faxgate/out/faxgate
 
-.PHONY: all test format memory bench interop tables
+.PHONY: all test wrong-bodies format memory bench interop tables
 
 # Proves and builds the program, and says where it lies.
 all:
@@ -12,6 +12,11 @@ all:
 # The merge gate: every proof from nothing, the wrong bodies, the tests, the stored run.
 test:
 	$(RT) ci
+
+# Tries every wrong body, those that the gate passes over too, many in one check, and tells which clause refuses each. With
+# CRATES="fax_bits fax_udptl" those of these crates alone. It wants Python 3.
+wrong-bodies:
+	tools/wrong-bodies $(CRATES)
 
 # Puts every crate into the layout of `rt fmt`, which the gate wants, and `rt check` does not ask for.
 format:
