@@ -1,4 +1,5 @@
 pub mod BlockLemmas
+pub mod Honest
 pub mod PacketLemmas
 pub mod SlotLemmas
 pub mod TakingLemmas

@@ -62,7 +62,7 @@ same_on d e earlier a (suc n) h =
     ap (λ (o : Option (Option (List ℕ))). cons_option o (filter_map (decision (d ∷ e ∷ earlier)) (integers_from (a + 1) n))) (slot_stays d e earlier a (omega arith))
     ∙ ap (cons_option (decision (e ∷ earlier) a)) (same_on d e earlier (a + 1) n (omega arith))
 
-first_is_near : (e : DatagramValue) (earlier : List DatagramValue) → first_slot (e ∷ earlier) ≤ greatest (e ∷ earlier) + 1
+pub first_is_near : (e : DatagramValue) (earlier : List DatagramValue) → first_slot (e ∷ earlier) ≤ greatest (e ∷ earlier) + 1
 first_is_near e [] = omega arith
 first_is_near e (f ∷ earlier) = let h : first_slot (f ∷ earlier) ≤ greatest (f ∷ earlier) + 1 = first_is_near f earlier in omega arith
 

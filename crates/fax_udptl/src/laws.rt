@@ -1,6 +1,7 @@
 //! Laws of the definitions: functions that do nothing, each of whose contracts is a theorem.
 ghost use Rattle.std.specs.Prelude.{[], ◌≡◌};
 ghost use Rattle.fax_udptl.specs.Laws.{NewestOfDecided, NewestSlotsGoOn, OneIntegerIsNearest, SlotsAreDecided, SlotsGoOn, WrittenIsRead};
+ghost use Rattle.fax_udptl.specs.Schedules.{SendersSendTheirList, SlotsAreAPart, SlotsAreSent};
 ghost use Rattle.fax_udptl.specs.Slots.{newest_slots};
 
 /// What is nearest to an expected integer agrees with the number modulo 65,536 and lies near, and nothing
@@ -34,4 +35,17 @@ pub fn decided_are_lost_then_packets()
 /// A written datagram is read as itself.
 pub fn written_is_read()
     ensures { WrittenIsRead }
+{}
+
+/// Over every honest schedule each slot that is decided is missing or is the sender's packet of its place, where all places
+/// are shifted by one multiple of 65,536; and the slots are a part of the sender's list, one place behind the other, from
+/// its first packet on where the first datagram reaches back to that.
+pub fn slots_are_sent()
+    ensures each { SlotsAreSent }
+    ensures in_a_row { SlotsAreAPart }
+{}
+
+/// The datagrams that a sender gives are those of its list of packets, each at its place.
+pub fn senders_send_their_list()
+    ensures { SendersSendTheirList }
 {}
