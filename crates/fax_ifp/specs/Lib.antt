@@ -7,6 +7,7 @@ pub mod Inside
 pub mod PacketLaws
 pub mod Packets
 pub mod Pieces
+pub mod Schedules
 pub mod Seen
 pub mod Shown
 pub mod SignalLaws

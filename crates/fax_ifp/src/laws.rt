@@ -1,6 +1,7 @@
 //! Laws of the definitions: functions that do nothing, each of whose contracts is a theorem.
 ghost use Rattle.fax_ifp.specs.CodeLaws.{IndicatorsStandAtTheirCodes, DataTypesStandAtTheirCodes, FieldTypesStandAtTheirCodes, IndicatorsHaveOneCode, DataTypesHaveOneCode, FieldTypesHaveOneCode, TrainingsAreIndicators, KindsAreDataTypes, TrainingsTrain, TrainingsBeginTheirData};
 ghost use Rattle.fax_ifp.specs.PacketLaws.{IndicatorsAreReadBack, MessagesAreReadBack, OctetsBehindAreNotRead, IndicatorsHaveOneOctet, FramesHaveSixMore, ImagesHaveFiveMore};
+ghost use Rattle.fax_ifp.specs.Schedules.{ImagesAreSignals};
 ghost use Rattle.fax_ifp.specs.SignalLaws.{PiecesGoOn, LostSlotsAreGaps, ExtensionsSayNothing, TrackedIsUnique, ImageOctetsArePieces, StartedIsAnOctet};
 
 /// Each indicator, type of data and type of a field stands at its code, and nowhere else.
@@ -72,4 +73,10 @@ pub fn image_octets_are_pieces()
 /// Of the image that is open it is kept whether it has an octet.
 pub fn started_is_an_octet()
     ensures { StartedIsAnOctet }
+{}
+
+/// Of the packets of one sender, some lost, each whole image that is heard is one image signal of the list, octet for octet,
+/// and those of later images stand at later places.
+pub fn images_are_signals()
+    ensures { ImagesAreSignals }
 {}
