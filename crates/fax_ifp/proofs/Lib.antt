@@ -5,6 +5,7 @@ pub mod ImageLaws
 pub mod ReadBackLemmas
 pub mod ReadingLemmas
 pub mod SeenLemmas
+pub mod SentFrames
 pub mod SentSignals
 pub mod SignalsLemmas
 pub mod SlotLaws

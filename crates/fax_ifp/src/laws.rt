@@ -1,7 +1,7 @@
 //! Laws of the definitions: functions that do nothing, each of whose contracts is a theorem.
 ghost use Rattle.fax_ifp.specs.CodeLaws.{IndicatorsStandAtTheirCodes, DataTypesStandAtTheirCodes, FieldTypesStandAtTheirCodes, IndicatorsHaveOneCode, DataTypesHaveOneCode, FieldTypesHaveOneCode, TrainingsAreIndicators, KindsAreDataTypes, TrainingsTrain, TrainingsBeginTheirData};
 ghost use Rattle.fax_ifp.specs.PacketLaws.{IndicatorsAreReadBack, MessagesAreReadBack, OctetsBehindAreNotRead, IndicatorsHaveOneOctet, FramesHaveSixMore, ImagesHaveFiveMore};
-ghost use Rattle.fax_ifp.specs.Schedules.{ImagesAreSignals};
+ghost use Rattle.fax_ifp.specs.Schedules.{FramesAreSent, ImagesAreSignals};
 ghost use Rattle.fax_ifp.specs.SignalLaws.{PiecesGoOn, LostSlotsAreGaps, ExtensionsSayNothing, TrackedIsUnique, ImageOctetsArePieces, StartedIsAnOctet};
 
 /// Each indicator, type of data and type of a field stands at its code, and nowhere else.
@@ -79,4 +79,10 @@ pub fn started_is_an_octet()
 /// and those of later images stand at later places.
 pub fn images_are_signals()
     ensures { ImagesAreSignals }
+{}
+
+/// Of the packets of one sender, some lost, each frame that is heard is one of the list, where the slots begin at the first
+/// packet of the list or each packet can be read and, as V.21 data, ends at a boundary.
+pub fn frames_are_sent()
+    ensures { FramesAreSent }
 {}
