@@ -12,3 +12,5 @@ mod ReachedLemmas
 pub mod Readings
 pub mod Rests
 mod SlotsLemmas
+pub mod Accepted
+pub mod Rising

@@ -12,3 +12,4 @@ pub mod Kept
 pub mod Reached
 pub mod Shown
 pub mod Readings
+pub mod Sent

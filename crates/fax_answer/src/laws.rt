@@ -3,6 +3,7 @@
 ghost use Rattle.fax_answer.specs.Confirmation.{GivesConfirmations, EachMcfAnswers};
 ghost use Rattle.fax_answer.specs.Judging.{RefusesNoPage, JudgesExactly};
 ghost use Rattle.fax_answer.specs.Readings.{ReadingsJoin, CallsAreRead, CallsGoOn};
+ghost use Rattle.fax_answer.specs.Sent.{ConfirmsSignals, ConfirmsWhatItAccepted};
 
 /// Each tick that gives a confirmed page gives the MCF frame as its packet, at the last command that was answered: a
 /// command behind exactly one image since the last CFR or MCF, which is whole, with neither a missing slot nor a
@@ -41,4 +42,15 @@ pub fn calls_are_read()
 /// A call goes on, whatever comes.
 pub fn calls_go_on()
     ensures { CallsGoOn }
+{}
+
+/// Of the packets of one sender, some lost, each page for which MCF is given is what one image signal of the list means under
+/// the DCS that the last CFR answered; the signals of later pages stand at later places, and no page is joined of two.
+pub fn confirms_signals()
+    ensures { ConfirmsSignals }
+{}
+
+/// The pages that ticks confirm are those for which MCF was decided, in their order, but for one that may wait.
+pub fn confirms_what_it_accepted()
+    ensures { ConfirmsWhatItAccepted }
 {}
