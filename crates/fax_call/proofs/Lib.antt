@@ -1,11 +1,9 @@
 mod Answered
-pub mod Emitted
 mod Examples
 mod FollowingLemmas
 mod GivingLemmas
 mod HearingLemmas
 mod KeptLemmas
-pub mod Lacking
 mod Numbered
 mod PacketLemmas
 mod PacketsBack
@@ -14,7 +12,10 @@ mod Paged
 mod Refusals
 mod Tally
 mod TextLemmas
-pub mod Texts
-pub mod Told
 mod Unanswered
 mod Waiting
+pub mod ClosedPackets
+pub mod Emitted
+pub mod Lacking
+pub mod Texts
+pub mod Told

@@ -1,5 +1,5 @@
 -- The packets of the calling side are short.
-use Rattle.std.proofs.Common.{◌≡◌, ℕ, ◌-◌, ◌/◌, ◌<◌, ◌≤◌, Bool, true, false, nat_le, List, [], ◌++◌, length, take, replicate, Option, Some, None, IfSome, refl, sym, ap, subst, arith, length-take, if◌then◌else◌}
+use Rattle.std.proofs.Common.{◌≡◌, ℕ, ◌-◌, ◌/◌, ◌≤◌, Bool, true, false, nat_le, List, [], ◌++◌, length, take, replicate, Option, Some, IfSome, refl, sym, ap, subst, arith, length-take, if◌then◌else◌}
 use Rattle.std.proofs.lemmas.List.{append-nil, length-replicate}
 use Rattle.fax_frames.specs.declared.dcs.Dcs.{Dcs}
 use Rattle.fax_frames.specs.declared.rate.Rate.{Rate}
@@ -9,7 +9,6 @@ use Rattle.fax_ifp.specs.WrittenPackets.{written_behind}
 use Rattle.fax_call.specs.declared.pending.Message.TheVariants as messages
 use Rattle.fax_call.specs.declared.pending.Pending.{Pending}
 use Rattle.fax_call.specs.declared.pending.Pending.TheVariants.{Nothing, Tone, Preamble, Frame, Training, Check, Image, Text}
-use Rattle.fax_call.specs.Replies as replies
 use Rattle.fax_call.specs.Replies.{Packet, Part, written, part_length, check_length}
 use Rattle.fax_call.specs.Kept.{packet_of, check_part, text_part}
 

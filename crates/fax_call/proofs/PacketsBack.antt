@@ -34,7 +34,7 @@ frame_back frame some few =
       each = All-from_recursion IsWritableField (frame_fields frame) (record { what = omega arith; octets = (some, omega arith) }, (record { what = omega arith; octets = tt }, tt));
     }))
 
-known_kind : (rate : Rate) → kind_of rate ≤ 8
+pub known_kind : (rate : Rate) → kind_of rate ≤ 8
 known_kind V27At2400 = omega arith
 known_kind V27At4800 = omega arith
 known_kind V29At7200 = omega arith

@@ -9,3 +9,4 @@ pub mod Refusals
 pub mod Replies
 pub mod Table
 pub mod Writings
+pub mod Given

@@ -2,6 +2,7 @@
 //! over one unchanged job, whatever the called machine answers.
 ghost use Rattle.fax_call.specs.Delivery.{TellsWhatWasAnswered};
 ghost use Rattle.fax_call.specs.Emission.{EmitsThePages};
+ghost use Rattle.fax_call.specs.Given.{GivesClosedPackets};
 ghost use Rattle.fax_call.specs.Numbers.{NumbersAreFixed};
 ghost use Rattle.fax_call.specs.Refusals.{EndsByRefusal, NoneIsLacking};
 ghost use Rattle.fax_call.specs.Writings.{PagesHaveTexts, TextsAreOne};
@@ -44,4 +45,10 @@ pub fn pages_have_texts()
 /// The text of a page is one.
 pub fn texts_are_one()
     ensures { TextsAreOne }
+{}
+
+/// Each packet that is given can be read, and one of V.21 data ends at a boundary: who hears some of them hears no frame but
+/// those that were given.
+pub fn gives_closed_packets()
+    ensures { GivesClosedPackets }
 {}
