@@ -12,6 +12,7 @@ mod IdleLegs
 mod InCalls
 mod LegsRead
 mod McfAnswers
+mod OfTheirCalls
 mod Replied
 mod Reporting
 mod ServedAlone
@@ -20,4 +21,4 @@ mod States
 mod Steps
 mod Ticking
 mod WholeCall
-mod OfTheirCalls
+pub mod SentPages

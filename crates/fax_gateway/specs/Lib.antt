@@ -18,3 +18,4 @@ pub mod Sides
 pub mod Told
 pub mod Traces
 pub mod Wires
+pub mod Sent

@@ -9,6 +9,7 @@ ghost use Rattle.fax_gateway.specs.Lacking.{NoneIsLacking};
 ghost use Rattle.fax_gateway.specs.Origins.{JobsAreOfTheirCalls};
 ghost use Rattle.fax_gateway.specs.Reports.{JobsHaveStates};
 ghost use Rattle.fax_gateway.specs.ReportsTold.{ReportsTheJob};
+ghost use Rattle.fax_gateway.specs.Sent.{ConfirmsSignals, HearsSentFrames};
 
 /// Whatever comes: each image that a tick ends on the called leg is a page of the job that is being sent, under the DCS that
 /// was given before it, format included. That page was confirmed at an earlier tick: there the calling leg was given the
@@ -74,4 +75,17 @@ pub fn none_is_lacking()
 /// ticks, whatever the called leg brings.
 pub fn calling_leg_is_served_alone()
     ensures { IsServedAlone }
+{}
+
+/// Over every honest schedule of a call, whatever is lost, repeated or comes out of order: each page for which it gives MCF is
+/// what one image signal of the sender means under the DCS that the last CFR answered, so that no page is joined of two; and
+/// the signals of later pages were sent later.
+pub fn confirms_signals()
+    ensures { ConfirmsSignals }
+{}
+
+/// Over every honest schedule of a call that begins at the sender's first packet, or of packets that each can be read and end
+/// at a frame's end, each frame that the call hears is a frame that was sent.
+pub fn hears_sent_frames()
+    ensures { HearsSentFrames }
 {}
