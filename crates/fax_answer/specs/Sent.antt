@@ -1,13 +1,14 @@
 -- What is confirmed of a call into which the packets of one sender come, some of them lost: image signals of its list, in
 -- their order. (ITU-T T.30, phases C and D.) A history and what was heard have the newest first.
 use Rattle.std.specs.Prelude.{◌≡◌, ℕ, ◌<◌, List, [], ◌∷◌, ◌++◌, length, reverse, Option, Some, None}
+use Rattle.fax_bits.specs.Losses.{AreSlotsBefore}
 use Rattle.fax_frames.specs.declared.dcs.Dcs.{Dcs}
 use Rattle.fax_frames.specs.Capabilities.{format_of, coding_of}
 use Rattle.fax_pagestore.specs.Pages.{PageValue}
 use Rattle.fax_pagestore.specs.PageTexts.{MeansPage}
 use Rattle.fax_ifp.specs.Elements.{Slot}
 use Rattle.fax_ifp.specs.Pieces.{Piece, pieces}
-use Rattle.fax_ifp.specs.Schedules.{AreSlotsBefore, signal_at}
+use Rattle.fax_ifp.specs.Schedules.{signal_at}
 use Rattle.fax_answer.specs.History.{Entry, Decision, GivesMcf, last_image, answered_dcs}
 use Rattle.fax_answer.specs.Replies.{ConfirmedPage, Waiting}
 use Rattle.fax_answer.specs.Calls.{Answering, rung, ticked, CallEvent, Comes, Ticks, after_events}

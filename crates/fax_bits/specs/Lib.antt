@@ -1,4 +1,5 @@
 pub mod Bits
 pub mod Laws
+pub mod Losses
 pub mod Reading
 pub mod Writing

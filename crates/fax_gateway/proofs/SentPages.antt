@@ -5,13 +5,12 @@ use Rattle.std.proofs.lemmas.List.{reverse-append}
 use Rattle.fax_udptl.specs.declared.fault.UdptlFault.{UdptlFault}
 use Rattle.fax_udptl.specs.Datagrams.{DatagramValue, datagram_of}
 use Rattle.fax_udptl.specs.Slots.{slots, newest_slots}
-use Rattle.fax_udptl.specs.Schedules as udptl
 use Rattle.fax_udptl.specs.Schedules.{Arrival, datagrams, IsHonest, BeginsAtFirst, ArePartOf}
 use Rattle.fax_udptl.proofs.SlotLemmas.{decided_now, slots_go_on}
 use Rattle.fax_udptl.proofs.Honest.{slots_are_a_part}
 use Rattle.fax_ifp.specs.Elements.{Slot}
 use Rattle.fax_ifp.specs.Pieces.{Piece, pieces}
-use Rattle.fax_ifp.specs.Schedules.{AreSlotsBefore, AreClosed}
+use Rattle.fax_ifp.specs.Schedules.{AreClosed}
 use Rattle.fax_ifp.proofs.SlotLaws.{pieces_go_on}
 use Rattle.fax_ifp.proofs.SentSignals.{onto, onto_both}
 use Rattle.fax_ifp.proofs.SentFrames.{Has, has_onto, contained, contains, frames_are_sent}
@@ -94,11 +93,6 @@ pub leg_heard_so : (trace : List Event) (l : CallingLeg) → calling_leg trace �
 leg_heard_so trace l is = subst HeardSo is (heard_so trace)
 
 -- OVER AN HONEST SCHEDULE
-same_part : (packets : List (List ℕ)) (next : ℕ) (ss : List Slot) → udptl.AreSlotsBefore packets next ss → AreSlotsBefore packets next ss
-same_part packets next [] h = tt
-same_part packets zero (s ∷ ss) h = absurd h
-same_part packets (suc place) (s ∷ ss) h = (h.0, same_part packets place ss h.1)
-
 later_bound : (packets : List (List ℕ)) (h : List Entry) (b c : ℕ) → b ≤ c → Rises packets h b → Rises packets h c
 later_bound packets [] b c l r = tt
 later_bound packets (e ∷ h) b c l r = by (λ x. later_bound packets h b c l x) (page_accepted e.decision) r
@@ -113,7 +107,7 @@ leg_confirms_signals writes trace l packets arrivals t is honest arrived =
     let heard : pieces_heard (core_of l).history ≡ reverse (pieces (newest_slots (datagrams arrivals))) =
     leg_heard_so trace l is ∙ ap (λ (ds : List DatagramValue). reverse (pieces (newest_slots ds))) arrived in
     later_bound packets (core_of l).history part.next (length packets) part.within
-    (confirms_signals l.before l.begun l.events packets part.next (newest_slots (datagrams arrivals)) (leg_is_read writes trace l t is) heard (same_part packets part.next (newest_slots (datagrams arrivals)) part.slots))
+    (confirms_signals l.before l.begun l.events packets part.next (newest_slots (datagrams arrivals)) (leg_is_read writes trace l t is) heard part.slots)
 
 or_whole : (packets : List (List ℕ)) (arrivals : List Arrival) (next n : ℕ) → (BeginsAtFirst arrivals → next ≡ n) → BeginsAtFirst arrivals ⊎ AreClosed packets → (next ≡ n) ⊎ AreClosed packets
 or_whole packets arrivals next n f (inl b) = inl (f b)
@@ -133,4 +127,4 @@ leg_hears_sent_frames writes trace l packets arrivals t is honest arrived w octe
     let heard : pieces_heard (core_of l).history ≡ reverse (pieces ss) =
     leg_heard_so trace l is ∙ ap (λ (ds : List DatagramValue). reverse (pieces (newest_slots ds))) arrived in
     let has : Has (pieces ss) octets = turned (pieces ss) octets (subst (λ (ps : List Piece). Has ps octets) heard (contained (pieces_heard (core_of l).history) octets c.0 c.1 c.2)) in
-    frames_are_sent packets part.next ss (same_part packets part.next ss part.slots) (or_whole packets arrivals part.next (length ss) part.whole w) octets (contains (pieces ss) octets has)
+    frames_are_sent packets part.next ss part.slots (or_whole packets arrivals part.next (length ss) part.whole w) octets (contains (pieces ss) octets has)

@@ -4,11 +4,12 @@ use Rattle.std.proofs.Common.{◌≡◌, ℕ, zero, suc, ◌<◌, Bool, true, fa
 use Rattle.std.specs.Prelude.{Contains}
 use Rattle.std.specs.List.{flat_map}
 use Rattle.std.proofs.lemmas.List.{map-append}
+use Rattle.fax_bits.specs.Losses.{IsPacketAt, AreSlotsBefore}
 use Rattle.fax_ifp.specs.declared.fault.IfpFault.{IfpFault}
 use Rattle.fax_ifp.specs.Packets.{FieldText, Packet, Indicator, Message, packet_of}
 use Rattle.fax_ifp.specs.Elements.{Slot, Element, Missing, Signal, Field, element_of, elements_in, elements_of, elements}
 use Rattle.fax_ifp.specs.Pieces.{Piece, Frame, Start, Image, is_image_field, open_image, is_boundary, is_hdlc_data, is_frame_end, has_octet, hdlc_since, frame_if, end_if, end_before, start_if, is_training, kind_of_training, octets_if, image_pieces, pieces_at, pieces_of, pieces}
-use Rattle.fax_ifp.specs.Schedules.{slots_of, IsPacketAt, AreSlotsBefore, ends_at_boundary, is_closed, AreClosed, FramesAreSent}
+use Rattle.fax_ifp.specs.Schedules.{slots_of, ends_at_boundary, is_closed, AreClosed, FramesAreSent}
 use Rattle.fax_ifp.proofs.SentSignals.{onto, onto_both, onto_is, back, back_is, elements_reversed}
 
 -- a frame is among these pieces

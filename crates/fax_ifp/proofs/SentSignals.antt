@@ -2,12 +2,13 @@
 use Rattle.std.proofs.Common.{◌≡◌, ℕ, zero, suc, ◌+◌, ◌-◌, ◌/◌, ◌<◌, ◌≤◌, Bool, true, false, not, ◌&&◌, ◌||◌, nat_eq, nat_lt, nat_le, List, [], ◌∷◌, ◌++◌, map, reverse, drop, length, Option, Some, None, Result, Ok, Err, ◌⊎◌, inl, inr, refl, sym, ◌∙◌, ap, subst, arith, if◌then◌else◌, slice_get, option_map, append_assoc, append-nil}
 use Rattle.std.specs.List.{list_any, list_all, flat_map}
 use mathlib.Core.List.{reverse_aux}
+use Rattle.fax_bits.specs.Losses.{IsPacketAt, AreSlotsBefore}
 use Rattle.fax_ifp.specs.declared.fault.IfpFault.{IfpFault}
 use Rattle.fax_ifp.specs.declared.fault.IfpFault.TheVariants.{Short, Extension, BadValue, BadCount, NoMemory}
 use Rattle.fax_ifp.specs.Packets.{FieldText, Packet, Indicator, Message, packet_of}
 use Rattle.fax_ifp.specs.Elements.{Slot, Element, Missing, Signal, Field, element_of, elements_in, elements_of, elements}
 use Rattle.fax_ifp.specs.Pieces.{Piece, Frame, Start, Octets, End, Gap, Since, Image, with_later, since_indicator, is_training, kind_of_training, is_image_field, is_image_part, is_image_octets, is_image_end, has_octet, image_of, image_since, open_image, is_frame_end, hdlc_since, frame_if, end_if, end_before, octets_if, image_pieces, pieces_at, pieces_of}
-use Rattle.fax_ifp.specs.Schedules.{IsPacketAt, AreSlotsBefore, octets_to_end, first_signal, is_training_alone, begins_signal, signal_at, octets_alone, AreSignals, ImagesAreSignals}
+use Rattle.fax_ifp.specs.Schedules.{octets_to_end, first_signal, is_training_alone, begins_signal, signal_at, octets_alone, AreSignals, ImagesAreSignals}
 
 abbrev pub onto : {A : Type 0} → List A → List A → List A
 onto xs ys = reverse_aux xs ys

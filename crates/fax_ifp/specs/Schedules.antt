@@ -2,6 +2,7 @@
 -- (ITU-T T.38; which images are whole, and what counts as missing, is this project's profile.)
 -- Lists of slots and pieces have the newest first, where nothing else is said; a sender's packets have the first sent first.
 use Rattle.std.specs.Prelude.{◌≡◌, ℕ, zero, suc, ◌<◌, ◌⊎◌, Bool, true, false, List, [], ◌∷◌, ◌++◌, map, reverse, drop, length, slice_get, Contains, Option, Some, None, option_map, Result, Ok, Err, if◌then◌else◌}
+use Rattle.fax_bits.specs.Losses.{AreSlotsBefore}
 use Rattle.fax_ifp.specs.declared.fault.IfpFault.{IfpFault}
 use Rattle.fax_ifp.specs.Packets.{FieldText, Packet, Indicator, Message, packet_of}
 use Rattle.fax_ifp.specs.Elements.{Slot, Element, Signal, elements_in}
@@ -10,16 +11,6 @@ use Rattle.fax_ifp.specs.Pieces.{Piece, Frame, Start, Octets, End, Gap, is_train
 -- the slots of packets of which none is lost
 abbrev pub slots_of : List (List ℕ) → List Slot
 slots_of packets = reverse (map Some packets)
-
--- a slot is missing, or it is the packet at a place
-abbrev pub IsPacketAt : List (List ℕ) → ℕ → Slot → Type 0
-IsPacketAt packets place slot = (slot ≡ None) ⊎ (slot ≡ slice_get packets place)
-
--- these slots are those of the places just before `next`, one behind the other
-abbrev pub AreSlotsBefore : List (List ℕ) → ℕ → List Slot → Type 0
-AreSlotsBefore packets next [] = Unit {0}
-AreSlotsBefore packets zero (slot ∷ before) = ⊥
-AreSlotsBefore packets (suc place) (slot ∷ before) = IsPacketAt packets place slot × AreSlotsBefore packets place before
 
 -- IMAGE SIGNALS. A training indicator begins one
 abbrev pub is_training_alone : List Element → Bool

@@ -4,9 +4,10 @@ use Rattle.std.specs.Prelude.{filter_map}
 use Rattle.std.specs.List.{cons_option}
 use mathlib.Core.List.{reverse_aux}
 use Rattle.std.proofs.lemmas.Option.{slice_get_within}
+use Rattle.fax_bits.specs.Losses.{IsPacketAt, AreSlotsBefore}
 use Rattle.fax_udptl.specs.Datagrams.{DatagramValue}
 use Rattle.fax_udptl.specs.Slots.{nearest, IsNearest, greatest, integer_after, said_of, decision, first_slot, integers_from, slots, newest_slots}
-use Rattle.fax_udptl.specs.Schedules.{IsSentAt, Arrival, datagrams, greatest_place, IsNear, IsHonest, BeginsAtFirst, IsPacketAt, IsShifted, SlotsAreSent, AreSlotsBefore, SlotsAreAPart, SendersSendTheirList}
+use Rattle.fax_udptl.specs.Schedules.{IsSentAt, Arrival, datagrams, greatest_place, IsNear, IsHonest, BeginsAtFirst, IsShifted, SlotsAreSent, SlotsAreAPart, SendersSendTheirList}
 use Rattle.fax_udptl.specs.Sending.{datagram_for}
 use Rattle.fax_udptl.proofs.SlotLemmas.{is_nearest, decided_below, first_is_near}
 

@@ -3,6 +3,7 @@
 -- project's profile.)
 -- Lists of what came have the newest first; the packets of a sender have the first sent first.
 use Rattle.std.specs.Prelude.{◌≡◌, ℕ, zero, suc, ◌+◌, ◌-◌, ◌*◌, ◌%◌, ◌<◌, ◌≤◌, ◌⊎◌, max, List, [], ◌∷◌, ◌++◌, length, reverse, slice_get, Option, Some, None}
+use Rattle.fax_bits.specs.Losses.{AreSlotsBefore}
 use Rattle.fax_udptl.specs.Datagrams.{DatagramValue}
 use Rattle.fax_udptl.specs.Sending.{datagram_for}
 use Rattle.fax_udptl.specs.Slots.{decision, newest_slots}
@@ -45,10 +46,6 @@ BeginsAtFirst [] = Unit {0}
 BeginsAtFirst (a ∷ []) = length a.datagram.secondaries ≡ a.place
 BeginsAtFirst (a ∷ b ∷ earlier) = BeginsAtFirst (b ∷ earlier)
 
--- a slot is missing, or it is the packet at a place
-abbrev pub IsPacketAt : List (List ℕ) → ℕ → Option (List ℕ) → Type 0
-IsPacketAt packets place slot = (slot ≡ None) ⊎ (slot ≡ slice_get packets place)
-
 -- Slot k is missing, or it is the sender's packet of a place: slots are counted from -65,536, and modulo 65,536 alone their
 -- numbers are those of the places, so that places are shifted by a multiple of it.
 pub record IsShifted (packets : List (List ℕ)) (multiple k : ℕ) (slot : Option (List ℕ)) : Type 0 where
@@ -63,12 +60,6 @@ SlotsAreSent =
     (packets : List (List ℕ)) (arrivals : List Arrival) → IsHonest packets arrivals
     → (multiple : ℕ)
     × ((k : ℕ) (slot : Option (List ℕ)) → decision (datagrams arrivals) k ≡ Some slot → (slot ≡ None) ⊎ IsShifted packets multiple k slot)
-
--- These slots, the newest first, are those of the places just before `next`, one behind the other.
-abbrev pub AreSlotsBefore : List (List ℕ) → ℕ → List (Option (List ℕ)) → Type 0
-AreSlotsBefore packets next [] = Unit {0}
-AreSlotsBefore packets zero (slot ∷ before) = ⊥
-AreSlotsBefore packets (suc place) (slot ∷ before) = IsPacketAt packets place slot × AreSlotsBefore packets place before
 
 -- the slots of a call are a part of the list, with losses; from its first packet on where the first datagram says so
 pub record ArePartOf (packets : List (List ℕ)) (arrivals : List Arrival) : Type 0 where
