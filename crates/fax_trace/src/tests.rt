@@ -5,6 +5,8 @@ use std::alloc::{AllocError, Global};
 use std::process::Abort;
 use std::test::Fail;
 
+mod schedules;
+
 /// A part of a script.
 #[derive(Clone, Copy)]
 enum Part {
