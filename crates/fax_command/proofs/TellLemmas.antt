@@ -84,6 +84,10 @@ TellRows-empty (line ∷ lines) (row ∷ rows) told none = absurd (omega arith)
 
 -- ---- their text
 
+-- the text of lines behind others
+pub text_of_lines-append : (lines more : List (List ℕ)) → text_of_lines (lines ++ more) ≡ text_of_lines lines ++ text_of_lines more
+text_of_lines-append lines more = flat_map-append (λ line. line ++ 10 ∷ []) lines more
+
 pub text_of_lines-push : (lines : List (List ℕ)) (line : List ℕ) → text_of_lines (lines ++ line ∷ []) ≡ text_of_lines lines ++ (line ++ 10 ∷ [])
 text_of_lines-push lines line =
     flat_map-append (λ l. l ++ 10 ∷ []) lines (line ∷ []) ∙ ap (λ text. text_of_lines lines ++ text) (append-nil (line ++ 10 ∷ []))

@@ -3,3 +3,4 @@ pub mod Cuts
 pub mod Jobs
 pub mod Outcomes
 pub mod Pasts
+pub mod ReportTexts

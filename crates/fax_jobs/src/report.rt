@@ -1,6 +1,7 @@
 //! What is told of a job that ended.
 use crate::Outcome;
 use fax_pagestore::Format;
+use std::fmt;
 
 /// What is told of a job that ended.
 #[derive(Clone, Copy, PartialEq, Eq, Debug)]
@@ -15,4 +16,29 @@ pub struct Report {
     pub delivered: u32,
     /// How it ended.
     pub outcome: Outcome,
+}
+
+/// Prints `job`, the number of the call, the width in elements, the resolution, the pages, how many of them were delivered, and
+/// how the job ended, with one space between.
+impl fmt::Display for Report {
+    ghost use Rattle.std.specs.Prelude.{Some};
+    ghost use Rattle.fax_jobs.specs.ReportTexts.{report_text};
+
+    ghost output = { λ report. Some (report_text report) };
+
+    fn fmt<W: fmt::Write>(&self, f: &mut fmt::Formatter<W>) -> fmt::Result {
+        let Report {
+            call,
+            format,
+            pages,
+            delivered,
+            outcome,
+        } = *self;
+        let width = format.width.elements();
+        let resolution = if format.fine { "fine" } else { "standard" };
+        write!(
+            f,
+            "job {call} {width} {resolution} {pages} {delivered} {outcome}"
+        )
+    }
 }

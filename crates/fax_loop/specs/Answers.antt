@@ -7,6 +7,7 @@ use Rattle.fax_pagestore.specs.PageTexts.{MeansRows}
 use Rattle.fax_jobs.specs.declared.outcome.Outcome.{Outcome as JobOutcome}
 use Rattle.fax_jobs.specs.declared.outcome.Outcome.TheVariants as job
 use Rattle.fax_jobs.specs.declared.report.Report.{Report}
+use Rattle.fax_jobs.specs.ReportTexts.{report_text}
 use Rattle.fax_call.specs.Writings.{IsWriting, Writing}
 use Rattle.fax_gateway.specs.Events.{Event}
 use Rattle.fax_gateway.specs.Sides.{book_of, sides}
@@ -16,7 +17,6 @@ use Rattle.fax_command.specs.declared.options.Output.TheVariants as output
 use Rattle.fax_command.specs.declared.options.PageOptions.{PageOptions}
 use Rattle.fax_command.specs.Answers.{IsHexOf, RefusesPage, fault_line, fault_status, row_width}
 use Rattle.fax_command.specs.RowLines.{TellRows, text_of_lines}
-use Rattle.fax_trace.specs.Told.{job_line}
 
 -- How the page is given: in rows of 1,728 elements, of the standard resolution, in one-dimensional lines.
 abbrev pub page_options : PageOptions
@@ -62,7 +62,7 @@ status_of (Refuses fault) = fault_status fault
 
 -- the line of the job, and of each row that is told; or that of the fault
 abbrev pub IsTextOf : Outcome → List ℕ → Type 0
-IsTextOf (Reports report rows) text = (lines : List (List ℕ)) × TellRows lines rows × (text ≡ text_of_lines (job_line report ∷ lines))
+IsTextOf (Reports report rows) text = (lines : List (List ℕ)) × TellRows lines rows × (text ≡ text_of_lines (report_text report ∷ lines))
 IsTextOf ReportsNone text = text ≡ []
 IsTextOf (Refuses fault) text = text ≡ fault_line fault
 

@@ -17,7 +17,6 @@ use fax_command::{
 use fax_jobs::Outcome;
 use fax_pagestore::{Coding, Format, PackedRows, Page};
 use fax_runcodes::Width;
-use fax_trace::line_of_job;
 use std::alloc::Global;
 use std::net::Net;
 
@@ -118,7 +117,7 @@ fn answer_of(alloc: Global, ended: Ended) -> Answer
     let Some(report) = ended.report else {
         return Answer::Unreported;
     };
-    match line_of_job(alloc, &report) {
+    match format!(in alloc; "{report}") {
         Ok(line) => Answer::Reported(Reported {
             outcome: report.outcome,
             line,

@@ -6,7 +6,7 @@ use Rattle.fax_trace.specs.declared.script_fault.ScriptFault.TheVariants.{NoMemo
 use Rattle.fax_trace.specs.Playing.{nothing_played}
 use Rattle.fax_trace.specs.Answers.{Outcome, Answers, status_of, fault_lines}
 use Rattle.fax_trace.specs.Kept.{HasPlayed}
-use Rattle.fax_trace.proofs.TextLemmas.{text_of_lines-append}
+use Rattle.fax_command.proofs.TellLemmas.{text_of_lines-append}
 
 -- what was played is answered, with the line of its fault
 pub answers_played : (script text told : List ℕ) (outcome : Outcome) → HasPlayed script outcome text → told ≡ text ++ text_of_lines (fault_lines outcome)

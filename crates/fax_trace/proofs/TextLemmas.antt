@@ -1,13 +1,9 @@
 -- Texts of lines.
 use Rattle.std.proofs.Common.{◌≡◌, ℕ, List, [], ◌∷◌, ◌++◌, sym, ◌∙◌, ap, ap₂, append-nil, append_assoc}
-use Rattle.std.proofs.lemmas.Grind.{flat_map-append}
 use Rattle.fax_command.specs.RowLines.{text_of_lines}
+use Rattle.fax_command.proofs.TellLemmas.{text_of_lines-append}
 
--- the text of lines behind others
-pub text_of_lines-append : (lines more : List (List ℕ)) → text_of_lines (lines ++ more) ≡ text_of_lines lines ++ text_of_lines more
-text_of_lines-append lines more = flat_map-append (λ line. line ++ 10 ∷ []) lines more
-
--- and of one line, which is made of words and a text
+-- the text of one line, which is made of words and a text
 pub text_of_one : (words text : List ℕ) → text_of_lines ((words ++ text) ∷ []) ≡ words ++ (text ++ 10 ∷ [])
 text_of_one words text = append-nil ((words ++ text) ++ 10 ∷ []) ∙ append_assoc words text (10 ∷ [])
 

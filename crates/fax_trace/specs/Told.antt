@@ -1,9 +1,7 @@
 -- TOLD: the lines that `faxgate trace` prints. (This project's profile.)
-use Rattle.std.specs.Prelude.{ℕ, Bool, true, false, List, [], ◌∷◌, ◌++◌, codes, decimal, Option, Some, None}
-use Rattle.std.specs.List.{join_with_byte}
+use Rattle.std.specs.Prelude.{ℕ, List, [], ◌∷◌, ◌++◌, codes, decimal, Option, Some, None}
 use Rattle.hex.specs.Hex.{encode_lower}
-use Rattle.fax_runcodes.specs.Widths.{elements_of}
-use Rattle.fax_jobs.specs.Outcomes.{outcome_name}
+use Rattle.fax_jobs.specs.ReportTexts.{report_text}
 use Rattle.fax_jobs.specs.declared.report.Report.{Report}
 use Rattle.fax_gateway.specs.Events.{Event, Ring, FromCalling, FromCalled, Tick, Given}
 
@@ -12,19 +10,10 @@ abbrev pub datagram_lines : List ℕ → Option (List ℕ) → List (List ℕ)
 datagram_lines letter None = []
 datagram_lines letter (Some octets) = (letter ++ encode_lower octets) ∷ []
 
-abbrev pub resolution_name : (fine : Bool) → List ℕ
-resolution_name true = codes "fine"
-resolution_name false = codes "standard"
-
--- the line of a job that ended: its call, its width and resolution, its pages, how many were delivered, and how it ended
-abbrev pub job_line : Report → List ℕ
-job_line report =
-    join_with_byte 32 (codes "job" ∷ decimal report.call ∷ decimal (elements_of report.format.width) ∷ resolution_name report.format.fine
-    ∷ decimal report.pages ∷ decimal report.delivered ∷ outcome_name report.outcome ∷ [])
-
+-- the line of a job that ended, where one did
 abbrev pub job_lines : Option Report → List (List ℕ)
 job_lines None = []
-job_lines (Some report) = job_line report ∷ []
+job_lines (Some report) = report_text report ∷ []
 
 -- what a tick gives: on the calling leg, on the called leg, and the report of the job that ended, in this order
 abbrev pub given_lines : Given → List (List ℕ)

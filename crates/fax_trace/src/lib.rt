@@ -11,4 +11,3 @@ mod tests;
 mod told;
 
 pub use run::run_trace;
-pub use told::line_of_job;

@@ -2,13 +2,13 @@
 ghost use Rattle.std.specs.Prelude.{ℕ, ◌≡◌, ◌++◌, ◌∷◌, [], List, codes, decimal, IfOk, OnOk, string_bytes};
 ghost use Rattle.fax_command.specs.RowLines.{text_of_lines};
 ghost use Rattle.fax_gateway.specs.Reached.{given_shown};
-ghost use Rattle.fax_trace.specs.Told.{datagram_lines, given_lines, job_line, job_lines, resolution_name};
+ghost use Rattle.fax_trace.specs.Told.{datagram_lines, given_lines, job_lines};
 
 use fax_bits::{NoMemory, Octets};
 use fax_gateway::Given;
 use fax_jobs::Report;
 use itoa::{Buffer, Integer};
-use std::alloc::{AllocError, Global};
+use std::alloc::Global;
 
 /// A line of words and a number.
 pub(crate) fn numbered_line<I: Integer>(
@@ -59,26 +59,9 @@ fn push_job(alloc: Global, text: &mut Vec<u8>, report: &Option<Report>) -> Resul
     ensures { OnOk result (text.new.items ≡ text.old.items ++ text_of_lines (job_lines report.now)) }
 {
     if let Some(report) = report {
-        let line = line_of_job(alloc, report)?;
+        let line = format!(in alloc; "{report}")?;
         text.extend_from_slice(line.as_bytes())?;
         text.push(b'\n')?;
     }
     Ok(())
-}
-
-/// The line of a job that ended, without its line feed: `job`, the number of its call, its width in elements, its
-/// resolution, its pages, how many of them were delivered, and how it ended.
-pub fn line_of_job(alloc: Global, report: &Report) -> Result<String, AllocError>
-    ensures { IfOk result (λ line. string_bytes line ≡ job_line report.now) }
-{
-    let Report {
-        call,
-        format,
-        pages,
-        delivered,
-        outcome,
-    } = *report;
-    let width = format.width.elements();
-    let resolution = if format.fine { "fine" } else { "standard" };
-    format!(in alloc; "job {call} {width} {resolution} {pages} {delivered} {outcome}")
 }

@@ -2,7 +2,7 @@ use Rattle.std.proofs.Common.{◌++◌, ◌∙◌, refl, subst}
 use Rattle.std.proofs.KnownBytes.{Appends-trans}
 use Rattle.std.proofs.lemmas.Option.{slice_get_read}
 use Rattle.fax_command.specs.RowLines.{TellRows}
-use Rattle.fax_trace.proofs.TextLemmas.{text_of_lines-append}
+use Rattle.fax_command.proofs.TellLemmas.{text_of_lines-append}
 use Rattle.fax_loop.proofs.LoopLemmas.{TellRows-append, rows_of-more}
 use Rattle.fax_loop.proofs.answer.write_pages.Goals as goal
 
