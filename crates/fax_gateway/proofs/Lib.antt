@@ -8,6 +8,7 @@ mod Forwarding
 mod Going
 mod Hearing
 mod Held
+mod HonestCall
 mod IdleLegs
 mod InCalls
 mod LegsRead

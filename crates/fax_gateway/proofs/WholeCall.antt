@@ -17,17 +17,17 @@ use Rattle.fax_gateway.specs.CallingLegs.{calling_leg, told_calling}
 use Rattle.fax_gateway.specs.CalledLegs.{told_called}
 use Rattle.fax_gateway.specs.Sides.{in_tick}
 
-blank : Reading
+unfoldable pub blank : Reading
 blank = Some (record { format = record { width = W1728; fine = false }; rows = [] })
 
-tick : ℕ → Event
+unfoldable pub tick : ℕ → Event
 tick ms = Tick ms (record { on_calling = None; on_called = None; report = None })
 
-comes : List ℕ → Event
+unfoldable pub comes : List ℕ → Event
 comes octets = FromCalling octets 0 true None
 
 -- a DCS, a training check of 300 zero octets, an image, EOP
-script : List Event
+unfoldable pub script : List Event
 script =
     Ring 0 0 ∷ tick 0 ∷ tick 40 ∷ tick 80
     ∷ comes (0x00 ∷ 0x00 ∷ 0x0C ∷ 0xC0 ∷ 0x02 ∷ 0x80 ∷ 0x00 ∷ 0x05 ∷ 0xFF ∷ 0xC8 ∷ 0xC1 ∷ 0x00 ∷ 0x40 ∷ 0x00 ∷ 0x40 ∷ 0x00 ∷ 0x00 ∷ [])
