@@ -12,7 +12,7 @@ returns-in-Ok c = λ input text means told.
       outcome = Reports report (rows_of c.args.ended.confirmed.items);
       allowed = (means, subst IsFirstReport c.in-Some.is c.requires);
       status_is = refl;
-      text_is = (told.0, told.1, told.2 ∙ ap (λ line. (line ++ 10 ∷ []) ++ text_of_lines told.0) c.in-Ok.ensures);
+      text_is = (told.0, told.1, told.2 ∙ ap (λ line. (line ++ 10 ∷ []) ++ text_of_lines told.0) c.in-Ok.ensures.ok);
     }
 
 pub returns-in-Err : goal.returns-in-Err
