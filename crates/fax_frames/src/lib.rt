@@ -13,8 +13,6 @@ mod field_bits;
 mod frame;
 pub mod laws;
 mod rate;
-#[cfg(test)]
-mod tests;
 mod writing;
 
 pub use choice::{Refusal, choose};

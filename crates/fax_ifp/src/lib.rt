@@ -12,8 +12,6 @@ pub mod laws;
 mod packet;
 mod piece;
 mod signals;
-#[cfg(test)]
-mod tests;
 mod writing;
 
 pub use codes::{DataType, FieldType, Indicator};

@@ -8,8 +8,6 @@ mod clock;
 pub mod laws;
 mod pace;
 mod spans;
-#[cfg(test)]
-mod tests;
 mod timer;
 
 pub use clock::Clock;

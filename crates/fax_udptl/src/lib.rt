@@ -2,8 +2,6 @@
 //! once, and a sender. Lengths and counts are octets; numbers have 16 bits and wrap.
 #![tactic(auto)]
 
-#[cfg(test)]
-mod captured;
 mod datagram;
 mod fault;
 mod grammar;
@@ -12,8 +10,6 @@ mod packets;
 mod receiver;
 mod secondaries;
 mod sender;
-#[cfg(test)]
-mod tests;
 
 pub use datagram::{Datagram, read};
 pub use fault::UdptlFault;

@@ -1,7 +1,9 @@
 //! Datagrams by hand and from another implementation.
-use crate::captured::{ANSWERING, CALLING};
-use crate::{Packets, Receiver, Secondaries, Sender, UdptlFault, laws, read};
+mod captured;
+
+use captured::{ANSWERING, CALLING};
 use fax_bits::NoMemory;
+use fax_udptl::{Packets, Receiver, Secondaries, Sender, UdptlFault, laws, read};
 use std::alloc::{AllocError, Global};
 use std::process::Abort;
 use std::test::Fail;

@@ -6,11 +6,11 @@ ghost use Rattle.fax_ifp.specs.WrittenPackets.{IsWritable, IsWritableField};
 mod codes;
 mod signals;
 
-use crate::{
+use fax_bits::{NoMemory, Octets};
+use fax_ifp::{
     Field, Head, Ifp, IfpFault, data_length, put_indicator, write_data, write_frame, write_image,
     write_indicator,
 };
-use fax_bits::{NoMemory, Octets};
 use std::alloc::Global;
 use std::process::Abort;
 use std::test::Fail;

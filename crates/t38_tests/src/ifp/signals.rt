@@ -1,6 +1,6 @@
 //! The pieces of slots made by hand.
-use crate::{Piece, Pieces, Signals, Slot};
 use fax_bits::NoMemory;
+use fax_ifp::{Piece, Pieces, Signals, Slot};
 use std::alloc::{AllocError, Global};
 use std::process::Abort;
 use std::test::Fail;

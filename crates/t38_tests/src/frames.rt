@@ -1,9 +1,9 @@
 //! Frames by hand, with the tables of ITU-T T.30 and T.38.
-use crate::{
+use bitflags::Flags;
+use fax_frames::{
     Caps, Dcs, Dis, Frame, Length, OUR_DIS, Plain, Rate, Refusal, choose, write_dcs, write_dis,
     write_plain,
 };
-use bitflags::Flags;
 use fax_runcodes::{Coding, Format, Width};
 use std::process::Abort;
 

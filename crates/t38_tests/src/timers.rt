@@ -1,5 +1,5 @@
 //! Moments of a call, and the end of the range.
-use crate::{Clock, Pace, T1_MS, T2_MS, T4_MS, Timer};
+use fax_timers::{Clock, Pace, T1_MS, T2_MS, T4_MS, Timer};
 
 #[test]
 fn clocks_never_go_back(rt: HostRuntime) {

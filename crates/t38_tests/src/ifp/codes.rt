@@ -1,5 +1,5 @@
 //! The codes of ITU-T T.38, each once.
-use crate::{DataType, FieldType, Indicator};
+use fax_ifp::{DataType, FieldType, Indicator};
 
 /// The indicators, as T.38 numbers them.
 const INDICATORS: &[(u8, Indicator)] = &[
