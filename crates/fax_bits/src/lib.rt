@@ -7,8 +7,6 @@ pub mod laws;
 mod memory;
 mod octets;
 mod reader;
-#[cfg(test)]
-mod tests;
 mod window;
 mod writer;
 

@@ -15,8 +15,6 @@ mod fault;
 pub mod laws;
 mod pairs;
 mod passing;
-#[cfg(test)]
-mod tests;
 mod writing;
 
 pub use fault::LineFault;

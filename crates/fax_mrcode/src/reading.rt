@@ -15,8 +15,6 @@ ghost use Rattle.fax_mrcode.specs.Starts.{IsCursor, IsIndexOfB1, IsStart, IsStar
 mod ahead;
 mod near;
 mod passing;
-#[cfg(test)]
-mod tests;
 mod verticals;
 mod words;
 

@@ -7,8 +7,6 @@ ghost use Rattle.fax_mrcode.specs.Modes.{IsAt, mode_word};
 ghost use Rattle.fax_mrcode.specs.Written.{WritesLine};
 
 mod alike;
-#[cfg(test)]
-mod tests;
 
 use crate::places::place_at;
 use crate::{Mode, Offset};

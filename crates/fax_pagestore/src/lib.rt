@@ -8,8 +8,6 @@ pub mod laws;
 mod reader;
 mod reading;
 mod store;
-#[cfg(test)]
-mod tests;
 mod white;
 mod writer;
 mod writing;

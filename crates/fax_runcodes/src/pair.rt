@@ -5,9 +5,6 @@ ghost use Rattle.fax_runcodes.specs.Pairs.{IsPairAt, BeginsWithNoPair};
 
 use crate::tables::{WordPair, pairs};
 
-#[cfg(test)]
-mod tests;
-
 /// The white word and the black one behind it that begin 56 bits, which are those of a number, the most
 /// significant first, where both are terminating words (ITU-T T.4, table 2/T.4) of runs that are not empty
 /// and have 11 bits together at most.

@@ -6,8 +6,6 @@ ghost use Rattle.fax_runcodes.specs.Painted.{painted, changes_between, AreRising
 
 mod painting;
 mod pixels;
-#[cfg(test)]
-mod tests;
 mod turning;
 
 use crate::{Colour, RowFault};

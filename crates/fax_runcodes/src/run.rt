@@ -14,9 +14,6 @@ use crate::tables::{CodeWord, black, white};
 use crate::writing::run_word;
 use fax_bits::{BitReader, BitWriter, NoMemory, behind};
 
-#[cfg(test)]
-mod tests;
-
 /// The longest run that is written, in elements: what one make-up word and one terminating word stand
 /// for (ITU-T T.4, 4.1.1).
 pub const LONGEST_WRITTEN_RUN: u16 = 2560 + 63;

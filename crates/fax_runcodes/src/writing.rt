@@ -4,9 +4,6 @@ ghost use Rattle.fax_bits.specs.Bits.{word_bits};
 ghost use Rattle.fax_runcodes.specs.Rows.{other};
 ghost use Rattle.fax_runcodes.specs.Spelling.{written_run};
 
-#[cfg(test)]
-mod tests;
-
 use crate::Colour;
 use crate::run::LONGEST_WRITTEN_RUN;
 use crate::tables::written::{WrittenWord, make_up_word, terminating_word};

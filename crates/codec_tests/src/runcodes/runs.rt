@@ -1,10 +1,7 @@
 //! Runs and the bits that spell them, by the tables of ITU-T T.4.
-use super::{LONGEST_WRITTEN_RUN, read_run, word_at, write_run};
-use crate::Colour;
-use crate::Colour::{Black, White};
-use crate::fault::RunFault;
-use crate::tables::CodeWord;
 use fax_bits::{BitReader, BitWriter, NoMemory, Octets};
+use fax_runcodes::Colour::{Black, White};
+use fax_runcodes::{CodeWord, Colour, LONGEST_WRITTEN_RUN, RunFault, read_run, word_at, write_run};
 use std::alloc::Global;
 use std::process::Abort;
 use std::test::Fail;

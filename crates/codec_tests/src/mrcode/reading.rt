@@ -1,6 +1,7 @@
 //! Two-dimensional lines, spelt by hand with ITU-T T.4, table 4/T.4, and its tables of runs.
-use super::{LineFault, pass_line_2d, read_line_2d, read_line_2d_into};
 use fax_bits::{BitReader, NoMemory};
+use fax_mhcode::LineFault;
+use fax_mrcode::{pass_line_2d, read_line_2d, read_line_2d_into};
 use fax_runcodes::{Row, RowBuilder, RowFault, RunFault};
 use std::alloc::Global;
 use std::process::Abort;

@@ -1,5 +1,5 @@
 //! Pairs of the code tables.
-use super::*;
+use fax_runcodes::{WordPair, pair_at};
 
 #[test]
 fn finds_a_white_word_and_a_black_one(rt: HostRuntime) {

@@ -1,5 +1,5 @@
 //! Sample pages, as hex: those of `samples/`, and rows of text of those of `bench/pages`.
-use crate::Coding;
+use fax_pagestore::Coding;
 use fax_runcodes::Width;
 
 /// Pages of some rows, by their octets.

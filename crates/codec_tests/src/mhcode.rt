@@ -1,8 +1,8 @@
 //! One-dimensional lines, by the tables of ITU-T T.4.
-use super::{
+use fax_bits::{BitReader, BitWriter, NoMemory, Octets};
+use fax_mhcode::{
     LineFault, pass_line_1d, read_line_1d, read_line_1d_into, write_lent_line_1d, write_line_1d,
 };
-use fax_bits::{BitReader, BitWriter, NoMemory, Octets};
 use fax_runcodes::Colour::{Black, White};
 use fax_runcodes::Width::{W1728, W2048, W2432};
 use fax_runcodes::{Row, RowBuilder, RunFault, Width};

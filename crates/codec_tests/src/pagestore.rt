@@ -4,11 +4,11 @@ mod memory;
 mod samples;
 mod speed;
 
-use crate::{
+use fax_bits::{BitWriter, NoMemory, Octets};
+use fax_pagestore::{
     Coding, Format, PackedRows, Page, PageFault, PageReader, PageWriter, PlainRows, RowStore,
     read_page, write_page,
 };
-use fax_bits::{BitWriter, NoMemory, Octets};
 use fax_runcodes::{Row, RowFault, Width};
 use samples::SAMPLES;
 use std::alloc::Global;

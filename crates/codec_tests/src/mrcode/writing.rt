@@ -1,7 +1,7 @@
 //! Two-dimensional lines, by the tables of ITU-T T.4 and by an encoder that looks at each element,
 //! whose lines are those of libtiff.
-use super::{write_lent_line_2d, write_line_2d};
 use fax_bits::{BitWriter, NoMemory, Octets};
+use fax_mrcode::{write_lent_line_2d, write_line_2d};
 use fax_runcodes::{Row, RowFault, RowRef};
 use std::alloc::{AllocError, Global};
 use std::process::Abort;

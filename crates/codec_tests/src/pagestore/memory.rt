@@ -3,8 +3,10 @@
 ghost use Rattle.std.specs.Prelude.{◌≡◌, IfOk};
 ghost use Rattle.fax_pagestore.specs.Readers.{mark_of};
 
-use crate::{Coding, Format, Mark, PackedRows, Page, PageFault, PageReader, PageWriter, RowStore};
 use fax_bits::NoMemory;
+use fax_pagestore::{
+    Coding, Format, Mark, PackedRows, Page, PageFault, PageReader, PageWriter, RowStore,
+};
 use fax_runcodes::Width;
 use std::alloc::Global;
 use std::process::Abort;

@@ -1,5 +1,5 @@
 //! What no contract says: that memory is there, and worked bits from outside.
-use super::*;
+use fax_bits::*;
 use std::test::Fail;
 
 /// 1010 0101 0000 1111

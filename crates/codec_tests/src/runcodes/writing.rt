@@ -1,7 +1,7 @@
 //! Runs, by the tables of ITU-T T.4.
-use super::{put_run, put_two_runs};
-use crate::Colour::{Black, White};
 use fax_bits::BitWriter;
+use fax_runcodes::Colour::{Black, White};
+use fax_runcodes::{put_run, put_two_runs};
 use std::test::Fail;
 
 #[test]

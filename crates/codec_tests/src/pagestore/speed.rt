@@ -1,9 +1,9 @@
 //! Times pages that are read and written in pieces beside `read_page` and `write_page` of the same octets. It
 //! times nothing but where the environment names a page: see bench/README.md.
-use crate::{
+use fax_bits::NoMemory;
+use fax_pagestore::{
     Coding, Format, PackedRows, Page, PageFault, PageReader, PageWriter, read_page, write_page,
 };
-use fax_bits::NoMemory;
 use fax_runcodes::Width;
 use std::alloc::Global;
 use std::test::Fail;

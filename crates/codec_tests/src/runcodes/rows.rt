@@ -1,8 +1,7 @@
 //! Rows, made of run lengths and by a builder.
-use super::{Row, RowBuilder, RowRef, is_width};
-use crate::Colour::{Black, White};
-use crate::{Colour, RowFault, Width};
 use fax_bits::NoMemory;
+use fax_runcodes::Colour::{Black, White};
+use fax_runcodes::{Colour, Row, RowBuilder, RowFault, RowRef, Width};
 use std::process::Abort;
 use std::test::Fail;
 
@@ -98,7 +97,7 @@ fn paint_pair(rt: &impl Abort, builder: &mut RowBuilder, white: u16, black: u16)
 
 /// The row so far.
 fn row_of(rt: &impl Abort, builder: &RowBuilder) -> Result<Row, NoMemory> {
-    assert!(rt; is_width(builder.len()));
+    assert!(rt; matches!(builder.len(), 1728 | 2048 | 2432));
     builder.row()
 }
 
@@ -110,7 +109,7 @@ fn expect_put(
     count: Option<usize>,
     wanted: [u16; 8],
 ) {
-    assert!(rt; is_width(builder.len()));
+    assert!(rt; matches!(builder.len(), 1728 | 2048 | 2432));
     let mut runs = [9; 8];
     let Some(front) = runs.get_mut(..room) else {
         rt.abort()

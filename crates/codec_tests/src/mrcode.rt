@@ -1,0 +1,3 @@
+//! Two-dimensional lines.
+mod reading;
+mod writing;
