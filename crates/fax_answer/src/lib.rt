@@ -18,8 +18,6 @@ mod procedure;
 mod room;
 mod state;
 mod step;
-#[cfg(test)]
-mod tests;
 mod timers;
 
 pub use answerer::Answerer;

@@ -14,12 +14,8 @@ mod gateway;
 mod given;
 pub mod laws;
 mod leg;
-#[cfg(test)]
-mod list_wire;
 mod run;
 mod side;
-#[cfg(test)]
-mod tests;
 mod wire;
 
 pub use driven::Driven;

@@ -8,8 +8,6 @@ pub mod laws;
 mod outcome;
 mod pages;
 mod report;
-#[cfg(test)]
-mod tests;
 
 pub use job::Job;
 pub use jobs::Jobs;

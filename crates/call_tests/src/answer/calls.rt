@@ -3,7 +3,7 @@ use super::{
     ANSWERED, CED, CONFIRMED, Call, DCS, DIS, EOP, Event, FTT, MCF, PAGE, PREAMBLE, REFUSED, RTN,
     TRAINED, play_each,
 };
-use crate::State;
+use fax_answer::State;
 use std::test::Fail;
 
 /// EOP again behind a call with one page, with the number behind its own.

@@ -3,7 +3,7 @@ use super::{
     ANSWERED, Call, DCS, Event, Leg, PAGE, REFUSED, TRAINED, datagram_of, play, play_each,
     zeros_between,
 };
-use crate::State;
+use fax_answer::State;
 use fax_bits::NoMemory;
 use fax_udptl::read;
 use std::alloc::Global;

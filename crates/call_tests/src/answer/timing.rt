@@ -3,7 +3,7 @@ use super::{
     ANSWERED, CED, CFR, CONFIRMED, Call, DCN, DIS, EOP, Event, MCF, PAGE, PREAMBLE, TRAINED,
     play_each,
 };
-use crate::State;
+use fax_answer::State;
 use std::test::Fail;
 
 const CALLS: &[Call] = &[

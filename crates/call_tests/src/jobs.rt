@@ -1,4 +1,4 @@
-use crate::{Job, Jobs, Outcome, Pages, Report};
+use fax_jobs::{Job, Jobs, Outcome, Pages, Report};
 use fax_pagestore::{Coding, Format, Page, PlainRows, RowStore, read_page};
 use fax_runcodes::Width;
 use std::alloc::Global;

@@ -3,10 +3,10 @@
 mod call;
 mod driving;
 mod hostile;
+mod list_wire;
 
-use crate::RingFault;
-use crate::gateway::next_number;
 use call::{Change, Playing};
+use fax_gateway::RingFault;
 use std::alloc::Global;
 use std::process::Abort;
 use std::test::Fail;
@@ -46,11 +46,4 @@ fn faults_have_numbers(rt: HostRuntime) {
     assert!(rt; RingFault::Busy.number() == 1);
     assert!(rt; RingFault::NoNumber.number() == 2);
     assert!(rt; RingFault::NoMemory.number() == 3);
-}
-
-#[test]
-fn numbers_come_to_an_end(rt: HostRuntime) {
-    assert!(rt; next_number(0) == Ok(0));
-    assert!(rt; next_number(4_294_967_295) == Ok(4_294_967_295));
-    assert!(rt; next_number(4_294_967_296) == Err(RingFault::NoNumber));
 }

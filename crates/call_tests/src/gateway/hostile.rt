@@ -1,6 +1,6 @@
 //! Hostile datagrams, each in place of one of a whole call.
 use super::call::{COMES, Change, Playing, octets_of};
-use crate::list_wire::ShortOctets;
+use super::list_wire::ShortOctets;
 use fax_udptl::read;
 use std::alloc::Global;
 use std::process::Abort;

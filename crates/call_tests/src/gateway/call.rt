@@ -1,7 +1,7 @@
 //! A whole call: what comes on both legs, and what is given there.
-use crate::list_wire::{OnWire, ShortOctets};
-use crate::{Gateway, Given, RingFault, Side};
+use super::list_wire::{OnWire, ShortOctets};
 use fax_bits::{NoMemory, Octets};
+use fax_gateway::{Gateway, Given, RingFault, Side};
 use fax_jobs::{Outcome, Report};
 use fax_pagestore::{Format, PlainRows};
 use fax_runcodes::Width;

@@ -4,7 +4,7 @@ mod hostile;
 mod memory;
 mod timing;
 
-use crate::{Answerer, State, Step};
+use fax_answer::{Answerer, State, Step};
 use fax_bits::{NoMemory, Octets};
 use fax_frames::{Dcs, Length, Rate};
 use fax_pagestore::{Format, Page, PlainRows, RowStore};

@@ -2,10 +2,10 @@
 use super::call::{
     COMES, Change, DELIVERED, SENDS, TURNS, gateway_of, gives, is_whole_call, octets_of,
 };
+use super::list_wire::{Fails, ListWire, OnWire};
 use super::refused;
-use crate::list_wire::{Fails, ListWire, OnWire};
-use crate::{Driven, Gateway, drive};
 use fax_bits::NoMemory;
+use fax_gateway::{Driven, Gateway, drive};
 use fax_jobs::Report;
 use fax_pagestore::PlainRows;
 use std::alloc::Global;

@@ -2,9 +2,8 @@
 ghost use Rattle.std.specs.Prelude.{◌≡◌, ◌+◌, ◌<◌, ◌≤◌, ℕ, List, [], ◌∷◌, ◌++◌, Option, Some, None, IfOk, IfSome, MatchOption, length, take, reverse, min, cond};
 ghost use Rattle.fax_gateway.specs.Wires.{Grows, failures_after, greatest_count, receipt_of};
 
-use crate::side::Side;
-use crate::wire::{Wire, WireFault};
 use fax_bits::NoMemory;
+use fax_gateway::{Side, Wire, WireFault};
 use std::alloc::Global;
 use std::marker::Model;
 
