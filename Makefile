@@ -34,17 +34,16 @@ memory: all
 	tools/refuse-memory $(PROGRAM) samples/text-mr.runs page --back --coding mr --fine --least 96
 	tools/refuse-memory $(PROGRAM) samples/call.trace trace
 	tools/refuse-memory $(PROGRAM) samples/hello.hex loop
-	cd crates/fax_pagestore && $(RT) test > /dev/null
-	tools/refuse-test-memory crates/fax_pagestore/out/fax_pagestore_tests tests::memory::a_page_that_is_refused_memory
+	cd crates/codec_tests && $(RT) test > /dev/null
+	tools/refuse-test-memory crates/codec_tests/out/codec_tests_tests pagestore::memory::a_page_that_is_refused_memory
 	cd crates/fax_c && $(RT) test > /dev/null
 	tools/refuse-test-memory crates/fax_c/out/fax_c_tests tests::faults_that_want_no_memory_are_told
-	cd crates/fax_answer && $(RT) test > /dev/null
-	tools/refuse-test-memory crates/fax_answer/out/fax_answer_tests tests::memory::a_call_that_is_refused_memory
+	cd crates/call_tests && $(RT) test > /dev/null
+	tools/refuse-test-memory crates/call_tests/out/call_tests_tests answer::memory::a_call_that_is_refused_memory
 	cd crates/fax_call && $(RT) test > /dev/null
 	tools/refuse-test-memory crates/fax_call/out/fax_call_tests tests::memory::a_call_that_is_refused_memory
-	cd crates/fax_gateway && $(RT) test > /dev/null
-	tools/refuse-test-memory crates/fax_gateway/out/fax_gateway_tests tests::a_page_goes_through_the_gateway
-	tools/refuse-test-memory crates/fax_gateway/out/fax_gateway_tests tests::driving::a_run_that_is_refused_memory
+	tools/refuse-test-memory crates/call_tests/out/call_tests_tests gateway::a_page_goes_through_the_gateway
+	tools/refuse-test-memory crates/call_tests/out/call_tests_tests gateway::driving::a_run_that_is_refused_memory
 
 # Checks that the tables of code words are those that tools/code-tables makes of the words of ITU-T T.4. It wants
 # Python 3 and no `rt`.
@@ -67,8 +66,8 @@ bench: all bench/example bench/bench
 	bench/example
 	bench/bench bench/pages
 	bench/gateway $(PROGRAM) bench/pages/text-1728.mr
-	cd crates/fax_pagestore && $(RT) test > /dev/null
-	FAX_PAGE=bench/pages/text-1728.mr crates/fax_pagestore/out/fax_pagestore_tests tests::speed::times_pieces
+	cd crates/codec_tests && $(RT) test > /dev/null
+	FAX_PAGE=bench/pages/text-1728.mr crates/codec_tests/out/codec_tests_tests pagestore::speed::times_pieces
 
 # Calls between two T.38 terminals of spandsp through the gateway: see docs/INTEROP.md. It wants a C compiler, libspandsp-dev
 # and libtiff-dev, and some minutes.

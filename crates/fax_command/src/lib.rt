@@ -11,8 +11,6 @@ mod putting;
 mod run;
 mod status;
 mod stream;
-#[cfg(test)]
-mod tests;
 
 pub use answer::{MEMORY_LINE, page_of_hex};
 pub use input::{InputError, read_input};

@@ -10,8 +10,6 @@ mod link;
 mod loop_error;
 mod run;
 mod socket;
-#[cfg(test)]
-mod tests;
 mod udp_wire;
 
 pub use run::run_loop;

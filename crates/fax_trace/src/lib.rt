@@ -6,8 +6,6 @@ mod event;
 mod player;
 mod run;
 mod script_fault;
-#[cfg(test)]
-mod tests;
 mod told;
 
 pub use run::run_trace;

@@ -1,12 +1,12 @@
 //! Calls and a wire over sockets of the loopback interface.
-use crate::socket::{receive, socket_pair};
-use crate::{UdpWire, run_loop};
 use fax_command::{Output, PageOptions, StdSink, StdSource, run_page};
 use fax_gateway::{Side, Wire, WireFault};
+use fax_loop::{UdpWire, run_loop};
 use fax_pagestore::{Coding, Format};
 use fax_runcodes::Width;
 use std::alloc::{AllocError, Global};
-use std::net::Net;
+use std::io;
+use std::net::{IpAddr, Ipv4Addr, Net, SocketAddr, UdpSocket};
 use std::process::Abort;
 use std::test::Fail;
 
@@ -88,6 +88,22 @@ fn a_page_of_text(rt: HostRuntime) -> Result<(), Fail> {
     Ok(())
 }
 
+/// A socket of the loopback interface that does not wait.
+fn loopback_socket<R: Net>(net: &R) -> io::Result<UdpSocket> {
+    let socket = net.bind_udp(SocketAddr::new(IpAddr::V4(Ipv4Addr::LOCALHOST), 0))?;
+    socket.set_nonblocking(true)?;
+    Ok(socket)
+}
+
+/// Two such sockets, each of which is the other's only peer.
+fn socket_pair<R: Net>(net: &R) -> io::Result<(UdpSocket, UdpSocket)> {
+    let here = loopback_socket(net)?;
+    let there = loopback_socket(net)?;
+    here.connect(there.local_addr()?)?;
+    there.connect(here.local_addr()?)?;
+    Ok((here, there))
+}
+
 /// Datagrams go over a wire on their legs; a receive that fails is counted.
 #[test]
 fn a_wire_over_sockets(rt: HostRuntime) -> Result<(), Fail> {
@@ -106,7 +122,7 @@ fn a_wire_over_sockets(rt: HostRuntime) -> Result<(), Fail> {
     assert_eq!(rt; wire.receive(Side::Called, &mut buffer), Ok(Some(5)));
     assert_eq!(rt; &buffer[..5], b"third".as_slice());
     assert_eq!(rt; wire.send(Side::Called, b"back"), Ok(()));
-    assert_eq!(rt; receive(&answerer, &mut buffer)?, Some(4));
+    assert_eq!(rt; answerer.recv(&mut buffer)?, 4);
     assert_eq!(rt; &buffer[..4], b"back".as_slice());
     // where the peer is gone, the system tells it of the next datagram
     drop(answerer);

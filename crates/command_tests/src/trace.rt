@@ -1,6 +1,6 @@
 //! Scripts over streams in memory: whole calls, and what is wrong with a script.
-use crate::run_trace;
 use fax_command::{StdSink, StdSource};
+use fax_trace::run_trace;
 use std::alloc::{AllocError, Global};
 use std::process::Abort;
 use std::test::Fail;

@@ -1,8 +1,8 @@
 //! Runs over streams in memory.
 mod samples;
 
-use crate::{Output, PageOptions, StdSink, StdSource, run_page};
 use fax_bits::BitWriter;
+use fax_command::{Output, PageOptions, StdSink, StdSource, run_page};
 use fax_mhcode::write_line_1d;
 use fax_pagestore::{Coding, Format};
 use fax_runcodes::{Row, Width};
