@@ -20,6 +20,7 @@ use Rattle.fax_frames.specs.Laws.{WrittenDcsAreRead, WrittenDisAreRead, WrittenD
 pub written_plain_are_read : WrittenPlainAreRead
 written_plain_are_read plain.Cfr got_dis = refl
 written_plain_are_read plain.Ftt got_dis = refl
+written_plain_are_read plain.Eom got_dis = refl
 written_plain_are_read plain.Mps got_dis = refl
 written_plain_are_read plain.Eop got_dis = refl
 written_plain_are_read plain.Mcf got_dis = refl

@@ -36,6 +36,7 @@ ReadDisHas24Bits = (octets : List ℕ) (dis : Dis) → All (λ octet. octet < 25
 abbrev pub frame_named : Plain → Frame
 frame_named plain.Cfr = frames.Cfr
 frame_named plain.Ftt = frames.Ftt
+frame_named plain.Eom = frames.Eom
 frame_named plain.Mps = frames.Mps
 frame_named plain.Eop = frames.Eop
 frame_named plain.Mcf = frames.Mcf

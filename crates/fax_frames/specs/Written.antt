@@ -4,7 +4,7 @@ use Rattle.std.specs.Prelude.{ℕ, ◌+◌, Bool, List, [], ◌∷◌, ◌++◌,
 use Rattle.fax_frames.specs.declared.dis.Dis.{Dis}
 use Rattle.fax_frames.specs.declared.dcs.Dcs.{Dcs}
 use Rattle.fax_frames.specs.declared.writing.Plain.{Plain}
-use Rattle.fax_frames.specs.declared.writing.Plain.TheVariants.{Cfr, Ftt, Mps, Eop, Mcf, Rtn, Dcn}
+use Rattle.fax_frames.specs.declared.writing.Plain.TheVariants.{Cfr, Ftt, Eom, Mps, Eop, Mcf, Rtn, Dcn}
 use Rattle.fax_frames.specs.FieldBits.{octets_of, put_at}
 use Rattle.fax_frames.specs.Capabilities.{rate_code, width_code, length_code, time_code}
 
@@ -13,11 +13,12 @@ abbrev pub front : ℕ → List ℕ
 front field = 0xFF ∷ 0xC8 ∷ field ∷ []
 
 -- The control fields of frames with no information field (5.3.6.1). The first bit is 1 where the sender
--- got a DIS: it is 0 in CFR, FTT, MCF and RTN, which the called side writes, and 1 in MPS and EOP, which
--- the calling side writes. Both sides write DCN.
+-- got a DIS: it is 0 in CFR, FTT, MCF and RTN, which the called side writes, and 1 in EOM, MPS and EOP,
+-- which the calling side writes. Both sides write DCN.
 abbrev pub field_of : Plain → Bool → ℕ
 field_of Cfr got_dis = 0x21
 field_of Ftt got_dis = 0x22
+field_of Eom got_dis = 0xF1
 field_of Mps got_dis = 0xF2
 field_of Eop got_dis = 0xF4
 field_of Mcf got_dis = 0x31

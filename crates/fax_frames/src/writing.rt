@@ -19,6 +19,8 @@ pub enum Plain {
     Cfr,
     /// Failure to train.
     Ftt,
+    /// End of message: a page of another format follows.
+    Eom,
     /// Multipage signal.
     Mps,
     /// End of procedure.
@@ -81,6 +83,7 @@ fn field_of(plain: Plain, got_dis: bool) -> u8
     match plain {
         Plain::Cfr => 0x21,
         Plain::Ftt => 0x22,
+        Plain::Eom => 0xF1,
         Plain::Mps => 0xF2,
         Plain::Eop => 0xF4,
         Plain::Mcf => 0x31,

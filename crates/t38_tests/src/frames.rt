@@ -318,6 +318,8 @@ const REFUSAL_NUMBERS: &[(Refusal, u8)] = &[
 const PLAIN_FRAMES: &[(Plain, bool, &[u8], Frame)] = &[
     (Plain::Cfr, false, b"\xFF\xC8\x21", Frame::Cfr),
     (Plain::Ftt, false, b"\xFF\xC8\x22", Frame::Ftt),
+    (Plain::Eom, false, b"\xFF\xC8\xF1", Frame::Eom),
+    (Plain::Eom, true, b"\xFF\xC8\xF1", Frame::Eom),
     (Plain::Mps, false, b"\xFF\xC8\xF2", Frame::Mps),
     (Plain::Eop, false, b"\xFF\xC8\xF4", Frame::Eop),
     (Plain::Mcf, false, b"\xFF\xC8\x31", Frame::Mcf),
