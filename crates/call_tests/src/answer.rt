@@ -7,7 +7,7 @@ mod timing;
 use fax_answer::{Answerer, State, Step};
 use fax_bits::{NoMemory, Octets};
 use fax_frames::{Dcs, Length, Rate};
-use fax_pagestore::{Format, Page, PlainRows, RowStore};
+use fax_pagestore::{Page, PlainRows, RowStore};
 use fax_runcodes::Width;
 use fax_udptl::Receiver;
 use std::alloc::{AllocError, Global};
@@ -399,13 +399,9 @@ fn play_each(rt: &impl Abort, alloc: Global, calls: &[Call]) -> Result<(), NoMem
     Ok(())
 }
 
-/// Fails unless a page is one white row of 1728 elements in the standard resolution.
+/// Fails unless a page is one white row of 1728 elements.
 fn expect_white_row(rt: &impl Abort, page: &Page<PlainRows>) {
-    let format = Format {
-        width: Width::W1728,
-        fine: false,
-    };
-    assert_eq!(rt; page.format(), format);
+    assert_eq!(rt; page.format().width, Width::W1728);
     let rows = page.rows();
     assert!(rt; rows.len() == 1);
     assert!(rt; rows.lend(0).changes().is_empty());

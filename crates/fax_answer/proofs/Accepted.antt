@@ -5,11 +5,11 @@ use Rattle.fax_ifp.specs.Pieces.{Piece}
 use Rattle.fax_timers.specs.Moments.{is_due}
 use Rattle.fax_timers.specs.Paces.{pace_allows}
 use Rattle.fax_answer.specs.declared.state.State.{State}
-use Rattle.fax_answer.specs.declared.state.State.TheVariants.{Idle, Identify, Listen, Train, Page, Closing}
+use Rattle.fax_answer.specs.declared.state.State.TheVariants.{Idle, Identify, Listen, Train, Page, Again, Closing}
 use Rattle.fax_answer.specs.History.{Decision, PassesOver, Trains, HangsUp, GivesCfr, GivesFtt, GivesMcf, GivesRtn}
 use Rattle.fax_answer.specs.Table.{Reading, decision}
 use Rattle.fax_answer.specs.Replies.{ConfirmedPage, Waiting, reply_to, is_waiting}
-use Rattle.fax_answer.specs.Calls.{Answering, CallEvent, Comes, Ticks, after_events, rung, came, ticked, Ticked, timed, timed_in, given_first, says_goodbye, identifies_again}
+use Rattle.fax_answer.specs.Calls.{Answering, CallEvent, Comes, Ticks, after_events, rung, came, ticked, Ticked, timed, timed_in, given_first, says_goodbye, identifies_again, identifies_anew}
 use Rattle.fax_answer.specs.Following.{Rests}
 use Rattle.fax_answer.specs.Sent.{page_accepted, page_with, confirmed_with, confirmed_in_tick, pages_confirmed, pages_accepted, pages_waiting, ConfirmsWhatItAccepted}
 use Rattle.fax_answer.proofs.Rests.{NoneIf, none_if, rests_after, ticked_rests}
@@ -74,6 +74,9 @@ timed_even a now given e = by a.waiting refl
     again : a.waiting ≡ [] → Even (identifies_again a) given
     again w = record { same = empty w; few = omega arith }
 
+    anew : a.waiting ≡ [] → Even (identifies_anew a now) given
+    anew w = record { same = empty w; few = omega arith }
+
     phases : (state : State) → a.waiting ≡ [] → Even (timed_in state a now) given
     phases Idle w = e
     phases Closing w = e
@@ -81,6 +84,7 @@ timed_even a now given e = by a.waiting refl
     phases Listen w = even_if (is_due a.timers.t2 now) (says_goodbye a) a given (goodbye w) e
     phases (Train d) w = even_if (is_due a.timers.t2 now) (says_goodbye a) a given (goodbye w) e
     phases (Page d) w = even_if (is_due a.timers.t2 now) (says_goodbye a) a given (goodbye w) e
+    phases Again w = even_if (is_due a.timers.t2 now) (identifies_anew a now) a given (anew w) e
 
     by : (ws : List Waiting) → a.waiting ≡ ws → Even (if is_waiting a.waiting then a else timed_in a.state a now) given
     by [] w = even_if (is_waiting a.waiting) a (timed_in a.state a now) given e (phases a.state w)

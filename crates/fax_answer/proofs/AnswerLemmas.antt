@@ -11,12 +11,11 @@ use Rattle.fax_pagestore.specs.PageFaults.{FailsPage}
 use Rattle.fax_pagestore.specs.Pages.{PageValue}
 use Rattle.fax_ifp.specs.Pieces.{Frame}
 use Rattle.fax_answer.specs.declared.command.Command.{Command}
-use Rattle.fax_answer.specs.declared.command.Command.TheVariants.{Mps, Eop}
 use Rattle.fax_answer.specs.declared.decision.Decision as code
 use Rattle.fax_answer.specs.Orders.{order_of}
 use Rattle.fax_answer.specs.History.{Entry, Decision, PassesOver, GivesMcf, GivesRtn, since_answer, last_image}
 use Rattle.fax_answer.specs.Table.{Reading, is_one_image, is_repeat, judged, on_command, on_order, order_asks, decision}
-use Rattle.fax_answer.specs.Replies.{ConfirmedPage, is_waiting}
+use Rattle.fax_answer.specs.Replies.{ConfirmedPage, is_last, is_waiting}
 use Rattle.fax_answer.specs.Calls.{Answering, decided}
 use Rattle.fax_answer.specs.Confirmation.{IfAsked, IsRight}
 use Rattle.fax_answer.specs.Kept.{verdict_of}
@@ -73,9 +72,9 @@ frame_free core octets now old new verdict found s w none a noted kept image =
     (subst (λ (x : Decision). Follows (decided core (Frame octets) x now) new.confirmed new.procedure) (sym e) (subst (λ (c : Option ConfirmedPage). Follows (decided core (Frame octets) d now) c new.procedure) page f))
     (holds_frame core.history new.image octets (decision read core.state (is_waiting core.waiting) core.history (Frame octets)) (subst (λ (i : Rattle.fax_answer.specs.Images.ImageValue). Holds core.history i) (sym image) s.holds))
 
-pub last_command : (command : Command) (page : PageValue) (b : Bool) → command ≡ (if b then Eop else Mps)
-    → Some (record { page = page; command = if b then Eop else Mps }) ≡ confirmed_behind (judged command (Some page)) None
-last_command command page b e = ap (λ (c : Command). let p : ConfirmedPage = record { page = page; command = c } in Some p) (sym e)
+pub last_command : (command : Command) (page : PageValue) (b : Bool) → b ≡ is_last command
+    → Some (record { page = page; closes = b }) ≡ confirmed_behind (judged command (Some page)) None
+last_command command page b e = ap (λ (c : Bool). let p : ConfirmedPage = record { page = page; closes = c } in Some p) e
 
 pub page_means : (f h : Format) (x y : Coding) (os us : List ℕ) (page : PageValue) → f ≡ h → x ≡ y → os ≡ us → MeansPage f x os page → MeansPage h y us page
 page_means f h x y os us page a b e m =

@@ -9,15 +9,16 @@ use Rattle.fax_ifp.specs.Pieces as pieces
 use Rattle.fax_timers.specs.Moments.{is_due}
 use Rattle.fax_timers.specs.Paces.{pace_allows}
 use Rattle.fax_answer.specs.declared.command.Command.{Command}
+use Rattle.fax_answer.specs.declared.command.Command.TheVariants.{Eom, Mps, Eop}
 use Rattle.fax_answer.specs.declared.command.Order.{Order}
 use Rattle.fax_answer.specs.declared.command.Order.TheVariants as orders
 use Rattle.fax_answer.specs.declared.state.State.{State}
-use Rattle.fax_answer.specs.declared.state.State.TheVariants.{Idle, Identify, Listen, Train, Page, Closing}
+use Rattle.fax_answer.specs.declared.state.State.TheVariants.{Idle, Identify, Listen, Train, Page, Again, Closing}
 use Rattle.fax_answer.specs.Orders.{order_of}
-use Rattle.fax_answer.specs.History.{Entry, Decision, PassesOver, Trains, HangsUp, GivesCfr, GivesFtt, GivesMcf, GivesRtn, is_answer, since_answer, images, gap, octets_since, last_image, last_whole, missing_in_training, dcs_asked, dcs_said, trained_dcs, answered_dcs}
-use Rattle.fax_answer.specs.Table.{Reading, has_zero_run, judged, is_one_image, is_repeat, on_order, decision, order_asks, asked_of, state_after}
-use Rattle.fax_answer.specs.Replies.{ConfirmedPage, Waiting, reply_to, is_waiting}
-use Rattle.fax_answer.specs.Calls.{Answering, rung, came, asked, says_goodbye, identifies_again, timed_in, timed, state_when_given, Ticked, given_first, paced, ticked, CallEvent, Comes, Ticks, after_events}
+use Rattle.fax_answer.specs.History.{Entry, Decision, PassesOver, Trains, HangsUp, GivesCfr, GivesFtt, GivesMcf, GivesRtn, is_answer, since_answer, images, gap, octets_since, last_image, last_whole, repeated, missing_in_training, dcs_asked, dcs_said, trained_dcs, answered_dcs}
+use Rattle.fax_answer.specs.Table.{Reading, has_zero_run, judged, is_one_image, is_quiet, is_repeat, on_command_again, on_order, decision, order_asks, asked_of, state_after}
+use Rattle.fax_answer.specs.Replies.{ConfirmedPage, is_last, Waiting, reply_to, is_waiting}
+use Rattle.fax_answer.specs.Calls.{Answering, rung, came, asked, says_goodbye, identifies_again, identifies_anew, timed_in, timed, state_when_given, Ticked, given_first, paced, ticked, CallEvent, Comes, Ticks, after_events}
 use Rattle.fax_answer.specs.Confirmation.{IsConfirmation, IsConfirmedIn, IfAsked, AreRead, GivesConfirmations}
 use Rattle.fax_answer.proofs.Neat.{mcf_with_page}
 use Rattle.fax_answer.specs.Following.{Rests}
@@ -31,6 +32,15 @@ chosen true c (Some p) asked command page h = (cc, refl, cc)
 chosen true c None asked command page h = cc
 chosen false true r asked command page h = cc
 chosen false false r asked command page h = cc
+
+no_page : (b : Bool) (command : Command) (page : PageValue) → (if b then GivesMcf Eom None else GivesRtn) ≡ GivesMcf command (Some page) → ⊥
+no_page true command page h = cc
+no_page false command page h = cc
+
+again_no_page : (before : List Entry) (asked command : Command) (page : PageValue) → on_command_again before asked ≡ GivesMcf command (Some page) → ⊥
+again_no_page before Eom command page h = no_page (is_quiet (since_answer before)) command page h
+again_no_page before Mps command page h = cc
+again_no_page before Eop command page h = cc
 
 record IsAccepted (read : Reading) (state : State) (before : List Entry) (order : Order) (command : Command) (page : PageValue) : Type 0 where
   dcs : Dcs
@@ -56,8 +66,12 @@ by_order read (Train dcs) before (orders.Judge c) command page h = cc
 by_order read (Train dcs) before orders.Disconnect command page h = cc
 by_order read (Train dcs) before orders.Nothing command page h = cc
 by_order read (Page dcs) before (orders.Train d) command page h = cc
+by_order read Again before (orders.Train d) command page h = cc
 by_order read (Page dcs) before orders.Disconnect command page h = cc
+by_order read Again before orders.Disconnect command page h = cc
 by_order read (Page dcs) before orders.Nothing command page h = cc
+by_order read Again before orders.Nothing command page h = cc
+by_order read Again before (orders.Judge c) command page h = absurd (again_no_page before c command page h)
 by_order read (Page dcs) before (orders.Judge c) command page h =
     let k = chosen (is_one_image (since_answer before)) (is_repeat before c) read c command page h in
     record { dcs = dcs; state_is = refl; order_is = ap orders.Judge k.0; one_page = k.1; was_read = k.2 }
@@ -74,16 +88,23 @@ not_true : (b : Bool) → not b ≡ true → b ≡ false
 not_true true h = cc
 not_true false h = refl
 
--- the DCS of Train is that of the last frame that trained, and that of Page the one that the last CFR answered
+-- the DCS of Train is that of the last frame that trained, that of Page the one that the last CFR answered, and in Again the
+-- last MCF answered an EOM
 abbrev pub KnowsDcs : State → List Entry → Type 0
 KnowsDcs (Train dcs) history = trained_dcs history ≡ Some dcs
 KnowsDcs (Page dcs) history = answered_dcs history ≡ Some dcs
+KnowsDcs Again history = repeated history ≡ Some Eom
 KnowsDcs state history = Unit {0}
 
 -- what the table's word says of the frame and the state
+abbrev FitsMcf : State → Command → Type 0
+FitsMcf Again command = command ≡ Eom
+FitsMcf state command = Unit {0}
+
 abbrev Fits : State → pieces.Piece → Decision → Type 0
 Fits state piece (Trains dcs) = dcs_said piece ≡ Some dcs
 Fits state piece (GivesCfr dcs) = state ≡ Train dcs
+Fits state piece (GivesMcf command page) = FitsMcf state command
 Fits state piece d = Unit {0}
 
 knows_after : (state : State) (history : List Entry) (piece : pieces.Piece) (d : Decision) → Fits state piece d → KnowsDcs state history → KnowsDcs (state_after state d) (record { piece = piece; decision = d } ∷ history)
@@ -96,25 +117,45 @@ knows_after Identify history piece PassesOver f k = tt
 knows_after Listen history piece PassesOver f k = tt
 knows_after (Train d) history piece PassesOver f k = k
 knows_after (Page d) history piece PassesOver f k = k
+knows_after Again history piece PassesOver f k = k
 knows_after Closing history piece PassesOver f k = tt
-knows_after Idle history piece (GivesMcf c p) f k = tt
-knows_after Identify history piece (GivesMcf c p) f k = tt
-knows_after Listen history piece (GivesMcf c p) f k = tt
-knows_after (Train d) history piece (GivesMcf c p) f k = k
-knows_after (Page d) history piece (GivesMcf c p) f k = k
-knows_after Closing history piece (GivesMcf c p) f k = tt
+knows_after state history piece (GivesMcf Eom p) f k = refl
+knows_after Idle history piece (GivesMcf Mps p) f k = tt
+knows_after Identify history piece (GivesMcf Mps p) f k = tt
+knows_after Listen history piece (GivesMcf Mps p) f k = tt
+knows_after (Train d) history piece (GivesMcf Mps p) f k = k
+knows_after (Page d) history piece (GivesMcf Mps p) f k = k
+knows_after Again history piece (GivesMcf Mps p) f k = cc
+knows_after Closing history piece (GivesMcf Mps p) f k = tt
+knows_after Idle history piece (GivesMcf Eop p) f k = tt
+knows_after Identify history piece (GivesMcf Eop p) f k = tt
+knows_after Listen history piece (GivesMcf Eop p) f k = tt
+knows_after (Train d) history piece (GivesMcf Eop p) f k = k
+knows_after (Page d) history piece (GivesMcf Eop p) f k = k
+knows_after Again history piece (GivesMcf Eop p) f k = cc
+knows_after Closing history piece (GivesMcf Eop p) f k = tt
 knows_after Idle history piece GivesRtn f k = tt
 knows_after Identify history piece GivesRtn f k = tt
 knows_after Listen history piece GivesRtn f k = tt
 knows_after (Train d) history piece GivesRtn f k = k
 knows_after (Page d) history piece GivesRtn f k = k
+knows_after Again history piece GivesRtn f k = k
 knows_after Closing history piece GivesRtn f k = tt
 
-command_fits : (b c : Bool) (r : Option PageValue) (asked : Command) (state : State) (piece : pieces.Piece) → Fits state piece (if b then judged asked r else if c then GivesMcf asked None else GivesRtn)
-command_fits true c (Some p) asked state piece = tt
-command_fits true c None asked state piece = tt
-command_fits false true r asked state piece = tt
-command_fits false false r asked state piece = tt
+command_fits : (b c : Bool) (r : Option PageValue) (asked : Command) (dcs : Dcs) (piece : pieces.Piece) → Fits (Page dcs) piece (if b then judged asked r else if c then GivesMcf asked None else GivesRtn)
+command_fits true c (Some p) asked dcs piece = tt
+command_fits true c None asked dcs piece = tt
+command_fits false true r asked dcs piece = tt
+command_fits false false r asked dcs piece = tt
+
+eom_fits : (b : Bool) (piece : pieces.Piece) → Fits Again piece (if b then GivesMcf Eom None else GivesRtn)
+eom_fits true piece = refl
+eom_fits false piece = tt
+
+again_fits : (before : List Entry) (asked : Command) (piece : pieces.Piece) → Fits Again piece (on_command_again before asked)
+again_fits before Eom piece = eom_fits (is_quiet (since_answer before)) piece
+again_fits before Mps piece = tt
+again_fits before Eop piece = tt
 
 order_fits : (read : Reading) (state : State) (before : List Entry) (octets : List ℕ) (order : Order) → order_of octets ≡ order → Fits state (pieces.Frame octets) (on_order read state before order)
 order_fits read Idle before octets order h = tt
@@ -132,9 +173,13 @@ order_fits read (Train dcs) before octets (orders.Judge c) h = tt
 order_fits read (Train dcs) before octets orders.Disconnect h = tt
 order_fits read (Train dcs) before octets orders.Nothing h = tt
 order_fits read (Page dcs) before octets (orders.Train d) h = ap dcs_asked h
-order_fits read (Page dcs) before octets (orders.Judge c) h = command_fits (is_one_image (since_answer before)) (is_repeat before c) read c (Page dcs) (pieces.Frame octets)
+order_fits read Again before octets (orders.Train d) h = ap dcs_asked h
+order_fits read (Page dcs) before octets (orders.Judge c) h = command_fits (is_one_image (since_answer before)) (is_repeat before c) read c dcs (pieces.Frame octets)
+order_fits read Again before octets (orders.Judge c) h = again_fits before c (pieces.Frame octets)
 order_fits read (Page dcs) before octets orders.Disconnect h = tt
+order_fits read Again before octets orders.Disconnect h = tt
 order_fits read (Page dcs) before octets orders.Nothing h = tt
+order_fits read Again before octets orders.Nothing h = tt
 
 check_fits : (b : Bool) (dcs : Dcs) (piece : pieces.Piece) → Fits (Train dcs) piece (if b then GivesCfr dcs else GivesFtt)
 check_fits true dcs piece = refl
@@ -152,6 +197,7 @@ fits read Listen waits before (pieces.End whole) = tt
 fits read (Train dcs) waits before (pieces.End whole) =
     check_fits (whole && (not (missing_in_training before) && has_zero_run (bits_a_second dcs.rate / 8) (octets_since before))) dcs (pieces.End whole)
 fits read (Page dcs) waits before (pieces.End whole) = tt
+fits read Again waits before (pieces.End whole) = tt
 fits read Closing waits before (pieces.End whole) = tt
 fits read state waits before (pieces.Start k) = tt
 fits read state waits before (pieces.Octets o) = tt
@@ -175,8 +221,8 @@ backed_later e history (Some c) n b =
       decision = b.decision;
       before = b.before;
       split = ap (λ (h : List Entry). e ∷ h) b.split;
-      accepts = b.accepts;
       confirmation = b.confirmation;
+      accepts = b.accepts;
       last = ap (λ (t : Bool). if◌then◌else◌ {A = List Entry} t [] (e ∷ since_answer history)) n ∙ ap (λ (h : List Entry). e ∷ h) b.last;
     }
 
@@ -202,28 +248,32 @@ means_read read dcs octets false page h e r = cc
 -- the acceptance of a frame is a confirmation
 frame_confirms : (read : Reading) (state : State) (before : List Entry) (octets : List ℕ) (command : Command) (page : PageValue) →
     IfAsked (order_asks state before (order_of octets)) read → KnowsDcs state before → IsAccepted read state before (order_of octets) command page →
-    IsConfirmation before octets (record { page = page; command = command })
+    (i : IsConfirmation before octets (record { page = page; closes = is_last command })) × (i.command ≡ command)
 frame_confirms read state before octets command page right knows a =
     let since = since_answer before in
     let t = both_true (nat_eq (images since) 1) (last_whole since && not (gap since)) a.one_page in
-    let u = both_true (last_whole since) (not (gap since)) t.1 in
-    record {
-      command = a.order_is;
-      one_image = is_one (images since) t.0;
-      whole = u.0;
-      quiet = not_true (gap since) u.1;
-      dcs = a.dcs;
-      answered = subst (λ (p : State). KnowsDcs p before) a.state_is knows;
-      means = means_read read a.dcs (last_image before) (is_one_image since) page a.one_page a.was_read
-          (subst (λ (x : State). IfAsked (order_asks x before (orders.Judge command)) read) a.state_is (subst (λ (o : Order). IfAsked (order_asks state before o) read) a.order_is right));
-    }
+    let u = both_true (last_whole since) (not (gap since)) t.1 in (
+      record {
+        command = command;
+        order = a.order_is;
+        closes = refl;
+        one_image = is_one (images since) t.0;
+        whole = u.0;
+        quiet = not_true (gap since) u.1;
+        dcs = a.dcs;
+        answered = subst (λ (p : State). KnowsDcs p before) a.state_is knows;
+        means = means_read read a.dcs (last_image before) (is_one_image since) page a.one_page a.was_read
+            (subst (λ (x : State). IfAsked (order_asks x before (orders.Judge command)) read) a.state_is (subst (λ (o : Order). IfAsked (order_asks state before o) read) a.order_is right));
+      },
+      refl,
+    )
 
 -- the reply at a piece is backed by the history with that piece
 abbrev ReplyIsBacked : List Entry → pieces.Piece → Decision → Type 0
 ReplyIsBacked before piece d = AreBacked (record { piece = piece; decision = d } ∷ before) (reply_to d)
 
 reply_backed : (before : List Entry) (piece : pieces.Piece) (d : Decision) →
-    ((command : Command) (page : PageValue) → d ≡ GivesMcf command (Some page) → IsConfirmedIn (record { piece = piece; decision = d } ∷ before) (record { page = page; command = command })) →
+    ((command : Command) (page : PageValue) → d ≡ GivesMcf command (Some page) → IsConfirmedIn (record { piece = piece; decision = d } ∷ before) (record { page = page; closes = is_last command })) →
     ReplyIsBacked before piece d
 reply_backed before piece PassesOver h = tt
 reply_backed before piece (Trains dcs) h = tt
@@ -236,7 +286,7 @@ reply_backed before piece GivesRtn h = (tt, (tt, tt))
 
 pub at_frame : (read : Reading) (state : State) (waits : Bool) (before : List Entry) (octets : List ℕ) (command : Command) (page : PageValue) →
     IfAsked (asked_of state waits before (pieces.Frame octets)) read → KnowsDcs state before → decision read state waits before (pieces.Frame octets) ≡ GivesMcf command (Some page) →
-    IsConfirmation before octets (record { page = page; command = command })
+    (i : IsConfirmation before octets (record { page = page; closes = is_last command })) × (i.command ≡ command)
 at_frame read state true before octets command page right knows h = cc
 at_frame read state false before octets command page right knows h =
     frame_confirms read state before octets command page right knows (by_order read state before (order_of octets) command page h)
@@ -254,6 +304,7 @@ end_accepts_none read Listen waits before whole command page h = cc
 end_accepts_none read (Train dcs) waits before whole command page h =
     check_passes (whole && (not (missing_in_training before) && has_zero_run (bits_a_second dcs.rate / 8) (octets_since before))) dcs command page h
 end_accepts_none read (Page dcs) waits before whole command page h = cc
+end_accepts_none read Again waits before whole command page h = cc
 end_accepts_none read Closing waits before whole command page h = cc
 
 since_none : (d : Decision) (command : Command) (page : PageValue) (piece : pieces.Piece) (before : List Entry) → d ≡ GivesMcf command (Some page) → since_answer (record { piece = piece; decision = d } ∷ before) ≡ []
@@ -261,7 +312,7 @@ since_none d command page piece before h = ap (λ (x : Decision). since_answer (
 
 confirmed_at : (read : Reading) (state : State) (waits : Bool) (before : List Entry) (piece : pieces.Piece) (command : Command) (page : PageValue) →
     IfAsked (asked_of state waits before piece) read → KnowsDcs state before → decision read state waits before piece ≡ GivesMcf command (Some page) →
-    IsConfirmedIn (record { piece = piece; decision = decision read state waits before piece } ∷ before) (record { page = page; command = command })
+    IsConfirmedIn (record { piece = piece; decision = decision read state waits before piece } ∷ before) (record { page = page; closes = is_last command })
 confirmed_at read state waits before (pieces.Frame octets) command page right knows h =
     record {
       later = [];
@@ -269,8 +320,8 @@ confirmed_at read state waits before (pieces.Frame octets) command page right kn
       decision = decision read state waits before (pieces.Frame octets);
       before = before;
       split = refl;
-      accepts = h;
-      confirmation = at_frame read state waits before octets command page right knows h;
+      confirmation = (at_frame read state waits before octets command page right knows h).0;
+      accepts = h ∙ ap (λ (c : Command). GivesMcf c (Some page)) (sym (at_frame read state waits before octets command page right knows h).1);
       last = since_none (decision read state waits before (pieces.Frame octets)) command page (pieces.Frame octets) before h;
     }
 confirmed_at read state waits before (pieces.End whole) command page right knows h = absurd (end_accepts_none read state waits before whole command page h)
@@ -300,6 +351,9 @@ goodbye_keeps a = record { rests = tt; knows = tt; backed = (tt, (tt, tt)) }
 again_keeps : (a : Answering) → a.state ≡ Identify → InCall a → InCall (identifies_again a)
 again_keeps a e i = record { rests = subst (λ (p : State). Rests p (identifies_again a).waiting) (sym e) tt; knows = i.knows; backed = (tt, (tt, tt)) }
 
+anew_keeps : (a : Answering) (now : ℕ) → InCall (identifies_anew a now)
+anew_keeps a now = record { rests = tt; knows = tt; backed = (tt, (tt, tt)) }
+
 either : (b : Bool) (x y : Answering) → InCall x → InCall y → InCall (if b then x else y)
 either true x y i j = i
 either false x y i j = j
@@ -312,6 +366,7 @@ timed_in_keeps Identify a now e i =
 timed_in_keeps Listen a now e i = either (is_due a.timers.t2 now) _ _ (goodbye_keeps a) i
 timed_in_keeps (Train d) a now e i = either (is_due a.timers.t2 now) _ _ (goodbye_keeps a) i
 timed_in_keeps (Page d) a now e i = either (is_due a.timers.t2 now) _ _ (goodbye_keeps a) i
+timed_in_keeps Again a now e i = either (is_due a.timers.t2 now) _ _ (anew_keeps a now) i
 
 timed_keeps : (a : Answering) (now : ℕ) → InCall a → InCall (timed a now)
 timed_keeps a now i = either (is_waiting a.waiting) a (timed_in a.state a now) i (timed_in_keeps a.state a now refl i)
@@ -328,6 +383,7 @@ knows_when_sent Identify history k = tt
 knows_when_sent Listen history k = tt
 knows_when_sent (Train d) history k = k
 knows_when_sent (Page d) history k = k
+knows_when_sent Again history k = k
 knows_when_sent Closing history k = tt
 
 backed_first : (history : List Entry) (w v : Waiting) → IsBacked history w.confirmed → Some w ≡ Some v → IsBacked history v.confirmed
@@ -360,6 +416,7 @@ timed_in_history Identify a now =
 timed_in_history Listen a now = same_if (is_due a.timers.t2 now) a.history (says_goodbye a) a refl refl
 timed_in_history (Train d) a now = same_if (is_due a.timers.t2 now) a.history (says_goodbye a) a refl refl
 timed_in_history (Page d) a now = same_if (is_due a.timers.t2 now) a.history (says_goodbye a) a refl refl
+timed_in_history Again a now = same_if (is_due a.timers.t2 now) a.history (identifies_anew a now) a refl refl
 
 pub timed_history : (a : Answering) (now : ℕ) → (timed a now).history ≡ a.history
 timed_history a now = same_if (is_waiting a.waiting) a.history a (timed_in a.state a now) refl (timed_in_history a.state a now)

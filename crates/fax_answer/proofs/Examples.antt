@@ -2,11 +2,11 @@
 use Rattle.std.proofs.Common.{◌≡◌, ℕ, true, false, List, [], ◌∷◌, Option, Some, None, refl, replicate}
 use Rattle.fax_runcodes.specs.declared.Width.TheVariants.{W1728}
 use Rattle.fax_frames.specs.declared.writing.Plain.TheVariants.{Cfr, Ftt, Rtn, Dcn}
-use Rattle.fax_frames.specs.Written.{written_plain}
+use Rattle.fax_frames.specs.Capabilities.{our_dis}
+use Rattle.fax_frames.specs.Written.{written_plain, written_dis}
 use Rattle.fax_pagestore.specs.Pages.{PageValue}
 use Rattle.fax_ifp.specs.Pieces.{Piece, Frame, Start, Octets, End, Gap}
 use Rattle.fax_ifp.specs.WrittenPackets.{written_behind}
-use Rattle.fax_answer.specs.declared.command.Command.TheVariants.{Eop}
 use Rattle.fax_answer.specs.Orders.{order_of}
 use Rattle.fax_answer.specs.Replies.{Waiting, silent, preamble, frame_packet, mcf_packet}
 use Rattle.fax_answer.specs.Calls.{new_answering, rung, ticked, CallEvent, Comes, Ticks, after_events}
@@ -53,7 +53,7 @@ unfolding given_at begins packet_of order_of written_behind
 gives_ftt = refl
 
 -- a page is confirmed by MCF
-gives_mcf : given_at 240 confirmed ≡ Some (record { packet = mcf_packet; confirmed = Some (record { page = page; command = Eop }) })
+gives_mcf : given_at 240 confirmed ≡ Some (record { packet = mcf_packet; confirmed = Some (record { page = page; closes = true }) })
 unfolding given_at confirmed image trains begins eop page order_of written_behind
 gives_mcf = refl
 
@@ -85,3 +85,59 @@ again = refl
 goodbye : packet_of (given_at 35040 (Ticks 35000 ∷ Ticks 80 ∷ Ticks 40 ∷ Ticks 0 ∷ [])) ≡ Some (frame_packet (written_plain Dcn false))
 unfolding given_at packet_of written_behind
 goodbye = refl
+
+-- AN EOM: the page is confirmed, and no job is closed
+eom : Piece
+eom = Frame (0xFF ∷ 0xC8 ∷ 0xF1 ∷ [])
+
+turned : List CallEvent
+turned = Ticks 240 ∷ Ticks 200 ∷ Comes eom 160 (Some page) ∷ image
+
+confirms_eom : given_at 240 (Ticks 200 ∷ Comes eom 160 (Some page) ∷ image) ≡ Some (record { packet = mcf_packet; confirmed = Some (record { page = page; closes = false }) })
+unfolding given_at image trains begins eom page order_of written_behind
+confirms_eom = refl
+
+-- the EOM again is answered by MCF, with no page; behind a missing slot by RTN, and behind an image too
+eom_again : given_at 320 (Ticks 280 ∷ Comes eom 240 None ∷ turned) ≡ Some (silent mcf_packet)
+unfolding given_at turned image trains begins eom page order_of written_behind
+eom_again = refl
+
+eom_behind_a_gap : packet_of (given_at 320 (Ticks 280 ∷ Comes eom 240 None ∷ Comes Gap 240 None ∷ turned)) ≡ Some (frame_packet (written_plain Rtn false))
+unfolding given_at turned image trains begins eom page packet_of order_of written_behind
+eom_behind_a_gap = refl
+
+eom_behind_an_image : packet_of (given_at 320 (Ticks 280 ∷ Comes eom 240 (Some page) ∷ Comes (End true) 240 None ∷ Comes (Octets (0x00 ∷ [])) 240 None ∷ turned)) ≡ Some (frame_packet (written_plain Rtn false))
+unfolding given_at turned image trains begins eom page packet_of order_of written_behind
+eom_behind_an_image = refl
+
+-- an EOP there is answered by RTN, and changes nothing: the EOM behind it still gets MCF
+eop_in_again : packet_of (given_at 320 (Ticks 280 ∷ Comes eop 240 None ∷ turned)) ≡ Some (frame_packet (written_plain Rtn false))
+unfolding given_at turned image trains begins eom eop page packet_of order_of written_behind
+eop_in_again = refl
+
+eom_behind_eop : given_at 400 (Ticks 360 ∷ Comes eom 320 None ∷ Ticks 320 ∷ Ticks 280 ∷ Comes eop 240 None ∷ turned) ≡ Some (silent mcf_packet)
+unfolding given_at turned image trains begins eom eop page order_of written_behind
+eom_behind_eop = refl
+
+-- six seconds behind the MCF our DIS is given again, and no sooner
+still_quiet : packet_of (given_at 6239 turned) ≡ None
+unfolding given_at turned image trains begins eom page packet_of order_of written_behind
+still_quiet = refl
+
+dis_anew : packet_of (given_at 6280 (Ticks 6240 ∷ turned)) ≡ Some (frame_packet (written_dis our_dis))
+unfolding given_at turned image trains begins eom page packet_of order_of written_behind
+dis_anew = refl
+
+-- a DCS, now fine, a training check, an image and EOP: this page closes the job
+trains_anew : List CallEvent
+trains_anew =
+    Ticks 6360 ∷ Ticks 6320 ∷ Comes (End true) 6280 None ∷ Comes (Octets (replicate 300 0)) 6280 None ∷ Comes (Start 1) 6280 None
+    ∷ Comes (Frame (0xFF ∷ 0xC8 ∷ 0xC1 ∷ 0x00 ∷ 0x42 ∷ 0x00 ∷ [])) 6280 None ∷ Ticks 6280 ∷ Ticks 6240 ∷ turned
+
+fine_page : PageValue
+fine_page = record { format = record { width = W1728; fine = true }; rows = [] }
+
+confirms_anew : given_at 6440 (Ticks 6400 ∷ Comes eop 6360 (Some fine_page) ∷ Comes (End true) 6360 None ∷ Comes (Octets (0x00 ∷ 0x14 ∷ [])) 6360 None ∷ Comes (Start 1) 6360 None ∷ trains_anew)
+    ≡ Some (record { packet = mcf_packet; confirmed = Some (record { page = fine_page; closes = true }) })
+unfolding given_at trains_anew turned image trains begins eom eop page fine_page order_of written_behind
+confirms_anew = refl

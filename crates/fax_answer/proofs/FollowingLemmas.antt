@@ -5,7 +5,7 @@ use Rattle.fax_ifp.specs.Pieces.{Piece}
 use Rattle.fax_timers.specs.Paces.{pace_allows}
 use Rattle.fax_answer.specs.declared.timers.Timers.{Timers}
 use Rattle.fax_answer.specs.declared.state.State.{State}
-use Rattle.fax_answer.specs.declared.state.State.TheVariants.{Idle, Identify, Listen, Train, Page, Closing}
+use Rattle.fax_answer.specs.declared.state.State.TheVariants.{Idle, Identify, Listen, Train, Page, Again, Closing}
 use Rattle.fax_answer.specs.declared.pending.Pending.{Pending}
 use Rattle.fax_answer.specs.declared.pending.Pending.TheVariants.{Nothing, Tone, Preamble, Frame}
 use Rattle.fax_answer.specs.declared.pending.Reply.{Reply}
@@ -14,10 +14,10 @@ use Rattle.fax_answer.specs.declared.procedure.Procedure.{Procedure}
 use Rattle.fax_answer.specs.History.{Decision, PassesOver, Trains, HangsUp, GivesCfr, GivesFtt, GivesMcf, GivesRtn}
 use Rattle.fax_answer.specs.Table.{state_after}
 use Rattle.fax_answer.specs.Replies.{ConfirmedPage, Waiting, confirmed_if, reply_to, silent, called_tone, preamble, is_waiting}
-use Rattle.fax_answer.specs.Calls.{Answering, Ticked, decided, timers_after, given_first, timed, timed_in, ticked, says_goodbye, identifies_again, state_when_given, timers_when_given, is_closing}
+use Rattle.fax_answer.specs.Calls.{Answering, Ticked, decided, timers_after, given_first, timed, timed_in, ticked, says_goodbye, identifies_again, identifies_anew, state_when_given, timers_when_given, is_closing}
 use Rattle.fax_answer.specs.Kept.{counts_of}
 use Rattle.fax_answer.specs.Pending.{packet_text, waiting_of, framed}
-use Rattle.fax_answer.specs.Following.{Rests, Follows, CanDecide, confirmed_behind, confirmed_with, confirmed_left, GivesNext, gives_now, gives_up, repeats_dis}
+use Rattle.fax_answer.specs.Following.{Rests, Follows, CanDecide, confirmed_behind, confirmed_with, confirmed_left, GivesNext, gives_now, gives_up, repeats_dis, begins_again}
 
 -- WHAT WAITS
 quiet_behind : (d : Decision) (c : Option ConfirmedPage) (pending : Pending) → c ≡ None → waiting_of pending (confirmed_behind d None) ≡ reply_to d → pending ≡ Nothing → confirmed_behind d c ≡ None
@@ -90,25 +90,26 @@ noted_waiting core confirmed old new piece d now f can some state counts timers 
     }
 
 -- TIMERS
-timed_in_is : (s : State) (a : Answering) (now : ℕ) → timed_in s a now ≡ (if gives_up s a.timers now then says_goodbye a else if repeats_dis s a.timers now then identifies_again a else a)
+abbrev chosen : Bool → Bool → Bool → Answering → ℕ → Answering
+chosen b c d a now = if b then says_goodbye a else if c then identifies_again a else if d then identifies_anew a now else a
+
+timed_in_is : (s : State) (a : Answering) (now : ℕ) → timed_in s a now ≡ chosen (gives_up s a.timers now) (repeats_dis s a.timers now) (begins_again s a.timers now) a now
 timed_in_is Idle a now = refl
 timed_in_is Identify a now = refl
 timed_in_is Listen a now = refl
 timed_in_is (Train dcs) a now = refl
 timed_in_is (Page dcs) a now = refl
+timed_in_is Again a now = refl
 timed_in_is Closing a now = refl
 
-abbrev chosen : Bool → Bool → Answering → Answering
-chosen b c a = if b then says_goodbye a else if c then identifies_again a else a
-
 acts : (core : Answering) (confirmed : Option ConfirmedPage) (old : Procedure) (now : ℕ) → Follows core confirmed old → old.pending ≡ Nothing →
-    timed core now ≡ chosen (gives_up old.state old.timers now) (repeats_dis old.state old.timers now) core
+    timed core now ≡ chosen (gives_up old.state old.timers now) (repeats_dis old.state old.timers now) (begins_again old.state old.timers now) core now
 acts core confirmed old now f nothing =
     let empty : core.waiting ≡ [] = sym f.waiting ∙ ap (λ (p : Pending). waiting_of p confirmed) nothing in
     ap (λ (ws : List Waiting). if is_waiting ws then core else timed_in core.state core now) empty
     ∙ timed_in_is core.state core now
-    ∙ ap (λ (s : State). chosen (gives_up s core.timers now) (repeats_dis s core.timers now) core) (sym f.state)
-    ∙ ap (λ (t : Timers). chosen (gives_up old.state t now) (repeats_dis old.state t now) core) (sym f.timers)
+    ∙ ap (λ (s : State). chosen (gives_up s core.timers now) (repeats_dis s core.timers now) (begins_again s core.timers now) core now) (sym f.state)
+    ∙ ap (λ (t : Timers). chosen (gives_up old.state t now) (repeats_dis old.state t now) (begins_again old.state t now) core now) (sym f.timers)
 
 waits_on : (ws : List Waiting) (x y : Answering) → (ws ≡ [] → ⊥) → (if is_waiting ws then x else y) ≡ x
 waits_on [] x y n = absurd (n refl)
@@ -121,17 +122,22 @@ acts_waiting core confirmed old now f some =
 pub acts_goodbye : (core : Answering) (confirmed : Option ConfirmedPage) (old new : Procedure) (now : ℕ) → Follows core confirmed old → old.pending ≡ Nothing → gives_up old.state old.timers now ≡ true
     → Follows (says_goodbye core) confirmed new → Follows (timed core now) confirmed new
 acts_goodbye core confirmed old new now f nothing up g =
-    subst (λ (a : Answering). Follows a confirmed new) (sym (acts core confirmed old now f nothing ∙ ap (λ (b : Bool). chosen b (repeats_dis old.state old.timers now) core) up)) g
+    subst (λ (a : Answering). Follows a confirmed new) (sym (acts core confirmed old now f nothing ∙ ap (λ (b : Bool). chosen b (repeats_dis old.state old.timers now) (begins_again old.state old.timers now) core now) up)) g
 
 pub acts_again : (core : Answering) (confirmed : Option ConfirmedPage) (old new : Procedure) (now : ℕ) → Follows core confirmed old → old.pending ≡ Nothing → gives_up old.state old.timers now ≡ false → repeats_dis old.state old.timers now ≡ true
     → Follows (identifies_again core) confirmed new → Follows (timed core now) confirmed new
 acts_again core confirmed old new now f nothing up again g =
-    subst (λ (a : Answering). Follows a confirmed new) (sym (acts core confirmed old now f nothing ∙ ap (λ (b : Bool). chosen b (repeats_dis old.state old.timers now) core) up ∙ ap (λ (b : Bool). chosen false b core) again)) g
+    subst (λ (a : Answering). Follows a confirmed new) (sym (acts core confirmed old now f nothing ∙ ap (λ (b : Bool). chosen b (repeats_dis old.state old.timers now) (begins_again old.state old.timers now) core now) up ∙ ap (λ (b : Bool). chosen false b (begins_again old.state old.timers now) core now) again)) g
 
-pub acts_none : (core : Answering) (confirmed : Option ConfirmedPage) (old : Procedure) (now : ℕ) → Follows core confirmed old → old.pending ≡ Nothing → gives_up old.state old.timers now ≡ false → repeats_dis old.state old.timers now ≡ false
+pub acts_anew : (core : Answering) (confirmed : Option ConfirmedPage) (old new : Procedure) (now : ℕ) → Follows core confirmed old → old.pending ≡ Nothing → gives_up old.state old.timers now ≡ false → repeats_dis old.state old.timers now ≡ false → begins_again old.state old.timers now ≡ true
+    → Follows (identifies_anew core now) confirmed new → Follows (timed core now) confirmed new
+acts_anew core confirmed old new now f nothing up again anew g =
+    subst (λ (a : Answering). Follows a confirmed new) (sym (acts core confirmed old now f nothing ∙ ap (λ (b : Bool). chosen b (repeats_dis old.state old.timers now) (begins_again old.state old.timers now) core now) up ∙ ap (λ (b : Bool). chosen false b (begins_again old.state old.timers now) core now) again ∙ ap (λ (b : Bool). chosen false false b core now) anew)) g
+
+pub acts_none : (core : Answering) (confirmed : Option ConfirmedPage) (old : Procedure) (now : ℕ) → Follows core confirmed old → old.pending ≡ Nothing → gives_up old.state old.timers now ≡ false → repeats_dis old.state old.timers now ≡ false → begins_again old.state old.timers now ≡ false
     → Follows (timed core now) confirmed old
-acts_none core confirmed old now f nothing up again =
-    subst (λ (a : Answering). Follows a confirmed old) (sym (acts core confirmed old now f nothing ∙ ap (λ (b : Bool). chosen b (repeats_dis old.state old.timers now) core) up ∙ ap (λ (b : Bool). chosen false b core) again)) f
+acts_none core confirmed old now f nothing up again anew =
+    subst (λ (a : Answering). Follows a confirmed old) (sym (acts core confirmed old now f nothing ∙ ap (λ (b : Bool). chosen b (repeats_dis old.state old.timers now) (begins_again old.state old.timers now) core now) up ∙ ap (λ (b : Bool). chosen false b (begins_again old.state old.timers now) core now) again ∙ ap (λ (b : Bool). chosen false false b core now) anew)) f
 
 -- PACKETS
 fewer : (s : State) (w v : Waiting) (ws : List Waiting) → Rests s (w ∷ v ∷ ws) → Rests s (v ∷ ws)
@@ -140,6 +146,7 @@ fewer Identify w v ws r = tt
 fewer Listen w v ws r = tt
 fewer (Train d) w v ws r = cc
 fewer (Page d) w v ws r = tt
+fewer Again w v ws r = tt
 fewer Closing w v ws r = tt
 
 -- a packet behind which another waits
@@ -189,6 +196,7 @@ given_rests Identify = tt
 given_rests Listen = tt
 given_rests (Train d) = refl
 given_rests (Page d) = tt
+given_rests Again = tt
 given_rests Closing = refl
 
 pub gives_frame : (core : Answering) (confirmed : Option ConfirmedPage) (old new : Procedure) (now : ℕ) (reply : Reply) (ended : Bool) → Follows core confirmed old → old.pending ≡ Frame reply
@@ -247,8 +255,9 @@ pub timed_history : (a : Answering) (now : ℕ) → (timed a now).history ≡ a.
 timed_history a now =
     same_if (is_waiting a.waiting) a (timed_in a.state a now) a refl
     (ap (λ (x : Answering). x.history) (timed_in_is a.state a now)
-    ∙ same_if (gives_up a.state a.timers now) (says_goodbye a) (if repeats_dis a.state a.timers now then identifies_again a else a) a refl
-    (same_if (repeats_dis a.state a.timers now) (identifies_again a) a a refl refl))
+    ∙ same_if (gives_up a.state a.timers now) (says_goodbye a) (if repeats_dis a.state a.timers now then identifies_again a else if begins_again a.state a.timers now then identifies_anew a now else a) a refl
+    (same_if (repeats_dis a.state a.timers now) (identifies_again a) (if begins_again a.state a.timers now then identifies_anew a now else a) a refl
+    (same_if (begins_again a.state a.timers now) (identifies_anew a now) a a refl refl)))
 
 pub given_history : (a : Answering) (now : ℕ) (ws : List Waiting) → (given_first a now ws).core.history ≡ a.history
 given_history a now [] = refl

@@ -4,7 +4,7 @@ use Rattle.std.proofs.lemmas.List.{drop-append-le, take-append-le, length-append
 use Rattle.std.proofs.Math.Seq.{drop-length, take-length}
 use Rattle.fax_ifp.specs.Pieces.{Piece, Frame, Start, Octets, End, Gap}
 use Rattle.fax_answer.specs.declared.state.State.{State}
-use Rattle.fax_answer.specs.declared.state.State.TheVariants.{Idle, Identify, Listen, Train, Page, Closing}
+use Rattle.fax_answer.specs.declared.state.State.TheVariants.{Idle, Identify, Listen, Train, Page, Again, Closing}
 use Rattle.fax_answer.specs.History.{Entry, Decision, PassesOver, GivesCfr, GivesFtt, is_answer, since_answer, images, gap, octets_since, last_image, last_whole, missing_in_training}
 use Rattle.fax_answer.specs.Table.{Reading, zeros, longest_zeros, has_zero_run, is_one_image, decision}
 use Rattle.fax_answer.specs.Replies.{ConfirmedPage, Waiting, reply_to, is_waiting}
@@ -35,6 +35,7 @@ silent_if read Identify (w ∷ ws) before (End whole) r = inr refl
 silent_if read Listen (w ∷ ws) before (End whole) r = inr refl
 silent_if read (Train dcs) (w ∷ ws) before (End whole) r = inl r
 silent_if read (Page dcs) (w ∷ ws) before (End whole) r = inr refl
+silent_if read Again (w ∷ ws) before (End whole) r = inr refl
 silent_if read Closing (w ∷ ws) before (End whole) r = inr refl
 silent_if read state (w ∷ ws) before (Start kind) r = inr refl
 silent_if read state (w ∷ ws) before (Octets octets) r = inr refl
@@ -239,6 +240,7 @@ hears_end core whole now piece old new e s f same image =
     end_keeps Listen waits before whole c = refl
     end_keeps (Train dcs) waits before whole c = check_keeps (is_good whole dcs before) dcs c
     end_keeps (Page dcs) waits before whole c = refl
+    end_keeps Again waits before whole c = refl
     end_keeps Closing waits before whole c = refl
 
 pub hears_gap : (core : Answering) (now : ℕ) (piece : Piece) (old new : Kept) → piece ≡ Gap → Stands core old

@@ -7,13 +7,14 @@ use Rattle.fax_pagestore.specs.Pages.{PageValue}
 use Rattle.fax_pagestore.specs.PageTexts.{MeansPage}
 use Rattle.fax_ifp.specs.Pieces as pieces
 use Rattle.fax_answer.specs.declared.command.Command.{Command}
+use Rattle.fax_answer.specs.declared.command.Command.TheVariants.{Eom, Mps, Eop}
 use Rattle.fax_answer.specs.declared.command.Order.{Order}
 use Rattle.fax_answer.specs.declared.command.Order.TheVariants as orders
 use Rattle.fax_answer.specs.declared.state.State.{State}
-use Rattle.fax_answer.specs.declared.state.State.TheVariants.{Idle, Identify, Listen, Train, Page, Closing}
+use Rattle.fax_answer.specs.declared.state.State.TheVariants.{Idle, Identify, Listen, Train, Page, Again, Closing}
 use Rattle.fax_answer.specs.Orders.{order_of}
 use Rattle.fax_answer.specs.History.{Entry, Decision, PassesOver, GivesMcf, GivesRtn, since_answer, images, gap, last_image, repeated, answered_dcs}
-use Rattle.fax_answer.specs.Table.{Reading, Question, judged, is_one_image, same_command, is_repeat, on_command, on_order, decision, order_asks, asked_of}
+use Rattle.fax_answer.specs.Table.{Reading, Question, judged, is_one_image, is_quiet, same_command, is_repeat, on_command, on_command_again, on_order, decision, order_asks, asked_of}
 use Rattle.fax_answer.specs.Replies.{is_waiting}
 use Rattle.fax_answer.specs.Calls.{Answering, rung, CallEvent, Comes, Ticks, after_events}
 use Rattle.fax_answer.specs.Confirmation.{IsRight, IfAsked, AreRead}
@@ -53,7 +54,7 @@ unfolding AllDecided
 decided_at [] e before a = a.0
 decided_at (x ∷ later) e before a = decided_at later e before a.1
 
--- a command that is not passed over is answered in Page, by the reading of what it asks
+-- a command that is not passed over is answered in Page, by the reading of what it asks, or in Again
 abbrev asks_page : Dcs → List Entry → Option Question
 asks_page dcs before = if is_one_image (since_answer before) then Some (record { octets = last_image before; dcs = dcs }) else None
 
@@ -63,22 +64,29 @@ record InPage (read : Reading) (state : State) (before : List Entry) (command : 
   right : IfAsked (asks_page dcs before) read
   answer : d ≡ on_command read before command
 
+abbrev InAgain : State → List Entry → Command → Decision → Type 0
+InAgain state before command d = (state ≡ Again) × (d ≡ on_command_again before command)
+
+abbrev InEither : Reading → State → List Entry → Command → Decision → Type 0
+InEither read state before command d = InPage read state before command d ⊎ InAgain state before command d
+
 by_phase : (read : Reading) (state : State) (before : List Entry) (command : Command) → (on_order read state before (orders.Judge command) ≡ PassesOver → ⊥) → IfAsked (order_asks state before (orders.Judge command)) read →
-    InPage read state before command (on_order read state before (orders.Judge command))
+    InEither read state before command (on_order read state before (orders.Judge command))
 by_phase read Idle before command n r = absurd (n refl)
 by_phase read Identify before command n r = absurd (n refl)
 by_phase read Listen before command n r = absurd (n refl)
 by_phase read (Train dcs) before command n r = absurd (n refl)
-by_phase read (Page dcs) before command n r = record { dcs = dcs; is_page = refl; right = r; answer = refl }
+by_phase read (Page dcs) before command n r = inl (record { dcs = dcs; is_page = refl; right = r; answer = refl })
+by_phase read Again before command n r = inr (refl, refl)
 by_phase read Closing before command n r = absurd (n refl)
 
 by_frame : (read : Reading) (state : State) (waits : Bool) (before : List Entry) (octets : List ℕ) (command : Command) → order_of octets ≡ orders.Judge command →
     (decision read state waits before (pieces.Frame octets) ≡ PassesOver → ⊥) → IfAsked (asked_of state waits before (pieces.Frame octets)) read →
-    InPage read state before command (decision read state waits before (pieces.Frame octets))
+    InEither read state before command (decision read state waits before (pieces.Frame octets))
 by_frame read state true before octets command o n r = absurd (n refl)
 by_frame read state false before octets command o n r =
     let e : orders.Judge command ≡ order_of octets = sym o in
-    subst (λ (x : Order). InPage read state before command (on_order read state before x)) e
+    subst (λ (x : Order). InEither read state before command (on_order read state before x)) e
     (by_phase read state before command (λ p. n (ap (λ (x : Order). on_order read state before x) o ∙ p)) (subst (λ (x : Order). IfAsked (order_asks state before x) read) o r))
 
 -- a command that was answered: its reading
@@ -87,16 +95,23 @@ record Answer (before : List Entry) (command : Command) (d : Decision) (dcs : Dc
   right : IfAsked (asks_page dcs before) read
   answer : d ≡ on_command read before command
 
-in_page : (history before : List Entry) (command : Command) (d : Decision) (dcs : Dcs) → AllDecided history → IsAnswered history before command d dcs → Answer before command d dcs
-in_page history before command d dcs all a =
+abbrev AnswerAgain : List Entry → Command → Decision → Type 0
+AnswerAgain before command d = (repeated before ≡ Some Eom) × (d ≡ on_command_again before command)
+
+answered : (history before : List Entry) (command : Command) (d : Decision) (dcs : Dcs) → AllDecided history → IsAnswered history before command d dcs → Answer before command d dcs ⊎ AnswerAgain before command d
+answered history before command d dcs all a =
     let e : Entry = record { piece = pieces.Frame a.octets; decision = d } in
     let i : IsDecided e before = decided_at a.later e before (subst AllDecided a.split all) in
-    let p : InPage i.read i.state before command (decision i.read i.state i.waits before (pieces.Frame a.octets)) =
-    by_frame i.read i.state i.waits before a.octets command a.order (λ q. a.not_passed (i.decided ∙ q)) i.right in
-    let k : answered_dcs before ≡ Some p.dcs = subst (λ (x : State). KnowsDcs x before) p.is_page i.knows in
-    let q : Some p.dcs ≡ Some dcs = sym k ∙ a.dcs_is in
-    let same : p.dcs ≡ dcs = cc in
-    record { read = i.read; right = subst (λ (x : Dcs). IfAsked (asks_page x before) i.read) same p.right; answer = i.decided ∙ p.answer }
+    by i (by_frame i.read i.state i.waits before a.octets command a.order (λ q. a.not_passed (i.decided ∙ q)) i.right)
+  where
+    by : (i : IsDecided (record { piece = pieces.Frame a.octets; decision = d }) before) → InEither i.read i.state before command (decision i.read i.state i.waits before (pieces.Frame a.octets)) →
+        Answer before command d dcs ⊎ AnswerAgain before command d
+    by i (inl p) =
+        let k : answered_dcs before ≡ Some p.dcs = subst (λ (x : State). KnowsDcs x before) p.is_page i.knows in
+        let q : Some p.dcs ≡ Some dcs = sym k ∙ a.dcs_is in
+        let same : p.dcs ≡ dcs = cc in
+        inl (record { read = i.read; right = subst (λ (x : Dcs). IfAsked (asks_page x before) i.read) same p.right; answer = i.decided ∙ p.answer })
+    by i (inr p) = inr (subst (λ (x : State). KnowsDcs x before) p.0 i.knows, i.decided ∙ p.1)
 
 not_zero : (n : ℕ) → 0 < n → nat_eq n 0 ≡ false
 not_zero n h = grind (arith)
@@ -115,10 +130,19 @@ refused read dcs before command right h m =
     by false true r e = cc
     by false false r e = refl
 
+refused_again : (before : List Entry) (command : Command) → 0 < images (since_answer before) → on_command_again before command ≡ GivesRtn
+refused_again before Eom h =
+    ap (λ (t : Bool). if t && not (gap (since_answer before)) then GivesMcf Eom None else GivesRtn) (not_zero (images (since_answer before)) h)
+refused_again before Mps h = refl
+refused_again before Eop h = refl
+
 pub refuses_no_page : RefusesNoPage
 refuses_no_page core start events before command d dcs right a h m =
-    let p : Answer before command d dcs = in_page (after_events (rung core start) events).history before command d dcs (all_decided core start events right) a in
-    p.answer ∙ refused p.read dcs before command p.right h m
+    by (answered (after_events (rung core start) events).history before command d dcs (all_decided core start events right) a)
+  where
+    by : Answer before command d dcs ⊎ AnswerAgain before command d → d ≡ GivesRtn
+    by (inl p) = p.answer ∙ refused p.read dcs before command p.right h m
+    by (inr p) = p.1 ∙ refused_again before command h
 
 is_width : (width : Width) → IsWidth (elements_of width)
 is_width W1728 = inl refl
@@ -136,9 +160,13 @@ judged_exactly dcs before command None right =
 judged_exactly dcs before command (Some page) right = inr (page, refl, right)
 
 pub judges_exactly : JudgesExactly
-judges_exactly core start events before command d dcs right a h =
-    let p : Answer before command d dcs = in_page (after_events (rung core start) events).history before command d dcs (all_decided core start events right) a in
-    let q : on_command p.read before command ≡ judged command p.read = ap (λ (t : Bool). if t then judged command p.read else if is_repeat before command then GivesMcf command None else GivesRtn) h in
-    let r : IsRight (record { octets = last_image before; dcs = dcs }) p.read =
-    subst (λ (t : Bool). IfAsked (if t then Some (record { octets = last_image before; dcs = dcs }) else None) p.read) h p.right in
-    subst (Judged dcs before command) (sym (p.answer ∙ q)) (judged_exactly dcs before command p.read r)
+judges_exactly core start events before command d dcs right a page h =
+    by (answered (after_events (rung core start) events).history before command d dcs (all_decided core start events right) a)
+  where
+    by : Answer before command d dcs ⊎ AnswerAgain before command d → Judged dcs before command d
+    by (inl p) =
+        let q : on_command p.read before command ≡ judged command p.read = ap (λ (t : Bool). if t then judged command p.read else if is_repeat before command then GivesMcf command None else GivesRtn) h in
+        let r : IsRight (record { octets = last_image before; dcs = dcs }) p.read =
+        subst (λ (t : Bool). IfAsked (if t then Some (record { octets = last_image before; dcs = dcs }) else None) p.read) h p.right in
+        subst (Judged dcs before command) (sym (p.answer ∙ q)) (judged_exactly dcs before command p.read r)
+    by (inr p) = absurd (page p.0)

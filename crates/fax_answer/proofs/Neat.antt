@@ -3,11 +3,11 @@ use Rattle.std.proofs.Common.{◌≡◌, ℕ, Bool, true, false, List, [], ◌�
 use Rattle.fax_timers.specs.Moments.{is_due}
 use Rattle.fax_timers.specs.Paces.{pace_allows}
 use Rattle.fax_answer.specs.declared.state.State.{State}
-use Rattle.fax_answer.specs.declared.state.State.TheVariants.{Idle, Identify, Listen, Train, Page, Closing}
+use Rattle.fax_answer.specs.declared.state.State.TheVariants.{Idle, Identify, Listen, Train, Page, Again, Closing}
 use Rattle.fax_answer.specs.History.{Decision, PassesOver, Trains, HangsUp, GivesCfr, GivesFtt, GivesMcf, GivesRtn}
 use Rattle.fax_answer.specs.Table.{decision}
 use Rattle.fax_answer.specs.Replies.{ConfirmedPage, Waiting, reply_to, is_waiting, mcf_packet}
-use Rattle.fax_answer.specs.Calls.{Answering, rung, says_goodbye, identifies_again, timed_in, timed, Ticked, given_first, ticked, CallEvent, Comes, Ticks, after_events}
+use Rattle.fax_answer.specs.Calls.{Answering, rung, says_goodbye, identifies_again, identifies_anew, timed_in, timed, Ticked, given_first, ticked, CallEvent, Comes, Ticks, after_events}
 
 abbrev pub IfMcf : Option ConfirmedPage → List ℕ → Type 0
 IfMcf None packet = Unit {0}
@@ -40,6 +40,9 @@ goodbye_neat a = (tt, (tt, tt))
 again_neat : (a : Answering) → AllNeat (identifies_again a).waiting
 again_neat a = (tt, (tt, tt))
 
+anew_neat : (a : Answering) (now : ℕ) → AllNeat (identifies_anew a now).waiting
+anew_neat a now = (tt, (tt, tt))
+
 either : (b : Bool) (x y : Answering) → AllNeat x.waiting → AllNeat y.waiting → AllNeat (if b then x else y).waiting
 either true x y i j = i
 either false x y i j = j
@@ -52,6 +55,7 @@ timed_in_neat Identify a now i =
 timed_in_neat Listen a now i = either (is_due a.timers.t2 now) _ _ (goodbye_neat a) i
 timed_in_neat (Train d) a now i = either (is_due a.timers.t2 now) _ _ (goodbye_neat a) i
 timed_in_neat (Page d) a now i = either (is_due a.timers.t2 now) _ _ (goodbye_neat a) i
+timed_in_neat Again a now i = either (is_due a.timers.t2 now) _ _ (anew_neat a now) i
 
 abbrev pub NeatGiven : Option Waiting → Type 0
 NeatGiven None = Unit {0}

@@ -6,7 +6,7 @@ use Rattle.fax_answer.specs.declared.command.Command.{Command}
 use Rattle.fax_answer.specs.declared.command.Order.{Order}
 use Rattle.fax_answer.specs.declared.command.Order.TheVariants as orders
 use Rattle.fax_answer.specs.declared.state.State.{State}
-use Rattle.fax_answer.specs.declared.state.State.TheVariants.{Idle, Identify, Listen, Train, Page, Closing}
+use Rattle.fax_answer.specs.declared.state.State.TheVariants.{Idle, Identify, Listen, Train, Page, Again, Closing}
 use Rattle.fax_answer.specs.Orders.{order_of}
 use Rattle.fax_answer.specs.History.{Entry, Decision, GivesMcf, GivesRtn, since_answer, last_image}
 use Rattle.fax_answer.specs.Table.{Reading, Question, judged, is_one_image, is_repeat, on_order, decision, order_asks, asked_of}
@@ -37,9 +37,13 @@ order_same r s (Train dcs) before (orders.Judge c) h = refl
 order_same r s (Train dcs) before orders.Disconnect h = refl
 order_same r s (Train dcs) before orders.Nothing h = refl
 order_same r s (Page dcs) before (orders.Train d) h = refl
+order_same r s Again before (orders.Train d) h = refl
 order_same r s (Page dcs) before (orders.Judge c) h = one_page_same r s dcs (last_image before) c (is_one_image (since_answer before)) (is_repeat before c) h
+order_same r s Again before (orders.Judge c) h = refl
 order_same r s (Page dcs) before orders.Disconnect h = refl
+order_same r s Again before orders.Disconnect h = refl
 order_same r s (Page dcs) before orders.Nothing h = refl
+order_same r s Again before orders.Nothing h = refl
 
 decision_same : (r s : Reading) (state : State) (waits : Bool) (before : List Entry) (p : pieces.Piece) → asked_of state waits before p ≡ None → decision r state waits before p ≡ decision s state waits before p
 decision_same r s state true before (pieces.Frame octets) h = refl
@@ -49,6 +53,7 @@ decision_same r s Identify waits before (pieces.End whole) h = refl
 decision_same r s Listen waits before (pieces.End whole) h = refl
 decision_same r s (Train dcs) waits before (pieces.End whole) h = refl
 decision_same r s (Page dcs) waits before (pieces.End whole) h = refl
+decision_same r s Again waits before (pieces.End whole) h = refl
 decision_same r s Closing waits before (pieces.End whole) h = refl
 decision_same r s state waits before (pieces.Start k) h = refl
 decision_same r s state waits before (pieces.Octets os) h = refl
@@ -82,9 +87,13 @@ order_waits r q Identify before order h = cc
 order_waits r q Listen before order h = cc
 order_waits r q (Train dcs) before order h = cc
 order_waits r q (Page dcs) before (orders.Train d) h = cc
+order_waits r q Again before (orders.Train d) h = cc
 order_waits r q (Page dcs) before (orders.Judge c) h = one_page_waits r q dcs (last_image before) c (is_one_image (since_answer before)) (is_repeat before c) h
 order_waits r q (Page dcs) before orders.Disconnect h = cc
+order_waits r q Again before (orders.Judge c) h = cc
+order_waits r q Again before orders.Disconnect h = cc
 order_waits r q (Page dcs) before orders.Nothing h = cc
+order_waits r q Again before orders.Nothing h = cc
 
 asked_waits : (r : Reading) (q : Question) (state : State) (waits : Bool) (before : List Entry) (p : pieces.Piece) → asked_of state waits before p ≡ Some q → is_waiting (reply_to (decision r state waits before p)) ≡ true
 asked_waits r q state true before (pieces.Frame octets) h = cc

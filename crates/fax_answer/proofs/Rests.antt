@@ -7,15 +7,16 @@ use Rattle.fax_ifp.specs.Pieces as pieces
 use Rattle.fax_timers.specs.Moments.{is_due}
 use Rattle.fax_timers.specs.Paces.{pace_allows}
 use Rattle.fax_answer.specs.declared.command.Command.{Command}
+use Rattle.fax_answer.specs.declared.command.Command.TheVariants.{Eom, Mps, Eop}
 use Rattle.fax_answer.specs.declared.command.Order.{Order}
 use Rattle.fax_answer.specs.declared.command.Order.TheVariants as orders
 use Rattle.fax_answer.specs.declared.state.State.{State}
-use Rattle.fax_answer.specs.declared.state.State.TheVariants.{Idle, Identify, Listen, Train, Page, Closing}
+use Rattle.fax_answer.specs.declared.state.State.TheVariants.{Idle, Identify, Listen, Train, Page, Again, Closing}
 use Rattle.fax_answer.specs.Orders.{order_of}
 use Rattle.fax_answer.specs.History.{Entry, Decision, PassesOver, GivesCfr, GivesFtt, GivesMcf, GivesRtn, is_answer, since_answer, octets_since, missing_in_training}
-use Rattle.fax_answer.specs.Table.{Reading, has_zero_run, judged, is_one_image, is_repeat, on_order, decision, state_after}
+use Rattle.fax_answer.specs.Table.{Reading, has_zero_run, judged, is_one_image, is_quiet, is_repeat, on_command_again, on_order, decision, state_after}
 use Rattle.fax_answer.specs.Replies.{Waiting, reply_to, is_waiting}
-use Rattle.fax_answer.specs.Calls.{Answering, asked, says_goodbye, identifies_again, timed_in, timed, state_when_given, Ticked, given_first, ticked}
+use Rattle.fax_answer.specs.Calls.{Answering, asked, says_goodbye, identifies_again, identifies_anew, timed_in, timed, state_when_given, Ticked, given_first, ticked}
 use Rattle.fax_answer.specs.Following.{Rests}
 
 -- no answer is decided while a packet waits
@@ -31,6 +32,7 @@ none_if read Identify (w ∷ ws) before (pieces.End whole) r = refl
 none_if read Listen (w ∷ ws) before (pieces.End whole) r = refl
 none_if read (Train dcs) (w ∷ ws) before (pieces.End whole) r = cc
 none_if read (Page dcs) (w ∷ ws) before (pieces.End whole) r = refl
+none_if read Again (w ∷ ws) before (pieces.End whole) r = refl
 none_if read Closing (w ∷ ws) before (pieces.End whole) r = refl
 none_if read state (w ∷ ws) before (pieces.Start k) r = refl
 none_if read state (w ∷ ws) before (pieces.Octets o) r = refl
@@ -45,13 +47,27 @@ passes_rests Identify ws r = tt
 passes_rests Listen ws r = tt
 passes_rests (Train dcs) ws r = ap (λ (x : List Waiting). x ++ []) r
 passes_rests (Page dcs) ws r = tt
+passes_rests Again ws r = tt
 passes_rests Closing ws r = tt
 
 command_rests : (b c : Bool) (o : Option PageValue) (asked : Command) (dcs : Dcs) → RestsAfter (Page dcs) [] (if b then judged asked o else if c then GivesMcf asked None else GivesRtn)
-command_rests true c (Some p) asked dcs = tt
+command_rests true c (Some p) Eom dcs = tt
+command_rests true c (Some p) Mps dcs = tt
+command_rests true c (Some p) Eop dcs = tt
 command_rests true c None asked dcs = tt
-command_rests false true o asked dcs = tt
+command_rests false true o Eom dcs = tt
+command_rests false true o Mps dcs = tt
+command_rests false true o Eop dcs = tt
 command_rests false false o asked dcs = tt
+
+eom_rests : (b : Bool) → RestsAfter Again [] (if b then GivesMcf Eom None else GivesRtn)
+eom_rests true = tt
+eom_rests false = tt
+
+again_rests : (before : List Entry) (asked : Command) → RestsAfter Again [] (on_command_again before asked)
+again_rests before Eom = eom_rests (is_quiet (since_answer before))
+again_rests before Mps = tt
+again_rests before Eop = tt
 
 order_rests : (read : Reading) (state : State) (before : List Entry) (order : Order) → RestsAfter state [] (on_order read state before order)
 order_rests read Idle before order = refl
@@ -69,9 +85,13 @@ order_rests read (Train dcs) before (orders.Judge c) = refl
 order_rests read (Train dcs) before orders.Disconnect = refl
 order_rests read (Train dcs) before orders.Nothing = refl
 order_rests read (Page dcs) before (orders.Train d) = refl
+order_rests read Again before (orders.Train d) = refl
 order_rests read (Page dcs) before (orders.Judge c) = command_rests (is_one_image (since_answer before)) (is_repeat before c) read c dcs
+order_rests read Again before (orders.Judge c) = again_rests before c
 order_rests read (Page dcs) before orders.Disconnect = refl
+order_rests read Again before orders.Disconnect = refl
 order_rests read (Page dcs) before orders.Nothing = tt
+order_rests read Again before orders.Nothing = tt
 
 check_rests : (b : Bool) (dcs : Dcs) (ws : List Waiting) → RestsAfter (Train dcs) ws (if b then GivesCfr dcs else GivesFtt)
 check_rests true dcs ws = tt
@@ -86,6 +106,7 @@ rests_after read Listen ws before (pieces.End whole) r = tt
 rests_after read (Train dcs) ws before (pieces.End whole) r =
     check_rests (whole && (not (missing_in_training before) && has_zero_run (bits_a_second dcs.rate / 8) (octets_since before))) dcs ws
 rests_after read (Page dcs) ws before (pieces.End whole) r = tt
+rests_after read Again ws before (pieces.End whole) r = tt
 rests_after read Closing ws before (pieces.End whole) r = tt
 rests_after read state ws before (pieces.Start k) r = passes_rests state ws r
 rests_after read state ws before (pieces.Octets o) r = passes_rests state ws r
@@ -104,6 +125,7 @@ timed_in_rests Identify a now e r =
 timed_in_rests Listen a now e r = rests_if (is_due a.timers.t2 now) (says_goodbye a) a tt r
 timed_in_rests (Train d) a now e r = rests_if (is_due a.timers.t2 now) (says_goodbye a) a tt r
 timed_in_rests (Page d) a now e r = rests_if (is_due a.timers.t2 now) (says_goodbye a) a tt r
+timed_in_rests Again a now e r = rests_if (is_due a.timers.t2 now) (identifies_anew a now) a tt r
 
 pub given_rests : (state : State) → Rests (state_when_given state) []
 given_rests Idle = refl
@@ -111,6 +133,7 @@ given_rests Identify = tt
 given_rests Listen = tt
 given_rests (Train d) = refl
 given_rests (Page d) = tt
+given_rests Again = tt
 given_rests Closing = refl
 
 pub fewer_rests : (state : State) (w v : Waiting) (ws : List Waiting) → Rests state (w ∷ v ∷ ws) → Rests state (v ∷ ws)
@@ -119,6 +142,7 @@ fewer_rests Identify w v ws r = tt
 fewer_rests Listen w v ws r = tt
 fewer_rests (Train d) w v ws r = cc
 fewer_rests (Page d) w v ws r = tt
+fewer_rests Again w v ws r = tt
 fewer_rests Closing w v ws r = tt
 
 first_rests : (a : Answering) (now : ℕ) (ws : List Waiting) → Rests a.state a.waiting → Rests a.state ws → Rests (given_first a now ws).core.state (given_first a now ws).core.waiting

@@ -10,7 +10,7 @@ use Rattle.fax_answer.specs.declared.command.Command.{Command}
 use Rattle.fax_answer.specs.declared.state.State.{State}
 use Rattle.fax_answer.specs.History.{Entry, Decision, PassesOver, Trains, HangsUp, GivesCfr, GivesFtt, GivesMcf, GivesRtn, is_answer, since_answer, images, last_image, last_whole, octets_since, whole_with, one_if_end}
 use Rattle.fax_answer.specs.Table.{Reading, asked_of, decision}
-use Rattle.fax_answer.specs.Replies.{is_waiting}
+use Rattle.fax_answer.specs.Replies.{is_last, is_waiting}
 use Rattle.fax_answer.specs.Calls.{Answering, CallEvent, Comes, Ticks, after_events, rung}
 use Rattle.fax_answer.specs.Confirmation.{IsConfirmation, IfAsked, AreRead}
 use Rattle.fax_answer.specs.Sent.{pieces_heard, Rises, ConfirmsSignals}
@@ -19,7 +19,7 @@ use Rattle.fax_answer.proofs.Confirmations.{KnowsDcs, at_frame, end_accepts_none
 -- what the table decides at a piece: MCF for a page only where it is a confirmation
 abbrev IsDecided : Decision → List Entry → Type 0
 IsDecided d before =
-    (command : Command) (page : PageValue) → d ≡ GivesMcf command (Some page) → (octets : List ℕ) × IsConfirmation before octets (record { page = page; command = command })
+    (command : Command) (page : PageValue) → d ≡ GivesMcf command (Some page) → (octets : List ℕ) × IsConfirmation before octets (record { page = page; closes = is_last command })
 
 abbrev pub AreDecided : List Entry → Type 0
 AreDecided [] = Unit {0}
@@ -27,7 +27,7 @@ AreDecided (e ∷ before) = IsDecided e.decision before × AreDecided before
 
 decided_at : (read : Reading) (state : State) (waits : Bool) (before : List Entry) (p : Piece) → IfAsked (asked_of state waits before p) read → KnowsDcs state before →
     IsDecided (decision read state waits before p) before
-decided_at read state waits before (Frame octets) r k = λ command page h. (octets, at_frame read state waits before octets command page r k h)
+decided_at read state waits before (Frame octets) r k = λ command page h. (octets, (at_frame read state waits before octets command page r k h).0)
 decided_at read state waits before (End whole) r k = λ command page h. absurd (end_accepts_none read state waits before whole command page h)
 decided_at read state waits before (Start n) r k = λ command page h. cc
 decided_at read state waits before (Octets o) r k = λ command page h. cc

@@ -10,7 +10,7 @@ use Rattle.fax_timers.specs.Spans as spans
 use Rattle.fax_ifp.specs.Pieces as pieces
 use Rattle.fax_answer.specs.declared.state.State.{State}
 use Rattle.fax_answer.specs.declared.timers.Timers.{Timers}
-use Rattle.fax_answer.specs.declared.state.State.TheVariants.{Idle, Identify, Listen, Train, Page, Closing}
+use Rattle.fax_answer.specs.declared.state.State.TheVariants.{Idle, Identify, Listen, Train, Page, Again, Closing}
 use Rattle.fax_answer.specs.History.{Decision, PassesOver, Trains, HangsUp, GivesCfr, GivesFtt, GivesMcf, GivesRtn, Entry}
 use Rattle.fax_answer.specs.Table.{Reading, Question, decision, asked_of, state_after}
 use Rattle.fax_answer.specs.Replies.{Waiting, silent, called_tone, frame_reply, plain_reply, reply_to, is_waiting}
@@ -45,13 +45,15 @@ rung a now =
       last = a.last;
     }
 
--- LISTEN, TRAIN, PAGE: T2 is set anew by each frame, each signal that begins and each octet of one, while no packet waits
+-- LISTEN, TRAIN, PAGE, AGAIN: T2 is set anew by each frame, each signal that begins and each octet of one, while no packet
+-- waits
 abbrev pub is_heard : State → pieces.Piece → Bool
 is_heard state pieces.Gap = false
 is_heard state (pieces.End whole) = false
 is_heard Listen piece = true
 is_heard (Train dcs) piece = true
 is_heard (Page dcs) piece = true
+is_heard Again piece = true
 is_heard state piece = false
 
 -- the timers behind a decision: a DCS that trains clears T1 and T4 and sets T2; T2 and T4 are clear while packets wait
@@ -105,13 +107,19 @@ says_goodbye a = record a { state = Closing; waiting = plain_reply Dcn None; tim
 abbrev pub identifies_again : Answering → Answering
 identifies_again a = record a { waiting = dis_reply; timers = record { t1 = a.timers.t1; t2 = None; t4 = None } }
 
--- IDENTIFY: T1 due, DCN; T4 due, DIS again. LISTEN, TRAIN, PAGE: T2 due, DCN
+abbrev pub identifies_anew : Answering → ℕ → Answering
+identifies_anew a now =
+    record a { state = Identify; waiting = dis_reply; timers = record { t1 = Some (moment_after now spans.t1); t2 = None; t4 = None } }
+
+-- IDENTIFY: T1 due, DCN; T4 due, DIS again. LISTEN, TRAIN, PAGE: T2 due, DCN. AGAIN: T2 due, DIS, and Identify with T1 set
+-- (that T2 is waited for here is this project's profile)
 abbrev pub timed_in : State → Answering → ℕ → Answering
 timed_in Idle a now = a
 timed_in Closing a now = a
 timed_in Identify a now =
     if is_due a.timers.t1 now then says_goodbye a
     else if is_due a.timers.t4 now then identifies_again a else a
+timed_in Again a now = if is_due a.timers.t2 now then identifies_anew a now else a
 timed_in state a now = if is_due a.timers.t2 now then says_goodbye a else a
 
 abbrev pub timed : Answering → ℕ → Answering
@@ -127,6 +135,7 @@ timers_when_given Identify t now = record { t1 = t.t1; t2 = None; t4 = Some (mom
 timers_when_given Listen t now = record { t1 = t.t1; t2 = Some (moment_after now spans.t2); t4 = None }
 timers_when_given (Train dcs) t now = record { t1 = t.t1; t2 = Some (moment_after now spans.t2); t4 = None }
 timers_when_given (Page dcs) t now = record { t1 = t.t1; t2 = Some (moment_after now spans.t2); t4 = None }
+timers_when_given Again t now = record { t1 = t.t1; t2 = Some (moment_after now spans.t2); t4 = None }
 timers_when_given state t now = t
 
 abbrev pub is_closing : State → Bool

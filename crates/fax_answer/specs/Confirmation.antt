@@ -10,15 +10,18 @@ use Rattle.fax_ifp.specs.Pieces as pieces
 use Rattle.fax_answer.specs.declared.command.Command.{Command}
 use Rattle.fax_answer.specs.declared.command.Order.TheVariants.{Judge}
 use Rattle.fax_answer.specs.Orders.{order_of}
-use Rattle.fax_answer.specs.History.{Entry, Decision, GivesMcf, since_answer, images, gap, last_image, last_whole, answered_dcs}
-use Rattle.fax_answer.specs.Table.{Reading, Question, is_repeat}
-use Rattle.fax_answer.specs.Replies.{ConfirmedPage, Waiting, mcf_packet}
+use Rattle.fax_answer.specs.History.{Entry, Decision, GivesMcf, since_answer, images, gap, last_image, last_whole, repeated, answered_dcs}
+use Rattle.fax_answer.specs.Table.{Reading, Question, is_quiet}
+use Rattle.fax_answer.specs.Replies.{ConfirmedPage, is_last, Waiting, mcf_packet}
 use Rattle.fax_answer.specs.Calls.{Answering, rung, asked, CallEvent, Comes, Ticks, after_events, ticked}
 
--- A confirmation: the command, and before it, since the last CFR or MCF was decided, exactly one image. It is whole,
--- nothing is missing and no signal began since its end, and its octets mean the page under the DCS that CFR answered.
+-- A confirmation: the command, which is MPS, EOP or EOM, and before it, since the last CFR or MCF was decided, exactly one
+-- image. It is whole, nothing is missing and no signal began since its end, and its octets mean the page under the DCS that
+-- CFR answered.
 pub record IsConfirmation (before : List Entry) (octets : List ℕ) (confirmed : ConfirmedPage) : Type 0 where
-  pub command : order_of octets ≡ Judge confirmed.command
+  pub command : Command
+  pub order : order_of octets ≡ Judge command
+  pub closes : confirmed.closes ≡ is_last command
   pub one_image : images (since_answer before) ≡ 1
   pub whole : last_whole (since_answer before) ≡ true
   pub quiet : gap (since_answer before) ≡ false
@@ -33,12 +36,12 @@ pub record IsConfirmedIn (history : List Entry) (confirmed : ConfirmedPage) : Ty
   pub decision : Decision
   pub before : List Entry
   pub split : history ≡ later ++ record { piece = pieces.Frame octets; decision = decision } ∷ before
-  pub accepts : decision ≡ GivesMcf confirmed.command (Some confirmed.page)
   pub confirmation : IsConfirmation before octets confirmed
+  pub accepts : decision ≡ GivesMcf confirmation.command (Some confirmed.page)
   pub last : since_answer history ≡ later
 
--- in this history the command stands that repeats one that was answered: no image came since that answer, nothing was
--- missing and no signal began; and it is the last that was answered
+-- in this history the command stands that repeats the one that the last MCF answered, no CFR standing between them: no
+-- image came since that answer, nothing was missing and no signal began; and it is the last that was answered
 pub record IsRepeatedIn (history : List Entry) : Type 0 where
   pub later : List Entry
   pub octets : List ℕ
@@ -48,7 +51,8 @@ pub record IsRepeatedIn (history : List Entry) : Type 0 where
   pub command : Command
   pub order : order_of octets ≡ Judge command
   pub accepts : decision ≡ GivesMcf command None
-  pub repeats : is_repeat before command ≡ true
+  pub same : repeated before ≡ Some command
+  pub quiet : is_quiet (since_answer before) ≡ true
   pub last : since_answer history ≡ later
 
 -- A reading is right: the page that it gives is meant, and where it gives none, the octets meet a fault (so that they

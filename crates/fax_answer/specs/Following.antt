@@ -4,7 +4,7 @@ use Rattle.fax_timers.specs.Moments.{is_due}
 use Rattle.fax_timers.specs.Paces.{pace_allows}
 use Rattle.fax_answer.specs.declared.timers.Timers.{Timers}
 use Rattle.fax_answer.specs.declared.state.State.{State}
-use Rattle.fax_answer.specs.declared.state.State.TheVariants.{Idle, Identify, Train, Closing}
+use Rattle.fax_answer.specs.declared.state.State.TheVariants.{Idle, Identify, Train, Again, Closing}
 use Rattle.fax_answer.specs.declared.pending.Pending.{Pending}
 use Rattle.fax_answer.specs.declared.pending.Pending.TheVariants.{Nothing}
 use Rattle.fax_answer.specs.declared.procedure.Procedure.{Procedure}
@@ -36,12 +36,18 @@ abbrev pub gives_up : State → Timers → ℕ → Bool
 gives_up Idle timers now = false
 gives_up Closing timers now = false
 gives_up Identify timers now = is_due timers.t1 now
+gives_up Again timers now = false
 gives_up state timers now = is_due timers.t2 now
 
 -- whether the DIS is given again: T4 is due in Identify
 abbrev pub repeats_dis : State → Timers → ℕ → Bool
 repeats_dis Identify timers now = is_due timers.t4 now
 repeats_dis state timers now = false
+
+-- whether the exchange of DIS and DCS begins again: T2 is due in Again
+abbrev pub begins_again : State → Timers → ℕ → Bool
+begins_again Again timers now = is_due timers.t2 now
+begins_again state timers now = false
 
 -- whether a packet is given now: one waits, and the pace lets it through
 abbrev pub gives_now : Answering → ℕ → Bool

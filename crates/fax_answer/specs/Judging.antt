@@ -6,9 +6,10 @@ use Rattle.fax_pagestore.specs.Pages.{PageValue}
 use Rattle.fax_pagestore.specs.PageTexts.{MeansPage}
 use Rattle.fax_ifp.specs.Pieces as pieces
 use Rattle.fax_answer.specs.declared.command.Command.{Command}
+use Rattle.fax_answer.specs.declared.command.Command.TheVariants.{Eom}
 use Rattle.fax_answer.specs.declared.command.Order.TheVariants.{Judge}
 use Rattle.fax_answer.specs.Orders.{order_of}
-use Rattle.fax_answer.specs.History.{Entry, Decision, PassesOver, GivesMcf, GivesRtn, since_answer, images, last_image, answered_dcs}
+use Rattle.fax_answer.specs.History.{Entry, Decision, PassesOver, GivesMcf, GivesRtn, since_answer, images, last_image, repeated, answered_dcs}
 use Rattle.fax_answer.specs.Table.{is_one_image}
 use Rattle.fax_answer.specs.Calls.{Answering, rung, CallEvent, after_events}
 use Rattle.fax_answer.specs.Confirmation.{AreRead}
@@ -20,8 +21,8 @@ MeansThis before dcs page = MeansPage (format_of dcs) (coding_of dcs) (last_imag
 abbrev pub MeansNone : List Entry → Dcs → Type 0
 MeansNone before dcs = (page : PageValue) → MeansThis before dcs page → ⊥
 
--- A command that is answered: in the history of a call stands the command's frame, which was not passed over, behind a
--- CFR to this DCS.
+-- A command that is answered, in Page or in Again: in the history of a call stands the command's frame, which was not passed
+-- over, behind a CFR to this DCS.
 pub record IsAnswered (history before : List Entry) (command : Command) (d : Decision) (dcs : Dcs) : Type 0 where
   pub later : List Entry
   pub octets : List ℕ
@@ -37,11 +38,15 @@ RefusesNoPage =
     → AreRead (rung core start) events → IsAnswered (after_events (rung core start) events).history before command d dcs
     → 0 < images (since_answer before) → MeansNone before dcs → d ≡ GivesRtn
 
--- Where exactly one image came, which is whole, and nothing was missing and no signal began behind it, the answer is RTN
--- exactly where the image means no page, and else MCF for the page that it means.
+-- in Page: no EOM was answered by MCF since the last CFR
+abbrev pub IsInPage : List Entry → Type 0
+IsInPage before = repeated before ≡ Some Eom → ⊥
+
+-- Where in Page exactly one image came, which is whole, and nothing was missing and no signal began behind it, the answer is
+-- RTN exactly where the image means no page, and else MCF for the page that it means.
 abbrev pub JudgesExactly : Type 0
 JudgesExactly =
     (core : Answering) (start : ℕ) (events : List CallEvent) (before : List Entry) (command : Command) (d : Decision) (dcs : Dcs)
     → AreRead (rung core start) events → IsAnswered (after_events (rung core start) events).history before command d dcs
-    → is_one_image (since_answer before) ≡ true
+    → IsInPage before → is_one_image (since_answer before) ≡ true
     → ((d ≡ GivesRtn) × MeansNone before dcs) ⊎ ((page : PageValue) × (d ≡ GivesMcf command (Some page)) × MeansThis before dcs page)

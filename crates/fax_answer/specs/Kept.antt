@@ -58,7 +58,7 @@ counted counts piece =
       missing = counts.missing;
     }
 
--- what is decided in a call at a frame that is no command, or at a command outside of Page
+-- what is decided in a call at a frame that is no command, or at a command outside of Page and Again
 abbrev pub decided_outside : Order → code.Decision
 decided_outside (Train dcs) = verdicts.Train dcs
 decided_outside Disconnect = verdicts.HangUp

@@ -11,7 +11,7 @@ use Rattle.fax_answer.specs.declared.procedure.Procedure.{Procedure}
 use Rattle.fax_answer.specs.declared.state.State.TheVariants.{Page}
 use Rattle.fax_answer.specs.Orders.{order_of}
 use Rattle.fax_answer.specs.History.{Entry, since_answer, octets_since, last_image}
-use Rattle.fax_answer.specs.Table.{Reading, is_one_image, judged, on_command, on_order, order_asks}
+use Rattle.fax_answer.specs.Table.{Reading, is_one_image, judged, on_command, on_command_again, on_order, order_asks}
 use Rattle.fax_answer.specs.Replies.{ConfirmedPage}
 use Rattle.fax_answer.specs.Calls.{Answering, asked, came, first_asked, came_all}
 use Rattle.fax_answer.specs.Confirmation.{IfAsked, IsRead, IsRight}
@@ -90,7 +90,11 @@ pub record AnswersCommand (dcs : Dcs) (command : Command) (history : List Entry)
   pub verdict_is : verdict_of (on_command read history command) ≡ verdict
   pub page_is : confirmed ≡ confirmed_behind (on_command read history command) None
 
--- the same at a frame where no packet waits
+-- what is decided at a command in Again
+abbrev pub AnswersAgain : Command → List Entry → code.Decision → Type 0
+AnswersAgain command history verdict = verdict_of (on_command_again history command) ≡ verdict
+
+-- the same as in Page at a frame where no packet waits
 pub record Answers (octets : List ℕ) (core : Answering) (verdict : code.Decision) (confirmed : Option ConfirmedPage) : Type 0 where
   pub read : Reading
   pub right : IfAsked (order_asks core.state core.history (order_of octets)) read

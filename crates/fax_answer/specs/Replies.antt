@@ -8,12 +8,19 @@ use Rattle.fax_ifp.specs.declared.codes.Indicator.TheVariants.{Ced, V21Preamble}
 use Rattle.fax_ifp.specs.Codes.{indicator_code}
 use Rattle.fax_ifp.specs.WrittenPackets.{written_indicator, written_message, frame_fields}
 use Rattle.fax_answer.specs.declared.command.Command.{Command}
+use Rattle.fax_answer.specs.declared.command.Command.TheVariants.{Eom, Mps, Eop}
 use Rattle.fax_answer.specs.History.{Decision, PassesOver, Trains, HangsUp, GivesCfr, GivesFtt, GivesMcf, GivesRtn}
 
--- a page that is confirmed, and the command behind it
+-- no page follows behind EOP
+abbrev pub is_last : Command → Bool
+is_last Eom = false
+is_last Mps = false
+is_last Eop = true
+
+-- a page that is confirmed, and whether its command was EOP
 pub record ConfirmedPage : Type 0 where
   pub page : PageValue
-  pub command : Command
+  pub closes : Bool
 
 -- a packet that waits. The data packet of an MCF to a new page carries what it confirms.
 pub record Waiting : Type 0 where
@@ -47,7 +54,7 @@ mcf_packet = frame_packet (written_plain Mcf false)
 
 abbrev pub confirmed_if : Command → Option PageValue → Option ConfirmedPage
 confirmed_if command None = None
-confirmed_if command (Some page) = Some (record { page = page; command = command })
+confirmed_if command (Some page) = Some (record { page = page; closes = is_last command })
 
 -- what is answered at a decision
 abbrev pub reply_to : Decision → List Waiting

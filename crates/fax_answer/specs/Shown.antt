@@ -1,13 +1,12 @@
 -- What contracts see of a page that is confirmed.
-use Rattle.std.specs.Prelude.{◌≡◌, List, ℕ, Option, Some, None, if◌then◌else◌}
+use Rattle.std.specs.Prelude.{◌≡◌, List, ℕ, Option, Some, None}
 use Rattle.fax_answer.specs.declared.step.Confirmed.{Confirmed}
-use Rattle.fax_answer.specs.declared.command.Command.TheVariants.{Mps, Eop}
 use Rattle.fax_answer.specs.declared.step.Step.{Step}
 use Rattle.fax_answer.specs.Replies.{ConfirmedPage, Waiting}
 use Rattle.fax_answer.specs.Calls.{Ticked}
 
 abbrev pub page_shown : {S : Type 0} → Confirmed S → ConfirmedPage
-page_shown c = record { page = c.page; command = if c.closes then Eop else Mps }
+page_shown c = record { page = c.page; closes = c.closes }
 
 abbrev pub confirmed_shown : {S : Type 0} → Option (Confirmed S) → Option ConfirmedPage
 confirmed_shown None = None

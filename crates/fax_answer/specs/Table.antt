@@ -6,11 +6,11 @@ use Rattle.fax_frames.specs.Rates.{bits_a_second}
 use Rattle.fax_pagestore.specs.Pages.{PageValue}
 use Rattle.fax_ifp.specs.Pieces as pieces
 use Rattle.fax_answer.specs.declared.command.Command.{Command}
-use Rattle.fax_answer.specs.declared.command.Command.TheVariants.{Mps, Eop}
+use Rattle.fax_answer.specs.declared.command.Command.TheVariants.{Eom, Mps, Eop}
 use Rattle.fax_answer.specs.declared.command.Order.{Order}
 use Rattle.fax_answer.specs.declared.command.Order.TheVariants as orders
 use Rattle.fax_answer.specs.declared.state.State.{State}
-use Rattle.fax_answer.specs.declared.state.State.TheVariants.{Idle, Listen, Train, Page, Closing}
+use Rattle.fax_answer.specs.declared.state.State.TheVariants.{Idle, Listen, Train, Page, Again, Closing}
 use Rattle.fax_answer.specs.Orders.{order_of}
 use Rattle.fax_answer.specs.History.{Decision, PassesOver, Trains, HangsUp, GivesCfr, GivesFtt, GivesMcf, GivesRtn, Entry, since_answer, images, gap, octets_since, last_image, last_whole, repeated, missing_in_training}
 
@@ -53,7 +53,8 @@ judged command None = GivesRtn
 abbrev pub is_one_image : List Entry → Bool
 is_one_image since = nat_eq (images since) 1 && (last_whole since && not (gap since))
 
--- PAGE, the command that was answered by MCF comes again, and no image, missing slot or signal since: MCF.
+-- PAGE, the command that was answered by MCF comes again, and no image, missing slot or signal since: MCF. An EOM that was
+-- answered so is no such command here: Again is entered with it.
 abbrev pub same_command : Option Command → Command → Bool
 same_command (Some Mps) Mps = true
 same_command (Some Eop) Eop = true
@@ -70,6 +71,16 @@ on_command read before command =
     else if is_repeat before command then GivesMcf command None
     else GivesRtn
 
+-- AGAIN, an EOM, and no image, missing slot or signal since the last MCF: MCF. Any other command: RTN. An image that comes
+-- here is counted and not read.
+abbrev pub is_quiet : List Entry → Bool
+is_quiet since = nat_eq (images since) 0 && not (gap since)
+
+abbrev pub on_command_again : List Entry → Command → Decision
+on_command_again before Eom = if is_quiet (since_answer before) then GivesMcf Eom None else GivesRtn
+on_command_again before Mps = GivesRtn
+on_command_again before Eop = GivesRtn
+
 -- A frame, in each state.
 abbrev pub on_order : Reading → State → List Entry → Order → Decision
 on_order read Idle before order = PassesOver
@@ -77,6 +88,7 @@ on_order read Closing before order = PassesOver
 on_order read state before (orders.Train dcs) = Trains dcs
 on_order read state before orders.Disconnect = HangsUp
 on_order read (Page dcs) before (orders.Judge command) = on_command read before command
+on_order read Again before (orders.Judge command) = on_command_again before command
 on_order read state before order = PassesOver
 
 -- A piece, in each state. Frames are passed over while packets wait (own).
@@ -85,7 +97,7 @@ decision read state waits before (pieces.Frame octets) = if waits then PassesOve
 decision read (Train dcs) waits before (pieces.End whole) = on_check dcs whole before
 decision read state waits before piece = PassesOver
 
--- what is asked at a piece: a command asks what the one image before it means
+-- what is asked at a piece: a command in Page asks what the one image before it means
 abbrev pub order_asks : State → List Entry → Order → Option Question
 order_asks (Page dcs) before (orders.Judge command) =
     if is_one_image (since_answer before) then Some (record { octets = last_image before; dcs = dcs }) else None
@@ -95,12 +107,17 @@ abbrev pub asked_of : State → (waits : Bool) → List Entry → pieces.Piece �
 asked_of state waits before (pieces.Frame octets) = if waits then None else order_asks state before (order_of octets)
 asked_of state waits before piece = None
 
--- the state behind a decision
+-- the state behind a decision: Again behind the MCF to an EOM
+abbrev pub state_behind_mcf : Command → State → State
+state_behind_mcf Eom state = Again
+state_behind_mcf Mps state = state
+state_behind_mcf Eop state = state
+
 abbrev pub state_after : State → Decision → State
 state_after state (Trains dcs) = Train dcs
 state_after state HangsUp = Idle
 state_after state (GivesCfr dcs) = Page dcs
 state_after state GivesFtt = Listen
 state_after state PassesOver = state
-state_after state (GivesMcf command page) = state
+state_after state (GivesMcf command page) = state_behind_mcf command state
 state_after state GivesRtn = state

@@ -6,6 +6,8 @@ use fax_frames::{Dcs, Frame};
 /// The command behind a page (ITU-T T.30, 5.3.6.1.5).
 #[derive(Clone, Copy, PartialEq, Eq, Debug)]
 pub enum Command {
+    /// End of message: a page of another format follows.
+    Eom,
     /// Multipage signal: more pages follow.
     Mps,
     /// End of procedure: none follows.
@@ -34,6 +36,7 @@ impl Order {
     {
         match Frame::read(octets) {
             Some(Frame::Dcs(dcs)) => Order::Train(dcs),
+            Some(Frame::Eom) => Order::Judge(Command::Eom),
             Some(Frame::Mps) => Order::Judge(Command::Mps),
             Some(Frame::Eop) => Order::Judge(Command::Eop),
             Some(Frame::Dcn) => Order::Disconnect,

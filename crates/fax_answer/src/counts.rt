@@ -2,7 +2,7 @@
 ghost use Rattle.std.specs.Prelude.{◌≡◌, [], ◌∷◌, List};
 ghost use Rattle.fax_ifp.specs.Shown.{piece_of};
 ghost use Rattle.fax_answer.specs.History.{Entry, since_answer};
-ghost use Rattle.fax_answer.specs.Table.{is_one_image, is_repeat};
+ghost use Rattle.fax_answer.specs.Table.{is_one_image, is_quiet, is_repeat};
 ghost use Rattle.fax_answer.specs.Kept.{counts_of, verdict_of};
 
 use crate::Command;
@@ -109,11 +109,18 @@ impl Counts {
         self.images == Images::One && self.whole && !self.gap
     }
 
-    /// Whether the command is the one that was answered by MCF, with no image, missing slot or signal since.
+    /// Whether no image came since the last CFR or MCF, nothing was missing and no signal began.
+    pub fn is_quiet(&self) -> bool
+        ensures { (history : List Entry) → self.now ≡ counts_of history → result ≡ is_quiet (since_answer history) }
+    {
+        self.images == Images::Zero && !self.gap
+    }
+
+    /// Whether the command is MPS or EOP and the one that was answered by MCF, with no image, missing slot or signal since.
     pub fn is_repeat(&self, command: Command) -> bool
         ensures { (history : List Entry) → self.now ≡ counts_of history → result ≡ is_repeat history command }
     {
-        self.images == Images::Zero && !self.gap && self.repeat == Some(command)
+        self.is_quiet() && is_same(self.repeat, command)
     }
 
     /// Whether a slot was missing since the DCS that trained.
@@ -122,5 +129,15 @@ impl Counts {
             → result ≡ Rattle.fax_answer.specs.History.missing_in_training history }
     {
         self.missing
+    }
+}
+
+/// Whether a command is MPS or EOP and the one that was answered.
+fn is_same(answered: Option<Command>, command: Command) -> bool
+    ensures { result ≡ Rattle.fax_answer.specs.Table.same_command answered command }
+{
+    match command {
+        Command::Eom => false,
+        Command::Mps | Command::Eop => answered == Some(command),
     }
 }

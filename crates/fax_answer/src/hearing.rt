@@ -6,11 +6,11 @@ ghost use Rattle.fax_ifp.specs.Shown.{piece_of, pieces_shown};
 ghost use Rattle.fax_ifp.specs.Tracked.{lost_slots};
 ghost use Rattle.fax_udptl.specs.Taking.{slots_in};
 ghost use Rattle.fax_answer.specs.Table.{decision};
-ghost use Rattle.fax_answer.specs.Replies.{is_waiting};
+ghost use Rattle.fax_answer.specs.Replies.{is_last, is_waiting};
 ghost use Rattle.fax_answer.specs.Calls.{Answering};
 ghost use Rattle.fax_answer.specs.Kept.{decided_outside, pending_reply, verdict_of};
 ghost use Rattle.fax_answer.specs.Images.{ended_octets};
-ghost use Rattle.fax_answer.specs.Reached.{IsReached, Stands, Takes, TakesAll, Answers, AnswersCommand, AnswersImage, Hears, HearsSo};
+ghost use Rattle.fax_answer.specs.Reached.{IsReached, Stands, Takes, TakesAll, Answers, AnswersAgain, AnswersCommand, AnswersImage, Hears, HearsSo};
 ghost use Rattle.fax_answer.specs.Shown.{confirmed_shown};
 
 use crate::answerer::Answerer;
@@ -167,6 +167,10 @@ impl<S: RowStore> Answerer<S> {
                 Order::Judge(command) => self.judge(dcs, command),
                 _ => Ok((decide(order), None)),
             },
+            State::Again => match order {
+                Order::Judge(command) => Ok((self.judge_again(command), None)),
+                _ => Ok((decide(order), None)),
+            },
         }
     }
 
@@ -187,6 +191,17 @@ impl<S: RowStore> Answerer<S> {
             return Ok((Decision::Mcf(command), None));
         }
         Ok((Decision::Rtn, None))
+    }
+
+    /// What is decided at a command in Again: MCF to an EOM behind which nothing came, else RTN.
+    fn judge_again(&self, command: Command) -> Decision
+        ensures answers { (core : Answering) → Stands core self.now → AnswersAgain command core.history result }
+        ensures replies { pending_reply result ≢ Pending.Nothing }
+    {
+        match command {
+            Command::Eom if self.procedure.counts.is_quiet() => Decision::Mcf(Command::Eom),
+            _ => Decision::Rtn,
+        }
     }
 
     /// Reads the last image: MCF where it means a page, which it confirms, else RTN.
@@ -234,7 +249,7 @@ fn is_check(whole: bool, is_missing: bool, longest: usize, wanted: usize) -> boo
     whole && !is_missing && longest >= wanted
 }
 
-/// What is decided in a call at a frame that is no command, or at a command outside of Page.
+/// What is decided in a call at a frame that is no command, or at a command outside of Page and Again.
 fn decide(order: Order) -> Decision
     ensures { result ≡ decided_outside order }
 {
@@ -247,10 +262,10 @@ fn decide(order: Order) -> Decision
 
 /// Whether no page follows behind a command.
 fn is_last(command: Command) -> bool
-    ensures { command ≡ (if result then Command.Eop else Command.Mps) }
+    ensures { result ≡ is_last command }
 {
     match command {
-        Command::Mps => false,
+        Command::Eom | Command::Mps => false,
         Command::Eop => true,
     }
 }

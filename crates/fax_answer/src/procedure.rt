@@ -6,16 +6,16 @@ ghost use Rattle.fax_ifp.specs.Shown.{piece_of};
 ghost use Rattle.fax_answer.specs.History.{Decision as Decided};
 ghost use Rattle.fax_answer.specs.Table.{state_after};
 ghost use Rattle.fax_answer.specs.Replies.{ConfirmedPage, reply_to};
-ghost use Rattle.fax_answer.specs.Calls.{Answering, new_answering, rung, decided, timers_after, is_heard, timed, says_goodbye, state_when_given, timers_when_given, is_closing};
+ghost use Rattle.fax_answer.specs.Calls.{Answering, new_answering, rung, decided, timers_after, is_heard, timed, says_goodbye, identifies_anew, state_when_given, timers_when_given, is_closing};
 ghost use Rattle.fax_answer.specs.Kept.{pending_reply, verdict_of};
 ghost use Rattle.fax_answer.specs.Pending.{waiting_of};
-ghost use Rattle.fax_answer.specs.Following.{Follows, CanDecide, confirmed_behind, GivesNext, gives_now, gives_up, repeats_dis};
+ghost use Rattle.fax_answer.specs.Following.{Follows, CanDecide, confirmed_behind, GivesNext, gives_now, gives_up, repeats_dis, begins_again};
 
-use crate::State;
 use crate::counts::Counts;
 use crate::decision::Decision;
 use crate::pending::{Pending, Reply};
 use crate::timers::Timers;
+use crate::{Command, State};
 use fax_frames::Plain;
 use fax_ifp::Piece;
 use fax_timers::{Pace, T1_MS, T2_MS, T4_MS};
@@ -111,7 +111,8 @@ impl Procedure {
         timers
     }
 
-    /// The timers act where no packet waits, T1 before the others: DCN where T1 or T2 is due, DIS again where T4 is.
+    /// The timers act where no packet waits, T1 before the others: DCN where T1 or T2 is due, DIS again where T4 is, and in
+    /// Again where T2 is.
     pub fn act(&mut self, now: u64)
         ensures quiet { self.new.pending ≡ Pending.Nothing → self.old.pending ≡ Pending.Nothing }
         ensures acted { (core : Answering) (confirmed : Option ConfirmedPage) → Follows core confirmed self.old
@@ -126,6 +127,8 @@ impl Procedure {
             self.pending = Pending::Preamble(Reply::Dis);
             self.timers.t2.clear();
             self.timers.t4.clear();
+        } else if self.begins_again(now) {
+            self.identify_anew(now);
         }
     }
 
@@ -134,7 +137,7 @@ impl Procedure {
         ensures { result ≡ gives_up self.now.state self.now.timers now }
     {
         match self.state {
-            State::Idle | State::Closing => false,
+            State::Idle | State::Again | State::Closing => false,
             State::Identify => self.timers.t1.due(now),
             State::Listen | State::Train(_) | State::Page(_) => self.timers.t2.due(now),
         }
@@ -145,6 +148,25 @@ impl Procedure {
         ensures { result ≡ repeats_dis self.now.state self.now.timers now }
     {
         self.state == State::Identify && self.timers.t4.due(now)
+    }
+
+    /// Whether the exchange of DIS and DCS begins again: T2 is due in Again.
+    fn begins_again(&self, now: u64) -> bool
+        ensures { result ≡ begins_again self.now.state self.now.timers now }
+    {
+        self.state == State::Again && self.timers.t2.due(now)
+    }
+
+    /// Our DIS waits, in Identify, and T1 is set.
+    fn identify_anew(&mut self, now: u64)
+        requires { self.old.pending ≡ Pending.Nothing }
+        ensures { (core : Answering) (confirmed : Option ConfirmedPage) → Follows core confirmed self.old
+            → Follows (identifies_anew core now) confirmed self.new }
+    {
+        self.state = State::Identify;
+        self.pending = Pending::Preamble(Reply::Dis);
+        self.timers = Timers::clear();
+        self.timers.t1.set(now, T1_MS);
     }
 
     /// DCN waits, and the call closes with it.
@@ -201,7 +223,7 @@ impl Procedure {
                 self.timers.t4.set(now, T4_MS);
                 false
             }
-            State::Listen | State::Train(_) | State::Page(_) => {
+            State::Listen | State::Train(_) | State::Page(_) | State::Again => {
                 self.timers.t2.set(now, T2_MS);
                 self.timers.t4.clear();
                 false
@@ -214,7 +236,8 @@ impl Procedure {
     }
 }
 
-/// Whether a piece sets T2 anew: a frame, a signal that begins, and octets of one, in Listen, Train and Page.
+/// Whether a piece sets T2 anew: a frame, a signal that begins, and octets of one, in Listen, Train, Page and
+/// Again.
 fn is_heard(state: State, piece: &Piece<'_>) -> bool
     ensures { result ≡ is_heard state (piece_of piece.now) }
 {
@@ -222,10 +245,14 @@ fn is_heard(state: State, piece: &Piece<'_>) -> bool
         Piece::Frame(_) | Piece::Start(_) | Piece::Octets(_) => true,
         Piece::End { .. } | Piece::Gap => false,
     };
-    counts && matches!(state, State::Listen | State::Train(_) | State::Page(_))
+    counts
+        && matches!(
+            state,
+            State::Listen | State::Train(_) | State::Page(_) | State::Again
+        )
 }
 
-/// The state behind a decision.
+/// The state behind a decision: Again behind the MCF to an EOM.
 fn state_behind(state: State, decision: Decision) -> State
     ensures { (d : Decided) → verdict_of d ≡ decision → result ≡ state_after state d }
 {
@@ -234,6 +261,7 @@ fn state_behind(state: State, decision: Decision) -> State
         Decision::HangUp => State::Idle,
         Decision::Cfr(dcs) => State::Page(dcs),
         Decision::Ftt => State::Listen,
+        Decision::Mcf(Command::Eom) => State::Again,
         Decision::PassOver | Decision::Mcf(_) | Decision::Rtn => state,
     }
 }

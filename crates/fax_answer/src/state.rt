@@ -14,6 +14,9 @@ pub enum State {
     Train(Dcs),
     /// The training was confirmed: pages come, and commands (ITU-T T.30, phases C and D).
     Page(Dcs),
+    /// An EOM was answered by MCF: a page of another format may follow, and the exchange of DIS and DCS begins again
+    /// where T2 is due.
+    Again,
     /// The last packets of a call wait.
     Closing,
 }

@@ -1,7 +1,7 @@
 //! Calls in which pages come.
 use super::{
-    ANSWERED, CED, CONFIRMED, Call, DCS, DIS, EOP, Event, FTT, MCF, PAGE, PREAMBLE, REFUSED, RTN,
-    TRAINED, play_each,
+    ANSWERED, CED, CFR, CONFIRMED, Call, DCS, DIS, EOP, Event, FTT, MCF, PAGE, PREAMBLE, REFUSED,
+    RTN, TRAINED, play_each,
 };
 use fax_answer::State;
 use std::test::Fail;
@@ -18,7 +18,114 @@ const MPS: &[Event<'static>] = &[
     Event::Comes("000609c002800002ffc8f2400000"),
 ];
 
+/// EOM comes behind its preamble, and again with the number behind its own.
+const EOM: &[Event<'static>] = &[
+    Event::Comes("000501060000"),
+    Event::Comes("000609c002800002ffc8f1400000"),
+];
+
+const EOM_AGAIN: Event<'static> = Event::Comes("000709c002800002ffc8f1400000");
+
+/// EOM comes behind its preamble, with no image before it.
+const EOM_FIRST: &[Event<'static>] = &[
+    Event::Comes("000301060000"),
+    Event::Comes("000409c002800002ffc8f1400000"),
+];
+
+/// It is answered by MCF, with a page behind which more follow.
+const TURNED: &[Event<'static>] = &[
+    Event::Gives(200, PREAMBLE),
+    Event::Confirms(240, MCF, false),
+    Event::Stands(State::Again),
+];
+
 const CALLS: &[Call] = &[
+    Call {
+        name: "an EOM, another exchange, and a fine page",
+        scripts: &[
+            ANSWERED,
+            TRAINED,
+            PAGE,
+            EOM,
+            TURNED,
+            &[
+                Event::AllQuiet(280, 6200),
+                Event::Gives(6240, PREAMBLE),
+                Event::Gives(6280, DIS),
+                Event::Stands(State::Identify),
+                Event::Comes("00070cc002800005ffc8c1004200400000"),
+                Event::Comes("000801080000"),
+                Event::ZerosCome("00098131c201f0012b", 300, "0000"),
+                Event::Gives(6320, PREAMBLE),
+                Event::Gives(6360, CFR),
+                Event::Comes("000a01080000"),
+                Event::Comes("000b12c201f0000c0014d9a80080080080080080080000"),
+                Event::Comes("000c01060000"),
+                Event::Comes("000d09c002800002ffc8f4400000"),
+                Event::Gives(6400, PREAMBLE),
+                Event::Confirms(6440, MCF, true),
+                Event::Pages(2),
+            ],
+        ],
+    },
+    Call {
+        name: "an EOM again",
+        scripts: &[
+            ANSWERED,
+            TRAINED,
+            PAGE,
+            EOM,
+            TURNED,
+            &[
+                EOM_AGAIN,
+                Event::Gives(280, PREAMBLE),
+                Event::Gives(320, MCF),
+                Event::Pages(1),
+            ],
+        ],
+    },
+    Call {
+        name: "an EOM again behind a missing datagram",
+        scripts: &[
+            ANSWERED,
+            TRAINED,
+            PAGE,
+            EOM,
+            TURNED,
+            &[
+                Event::Comes("000801060000"),
+                Event::Comes("000909c002800002ffc8f1400000"),
+                Event::Gives(280, PREAMBLE),
+                Event::Gives(320, RTN),
+                Event::Stands(State::Again),
+                Event::Pages(1),
+            ],
+        ],
+    },
+    Call {
+        name: "an EOP behind an EOM changes nothing",
+        scripts: &[
+            ANSWERED,
+            TRAINED,
+            PAGE,
+            EOM,
+            TURNED,
+            &[
+                EOP_AGAIN,
+                Event::Gives(280, PREAMBLE),
+                Event::Gives(320, RTN),
+                Event::Comes("000801060000"),
+                Event::Comes("000909c002800002ffc8f1400000"),
+                Event::Gives(360, PREAMBLE),
+                Event::Gives(400, MCF),
+                Event::Pages(1),
+            ],
+        ],
+    },
+    Call {
+        name: "an EOM behind no image",
+        scripts: &[ANSWERED, TRAINED, EOM_FIRST, REFUSED],
+    },
     Call {
         name: "a call with one page",
         scripts: &[

@@ -6,6 +6,10 @@ pub returns-in-Some-Dcs : goal.returns-in-Some-Dcs
 unfolding order_of
 returns-in-Some-Dcs c = search rules
 
+pub returns-in-Some-Eom : goal.returns-in-Some-Eom
+unfolding order_of
+returns-in-Some-Eom c = search rules
+
 pub returns-in-Some-Mps : goal.returns-in-Some-Mps
 unfolding order_of
 returns-in-Some-Mps c = search rules
