@@ -190,7 +190,7 @@ fn a_job_goes_through_the_book(rt: HostRuntime) -> Result<(), Fail> {
 #[test]
 fn pages_come_into_room_that_is_there(rt: HostRuntime) -> Result<(), Fail> {
     let mut jobs = Jobs::new(rt.alloc())?;
-    // one that opens a job, two that join it, and one of another format
+    // one that opens a job, three that join it, and of them one of another format
     for (octets, format) in [
         (ONE_ROW, STANDARD),
         (TWO_ROWS, STANDARD),
@@ -201,15 +201,18 @@ fn pages_come_into_room_that_is_there(rt: HostRuntime) -> Result<(), Fail> {
         jobs.reserve()?;
         taken(jobs.confirm(7, page, false))?;
     }
-    assert!(rt; shown(&jobs) == (1, Some((7, 1))));
+    assert!(rt; shown(&jobs) == (0, Some((7, 4))));
     assert!(rt; jobs.sending().is_none());
+    jobs.end_call();
     jobs.next();
     let Some(job) = jobs.sending() else {
         rt.abort()
     };
-    let [first, second, third] = job.pages().as_slice() else {
+    let [first, second, third, fourth] = job.pages().as_slice() else {
         rt.abort()
     };
+    assert!(rt; job.format() == STANDARD);
+    assert!(rt; fourth.format() == FINE);
     assert!(rt; first.rows().len() == 1);
     assert!(rt; second.rows().len() == 2);
     assert!(rt; third.rows().len() == 3);
@@ -228,14 +231,14 @@ const CUTS: &[(&[Event], &[Told])] = &[
         ],
         &[(7, false, 2)],
     ),
-    // a page of another format in mid-call
+    // pages of other formats in mid-call: one job, of the first one's format
     (
         &[
             Event::Confirms(7, STANDARD, false),
             Event::Confirms(7, FINE, false),
-            Event::CallEnds,
+            Event::Confirms(7, STANDARD, true),
         ],
-        &[(7, false, 1), (7, true, 1)],
+        &[(7, false, 3)],
     ),
     // EOP in mid-call
     (

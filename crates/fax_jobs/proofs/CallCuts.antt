@@ -26,7 +26,7 @@ record Paged (call : ℕ) (cs : List Confirmation) (c : Confirmation) (old now :
 one_more : (now old jobs : List JobValue) (job : JobValue) → now ≡ old ++ jobs → now ++ job ∷ [] ≡ old ++ (jobs ++ job ∷ [])
 one_more now old jobs job e = ap (λ (js : List JobValue). js ++ job ∷ []) e ∙ append_assoc old jobs (job ∷ [])
 
-page_joins : (call : ℕ) (cs : List Confirmation) (c : Confirmation) (old now : List JobValue) (o : Option JobValue) → joins o call c.page ≡ true → SoFar call cs old now o → Paged call cs c old now (joined o c.page)
+page_joins : (call : ℕ) (cs : List Confirmation) (c : Confirmation) (old now : List JobValue) (o : Option JobValue) → joins o call ≡ true → SoFar call cs old now o → Paged call cs c old now (joined o c.page)
 page_joins call cs c old now None t s = cc
 page_joins call cs c old now (Some job) t s =
     record {
@@ -37,7 +37,7 @@ page_joins call cs c old now (Some job) t s =
       are = s.are;
     }
 
-page_opens : (call : ℕ) (cs : List Confirmation) (c : Confirmation) (old now : List JobValue) (o : Option JobValue) → joins o call c.page ≡ false → SoFar call cs old now o → Paged call cs c old (behind now o) (Some (job_of call c.page))
+page_opens : (call : ℕ) (cs : List Confirmation) (c : Confirmation) (old now : List JobValue) (o : Option JobValue) → joins o call ≡ false → SoFar call cs old now o → Paged call cs c old (behind now o) (Some (job_of call c.page))
 page_opens call cs c old now None t s =
     record {
       jobs = s.jobs;
@@ -88,9 +88,9 @@ closed_jobs past = behind_all past.ended (as_list past.book.sending) past.book.w
 
 page_comes : (call : ℕ) (cs : List Confirmation) (c : Confirmation) (old : List JobValue) (past : Past) → SoFar call cs old (jobs_of past) past.book.open_job →
     Paged call cs c old (jobs_of (record past { book = with_page past.book call c.page })) (with_page past.book call c.page).open_job
-page_comes call cs c old past s = by (joins past.book.open_job call c.page) refl
+page_comes call cs c old past s = by (joins past.book.open_job call) refl
   where
-    by : (t : Bool) → joins past.book.open_job call c.page ≡ t → Paged call cs c old (jobs_of (record past { book = if◌then◌else◌ {A = Book} t (added past.book c.page) (opened (closed past.book) call c.page) })) (if◌then◌else◌ {A = Book} t (added past.book c.page) (opened (closed past.book) call c.page)).open_job
+    by : (t : Bool) → joins past.book.open_job call ≡ t → Paged call cs c old (jobs_of (record past { book = if◌then◌else◌ {A = Book} t (added past.book c.page) (opened (closed past.book) call c.page) })) (if◌then◌else◌ {A = Book} t (added past.book c.page) (opened (closed past.book) call c.page)).open_job
     by true t = page_joins call cs c old (jobs_of past) past.book.open_job t s
     by false t = subst (λ (now : List JobValue). Paged call cs c old now (Some (job_of call c.page))) (sym (closed_jobs past)) (page_opens call cs c old (jobs_of past) past.book.open_job t s)
 

@@ -1,12 +1,12 @@
 -- Cuts of confirmations, and one confirmation more.
-use Rattle.std.proofs.Common.{◌≡◌, ℕ, ◌+◌, ◌<◌, ◌≤◌, ◌⊎◌, inl, inr, Bool, true, false, List, [], ◌∷◌, ◌++◌, length, Option, Some, None, All, refl, sym, ◌∙◌, ap, subst, arith, append_assoc, length-append}
+use Rattle.std.proofs.Common.{◌≡◌, ℕ, ◌+◌, ◌<◌, ◌≤◌, ◌⊎◌, inl, inr, Bool, true, false, List, [], ◌∷◌, ◌++◌, length, Option, Some, None, refl, sym, ◌∙◌, ap, subst, arith, append_assoc, length-append}
 use Rattle.std.proofs.lemmas.List.{append-nil}
-use Rattle.std.proofs.lemmas.List.Elements.{All-nil, All-cons, All-push}
 use Rattle.fax_runcodes.specs.declared.format.Format.{Format}
 use Rattle.fax_pagestore.specs.Pages.{PageValue}
-use Rattle.fax_jobs.specs.Jobs.{JobValue, most_pages}
+use Rattle.fax_jobs.specs.Jobs.{JobValue, most_pages, IsOfFirst}
 use Rattle.fax_jobs.specs.Books.{job_of, longer, takes_page}
-use Rattle.fax_jobs.specs.Cuts.{Confirmation, pages_by, NoneButLast, EndsByEop, OtherFormat, IsJobOf, IsCutOf, IsKnown, IsRest, IsCutSoFar}
+use Rattle.fax_jobs.specs.Cuts.{Confirmation, pages_by, NoneButLast, EndsByEop, IsJobOf, IsCutOf, IsKnown, IsRest, IsCutSoFar}
+use Rattle.fax_jobs.proofs.FirstFormat.{first_stays}
 use Rattle.fax_jobs.proofs.TakenPages.{taken_page, refused_page}
 
 -- a confirmation more
@@ -44,10 +44,6 @@ some_more : (cs : List Confirmation) (c : Confirmation) → (cs ++ c ∷ [] ≡ 
 some_more [] c h = cc
 some_more (x ∷ cs) c h = cc
 
-other_more : (format : Format) (cs : List Confirmation) (c : Confirmation) → OtherFormat format cs → OtherFormat format (cs ++ c ∷ [])
-other_more format [] c o = absurd o
-other_more format (x ∷ cs) c o = o
-
 -- a cut whose rest has some property
 abbrev pub UpTo : ℕ → List Confirmation → List JobValue → (List Confirmation → Type 0) → Type 0
 UpTo call cs [] P = P cs
@@ -76,18 +72,16 @@ up_ends call cs [] more P f h = f cs h
 up_ends call cs (job ∷ jobs) more P f h = (h.0, h.1, h.2, h.3, up_ends call h.1 jobs more P f h.5)
 
 -- a job whose cut is known stays one where a confirmation comes
-why_more : (format : Format) (own others : List Confirmation) (c : Confirmation) → IsKnown own others →
-    (others ≡ []) ⊎ EndsByEop own ⊎ OtherFormat format others ⊎ (length own ≡ most_pages) →
-    (others ++ c ∷ [] ≡ []) ⊎ EndsByEop own ⊎ OtherFormat format (others ++ c ∷ []) ⊎ (length own ≡ most_pages)
-why_more format own others c (inl k) w = inr (inl k)
-why_more format own others c (inr k) (inl e) = absurd (k e)
-why_more format own others c (inr k) (inr (inl l)) = inr (inl l)
-why_more format own others c (inr k) (inr (inr (inl o))) = inr (inr (inl (other_more format others c o)))
-why_more format own others c (inr k) (inr (inr (inr n))) = inr (inr (inr n))
+why_more : (own others : List Confirmation) (c : Confirmation) → IsKnown own others →
+    (others ≡ []) ⊎ EndsByEop own ⊎ (length own ≡ most_pages) →
+    (others ++ c ∷ [] ≡ []) ⊎ EndsByEop own ⊎ (length own ≡ most_pages)
+why_more own others c (inl k) w = inr (inl k)
+why_more own others c (inr k) (inl e) = absurd (k e)
+why_more own others c (inr k) (inr w) = inr w
 
 job_more : (call : ℕ) (own others : List Confirmation) (job : JobValue) (c : Confirmation) → IsKnown own others → IsJobOf call own others job → IsJobOf call own (others ++ c ∷ []) job
 job_more call own others job c k j =
-    record { same_call = j.same_call; some = j.some; few = j.few; same_pages = j.same_pages; one_format = j.one_format; eop_at_end = j.eop_at_end; why = why_more job.format own others c k j.why }
+    record { same_call = j.same_call; some = j.some; few = j.few; same_pages = j.same_pages; of_first = j.of_first; eop_at_end = j.eop_at_end; why = why_more own others c k j.why }
 
 known_more : (own others : List Confirmation) (c : Confirmation) → IsKnown own others → IsKnown own (others ++ c ∷ [])
 known_more own others c (inl l) = inl l
@@ -104,32 +98,27 @@ pub record EndsWith (call : ℕ) (c : Confirmation) (job : JobValue) (own : List
   pub to : c.closes ≡ true → EndsByEop own
   pub from : EndsByEop own → c.closes ≡ true
 
-of_format : (format : Format) (page : PageValue) → page.format ≡ format → All (λ (p : PageValue). p.format ≡ format) (page ∷ [])
-of_format format page e = let P : PageValue → Type 0 = λ p. p.format ≡ format in All-cons P page [] e (All-nil P)
-
 one_page : (call : ℕ) (c : Confirmation) → IsJobOf call (c ∷ []) [] (job_of call c.page)
 one_page call c =
-    record { same_call = refl; some = omega arith; few = omega arith; same_pages = refl; one_format = of_format c.page.format c.page refl; eop_at_end = tt; why = inl refl }
+    record { same_call = refl; some = omega arith; few = omega arith; same_pages = refl; of_first = refl; eop_at_end = tt; why = inl refl }
 
 pub first_page : (call : ℕ) (c : Confirmation) (own : List Confirmation) → own ≡ [] → EndsWith call c (job_of call c.page) (own ++ c ∷ [])
 first_page call c own e =
     subst (λ (xs : List Confirmation). EndsWith call c (job_of call c.page) (xs ++ c ∷ [])) (sym e) (record { is_job = one_page call c; to = λ h. h; from = λ h. h })
 
-pub further_page : (call : ℕ) (c : Confirmation) (job : JobValue) (own : List Confirmation) → takes_page job call c.page ≡ true → IsRest call (Some job) own → EndsWith call c (longer job c.page) (own ++ c ∷ [])
+pub further_page : (call : ℕ) (c : Confirmation) (job : JobValue) (own : List Confirmation) → takes_page job call ≡ true → IsRest call (Some job) own → EndsWith call c (longer job c.page) (own ++ c ∷ [])
 further_page call c job own t r =
     let j : IsJobOf call own [] job = r.0 in
-    let b = taken_page job call c.page t in
     let e : length job.pages ≡ length own = ap (λ (ps : List PageValue). length ps) j.same_pages ∙ pages_length own in
-    let l : length job.pages < most_pages = b.1 in
+    let l : length job.pages < most_pages = taken_page job call t in
     let m : length (own ++ c ∷ []) ≡ length own + 1 = length_more own c in
-    let P : PageValue → Type 0 = λ p. p.format ≡ job.format in
     record {
       is_job = record {
         same_call = j.same_call;
         some = omega arith;
         few = omega arith;
         same_pages = ap (λ (ps : List PageValue). ps ++ c.page ∷ []) j.same_pages ∙ sym (pages_more own c);
-        one_format = All-push P job.pages c.page j.one_format b.0;
+        of_first = first_stays job.format job.pages c.page j.of_first;
         eop_at_end = none_more own c j.eop_at_end r.1;
         why = inl refl;
       };
@@ -137,12 +126,10 @@ further_page call c job own t r =
       from = ends_from own c;
     }
 
-why_cut : (job : JobValue) (c : Confirmation) (own : List Confirmation) → length job.pages ≡ length own → length own ≤ most_pages → (c.page.format ≡ job.format → ⊥) ⊎ (most_pages ≤ length job.pages) →
-    (c ∷ [] ≡ []) ⊎ EndsByEop own ⊎ OtherFormat job.format (c ∷ []) ⊎ (length own ≡ most_pages)
-why_cut job c own e k (inl f) = inr (inr (inl f))
-why_cut job c own e k (inr f) = inr (inr (inr (omega arith)))
+all_pages : (job : JobValue) (own : List Confirmation) → length job.pages ≡ length own → length own ≤ most_pages → most_pages ≤ length job.pages → length own ≡ most_pages
+all_pages job own e k f = omega arith
 
-pub other_job : (call : ℕ) (c : Confirmation) (job : JobValue) (own : List Confirmation) → takes_page job call c.page ≡ false → IsRest call (Some job) own → UpTo call (own ++ c ∷ []) (job ∷ []) (EndsWith call c (job_of call c.page))
+pub other_job : (call : ℕ) (c : Confirmation) (job : JobValue) (own : List Confirmation) → takes_page job call ≡ false → IsRest call (Some job) own → UpTo call (own ++ c ∷ []) (job ∷ []) (EndsWith call c (job_of call c.page))
 other_job call c job own t r =
     let j : IsJobOf call own [] job = r.0 in
     let e : length job.pages ≡ length own = ap (λ (ps : List PageValue). length ps) j.same_pages ∙ pages_length own in
@@ -152,9 +139,9 @@ other_job call c job own t r =
       some = j.some;
       few = j.few;
       same_pages = j.same_pages;
-      one_format = j.one_format;
+      of_first = j.of_first;
       eop_at_end = j.eop_at_end;
-      why = why_cut job c own e j.few (refused_page job call c.page j.same_call t);
+      why = inr (inr (all_pages job own e j.few (refused_page job call j.same_call t)));
     } in
     let k : IsKnown own (c ∷ []) = inr (λ h. cc) in
     (own, c ∷ [], refl, is, k, record { is_job = one_page call c; to = λ h. h; from = λ h. h })

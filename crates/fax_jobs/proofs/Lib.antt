@@ -1,5 +1,6 @@
 pub mod CallCuts
 mod CutLemmas
+pub mod FirstFormat
 mod OneCut
 pub mod Reporting
 pub mod TakenPages

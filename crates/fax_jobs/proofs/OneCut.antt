@@ -1,11 +1,10 @@
 -- Confirmations are cut in one way, and each page stands in one job. Of two beginnings of one list, either they are the same,
 -- or one is longer.
-use Rattle.std.proofs.Common.{◌≡◌, ℕ, ◌+◌, ◌<◌, ◌≤◌, ◌⊎◌, inl, inr, true, false, List, [], ◌∷◌, ◌++◌, length, All, refl, sym, ◌∙◌, ap, subst, arith, length-append}
-use Rattle.std.proofs.lemmas.List.Elements.{All-head, All-tail}
+use Rattle.std.proofs.Common.{◌≡◌, ℕ, ◌+◌, ◌<◌, ◌≤◌, ◌⊎◌, inl, inr, true, false, List, [], ◌∷◌, ◌++◌, length, refl, sym, ◌∙◌, ap, subst, arith, length-append}
 use Rattle.fax_runcodes.specs.declared.format.Format.{Format}
 use Rattle.fax_pagestore.specs.Pages.{PageValue}
-use Rattle.fax_jobs.specs.Jobs.{JobValue, most_pages}
-use Rattle.fax_jobs.specs.Cuts.{Confirmation, pages_by, NoneButLast, EndsByEop, OtherFormat, IsJobOf, IsCutOf, CutsAreOne, pages_of, HoldsEachPageOnce}
+use Rattle.fax_jobs.specs.Jobs.{JobValue, most_pages, IsOfFirst}
+use Rattle.fax_jobs.specs.Cuts.{Confirmation, pages_by, NoneButLast, EndsByEop, IsJobOf, IsCutOf, CutsAreOne, pages_of, HoldsEachPageOnce}
 
 abbrev Longer : List Confirmation → List Confirmation → List Confirmation → Type 0
 Longer short long others = (x : Confirmation) × (more : List Confirmation) × (long ≡ short ++ x ∷ more) × (rest : List Confirmation) × (others ≡ x ∷ rest)
@@ -29,50 +28,28 @@ eop_in_front [] x more l e = e
 eop_in_front (c ∷ []) x more l e = let q : false ≡ true = sym l.0 ∙ e in cc
 eop_in_front (c ∷ d ∷ a) x more l e = eop_in_front (d ∷ a) x more l.1 e
 
-abbrev AreOf : Format → List PageValue → Type 0
-AreOf format pages = All (λ (page : PageValue). page.format ≡ format) pages
-
-in_format : (format : Format) (a : List Confirmation) (x : Confirmation) (more : List Confirmation) → AreOf format (pages_by (a ++ x ∷ more)) → x.page.format ≡ format
-in_format format [] x more f = All-head (λ (page : PageValue). page.format ≡ format) x.page (pages_by more) f
-in_format format (c ∷ a) x more f = in_format format a x more (All-tail (λ (page : PageValue). page.format ≡ format) c.page (pages_by (a ++ x ∷ more)) f)
-
-head_format : (format : Format) (c : Confirmation) (own : List Confirmation) → AreOf format (pages_by (c ∷ own)) → c.page.format ≡ format
-head_format format c own f = in_format format [] c own f
-
--- the formats of two lists that begin alike are the same
-same_format : (own more : List Confirmation) (j k : Format) → 0 < length own → AreOf j (pages_by own) → AreOf k (pages_by (own ++ more)) → k ≡ j
-same_format [] more j k l f g = absurd (omega arith)
-same_format (c ∷ own) more j k l f g = sym (head_format k c (own ++ more) g) ∙ head_format j c own f
-
 none_longer : (call : ℕ) (short long others rest : List Confirmation) (j k : JobValue) → IsJobOf call short others j → IsJobOf call long rest k → Longer short long others → ⊥
 none_longer call short long others rest j k a b l =
     by a.why
   where
-    pages : AreOf k.format (pages_by (short ++ l.0 ∷ l.1))
-    pages = subst (λ (cs : List Confirmation). AreOf k.format (pages_by cs)) l.2 (subst (λ (ps : List PageValue). AreOf k.format ps) b.same_pages b.one_format)
-
-    by : (others ≡ []) ⊎ EndsByEop short ⊎ OtherFormat j.format others ⊎ (length short ≡ most_pages) → ⊥
+    by : (others ≡ []) ⊎ EndsByEop short ⊎ (length short ≡ most_pages) → ⊥
     by (inl e) = let q : l.0 ∷ l.3 ≡ [] = sym l.4 ∙ e in cc
     by (inr (inl e)) = eop_in_front short l.0 l.1 (subst NoneButLast l.2 b.eop_at_end) e
-    by (inr (inr (inl o))) =
-        let x : l.0.page.format ≡ k.format = in_format k.format short l.0 l.1 pages in
-        let same : k.format ≡ j.format = same_format short (l.0 ∷ l.1) j.format k.format a.some (subst (λ (ps : List PageValue). AreOf j.format ps) a.same_pages a.one_format) pages in
-        subst (OtherFormat j.format) l.4 o (x ∙ same)
-    by (inr (inr (inr n))) =
+    by (inr (inr n)) =
         let m : length long ≡ length short + length (l.0 ∷ l.1) = ap (λ (cs : List Confirmation). length cs) l.2 ∙ length-append short (l.0 ∷ l.1) in
         let most : length long ≤ most_pages = b.few in
         omega arith
 
-first_format : (own : List Confirmation) (j k : Format) → 0 < length own → AreOf j (pages_by own) → AreOf k (pages_by own) → j ≡ k
-first_format [] j k l f g = absurd (omega arith)
-first_format (c ∷ own) j k l f g = sym (head_format j c own f) ∙ head_format k c own g
+first_format : (pages : List PageValue) (f g : Format) → IsOfFirst f pages → IsOfFirst g pages → f ≡ g
+first_format [] f g a b = absurd a
+first_format (page ∷ pages) f g a b = a ∙ sym b
 
 same_job : (call : ℕ) (own others rest : List Confirmation) (j k : JobValue) → IsJobOf call own others j → IsJobOf call own rest k → j ≡ k
 same_job call own others rest j k a b =
     let F : ℕ → Format → List PageValue → JobValue = λ n f ps. record { call = n; format = f; pages = ps } in
     let c : j.call ≡ k.call = a.same_call ∙ sym b.same_call in
-    let f : j.format ≡ k.format = first_format own j.format k.format a.some (subst (λ (ps : List PageValue). AreOf j.format ps) a.same_pages a.one_format) (subst (λ (ps : List PageValue). AreOf k.format ps) b.same_pages b.one_format) in
     let p : j.pages ≡ k.pages = a.same_pages ∙ sym b.same_pages in
+    let f : j.format ≡ k.format = first_format k.pages j.format k.format (subst (IsOfFirst j.format) p a.of_first) b.of_first in
     ap (λ (n : ℕ). F n j.format j.pages) c ∙ ap (λ (g : Format). F k.call g j.pages) f ∙ ap (λ (ps : List PageValue). F k.call k.format ps) p
 
 some_job : (call : ℕ) (own others : List Confirmation) (job : JobValue) → IsJobOf call own others job → own ++ others ≡ [] → ⊥

@@ -28,7 +28,7 @@ last_more n reports report =
     ap (drop m) (sym one) ∙ drop-drop m k (reports ++ report ∷ []) ∙ ap (λ (i : ℕ). drop i (reports ++ report ∷ [])) all
 
 page_reports : (book : Book) (call : ℕ) (page : PageValue) → (with_page book call page).reports ≡ book.reports
-page_reports book call page = by (joins book.open_job call page)
+page_reports book call page = by (joins book.open_job call)
   where
     by : (t : Bool) → (if◌then◌else◌ {A = Book} t (added book page) (opened (closed book) call page)).reports ≡ book.reports
     by true = refl

@@ -1,8 +1,5 @@
 -- The book of jobs: what it has, and what each of its steps makes of it. (This project's profile.)
-use Rattle.std.specs.Prelude.{◌≡◌, ℕ, ◌<◌, ◌+◌, ◌-◌, Bool, true, false, not, ◌&&◌, nat_lt, nat_eq, List, [], ◌∷◌, ◌++◌, length, drop, Option, Some, None, if◌then◌else◌}
-use Rattle.fax_runcodes.specs.declared.format.Format.{Format}
-use Rattle.fax_runcodes.specs.declared.Width.{Width}
-use Rattle.fax_runcodes.specs.declared.Width.TheVariants.{W1728, W2048, W2432}
+use Rattle.std.specs.Prelude.{◌≡◌, ℕ, ◌<◌, ◌+◌, ◌-◌, Bool, false, ◌&&◌, nat_lt, nat_eq, List, [], ◌∷◌, ◌++◌, length, drop, Option, Some, None, if◌then◌else◌}
 use Rattle.fax_pagestore.specs.Pages.{PageValue}
 use Rattle.fax_jobs.specs.declared.outcome.Outcome.{Outcome}
 use Rattle.fax_jobs.specs.declared.report.Report.{Report}
@@ -35,10 +32,10 @@ opened book call page = record book { open_job = Some (job_of call page) }
 abbrev pub longer : JobValue → PageValue → JobValue
 longer job page = record job { pages = job.pages ++ page ∷ [] }
 
--- a job is open, of the page's format, with fewer than 999 pages
-abbrev pub TakesPage : Option JobValue → PageValue → Type 0
-TakesPage None page = ⊥
-TakesPage (Some job) page = (page.format ≡ job.format) × (length job.pages < most_pages)
+-- a job is open, with fewer than 999 pages
+abbrev pub TakesPage : Option JobValue → Type 0
+TakesPage None = ⊥
+TakesPage (Some job) = length job.pages < most_pages
 
 abbrev pub joined : Option JobValue → PageValue → Option JobValue
 joined None page = None
@@ -82,31 +79,17 @@ abbrev pub ended : Book → Outcome → ℕ → Book
 ended book outcome delivered =
     record book { sending = None; reports = last_of kept_reports (reported book.reports book.sending outcome delivered) }
 
--- A CONFIRMED PAGE joins the open job where that is of its call and format and has fewer than 999 pages. Else the open job
--- is closed and another one opened. Behind EOP the job is closed.
-abbrev pub same_width : Width → Width → Bool
-same_width W1728 W1728 = true
-same_width W2048 W2048 = true
-same_width W2432 W2432 = true
-same_width v w = false
+-- A CONFIRMED PAGE, of any format, joins the open job where that is of its call and has fewer than 999 pages. Else the open
+-- job is closed and another one opened. Behind EOP the job is closed.
+abbrev pub takes_page : JobValue → ℕ → Bool
+takes_page job call = nat_eq job.call call && nat_lt (length job.pages) most_pages
 
-abbrev pub same_bool : Bool → Bool → Bool
-same_bool true b = b
-same_bool false b = not b
-
-abbrev pub same_format : Format → Format → Bool
-same_format f g = same_width f.width g.width && same_bool f.fine g.fine
-
-abbrev pub takes_page : JobValue → ℕ → PageValue → Bool
-takes_page job call page =
-    nat_eq job.call call && (same_format job.format page.format && nat_lt (length job.pages) most_pages)
-
-abbrev pub joins : Option JobValue → ℕ → PageValue → Bool
-joins None call page = false
-joins (Some job) call page = takes_page job call page
+abbrev pub joins : Option JobValue → ℕ → Bool
+joins None call = false
+joins (Some job) call = takes_page job call
 
 abbrev pub with_page : Book → ℕ → PageValue → Book
-with_page book call page = if joins book.open_job call page then added book page else opened (closed book) call page
+with_page book call page = if joins book.open_job call then added book page else opened (closed book) call page
 
 abbrev pub confirmed : Book → ℕ → PageValue → (closes : Bool) → Book
 confirmed book call page closes = if closes then closed (with_page book call page) else with_page book call page

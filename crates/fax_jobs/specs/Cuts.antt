@@ -1,10 +1,9 @@
 -- How the confirmations of a call are cut into jobs, as a relation. (This project's profile.) A cut stands behind a
--- confirmation for EOP, before a page of another format, behind the 999th page of a job and at the end of the call, and
--- nowhere else. Confirmations and jobs are in the order of time here.
-use Rattle.std.specs.Prelude.{◌≡◌, ℕ, ◌<◌, ◌≤◌, ◌⊎◌, Bool, true, false, List, [], ◌∷◌, ◌++◌, length, map, All, Option, Some, None}
-use Rattle.fax_runcodes.specs.declared.format.Format.{Format}
+-- confirmation for EOP, behind the 999th page of a job and at the end of the call, and nowhere else; pages of any formats
+-- stand in one job. Confirmations and jobs are in the order of time here.
+use Rattle.std.specs.Prelude.{◌≡◌, ℕ, ◌<◌, ◌≤◌, ◌⊎◌, Bool, true, false, List, [], ◌∷◌, ◌++◌, length, map, Option, Some, None}
 use Rattle.fax_pagestore.specs.Pages.{PageValue}
-use Rattle.fax_jobs.specs.Jobs.{JobValue, most_pages}
+use Rattle.fax_jobs.specs.Jobs.{JobValue, most_pages, IsOfFirst}
 use Rattle.fax_jobs.specs.Pasts.{Step, Confirms, CallEnds, Sends, Ends, Past, after_steps, jobs_of}
 
 -- a confirmed page, and whether its command was EOP
@@ -27,21 +26,16 @@ EndsByEop [] = ⊥
 EndsByEop (c ∷ []) = c.closes ≡ true
 EndsByEop (c ∷ d ∷ cs) = EndsByEop (d ∷ cs)
 
--- the first is of another format
-abbrev pub OtherFormat : Format → List Confirmation → Type 0
-OtherFormat format [] = ⊥
-OtherFormat format (c ∷ cs) = c.page.format ≡ format → ⊥
-
 -- a job of the confirmations `own`, behind which `others` came in the same call
 pub record IsJobOf (call : ℕ) (own others : List Confirmation) (job : JobValue) : Type 0 where
   pub same_call : job.call ≡ call
   pub some : 0 < length own
   pub few : length own ≤ most_pages
   pub same_pages : job.pages ≡ pages_by own
-  pub one_format : All (λ page. page.format ≡ job.format) job.pages
+  pub of_first : IsOfFirst job.format job.pages
   pub eop_at_end : NoneButLast own
-  -- why it ends here: the end of the call, EOP, another format or the 999th page
-  pub why : (others ≡ []) ⊎ EndsByEop own ⊎ OtherFormat job.format others ⊎ (length own ≡ most_pages)
+  -- why it ends here: the end of the call, EOP or the 999th page
+  pub why : (others ≡ []) ⊎ EndsByEop own ⊎ (length own ≡ most_pages)
 
 -- the jobs of a call that has ended
 abbrev pub IsCutOf : ℕ → List Confirmation → List JobValue → Type 0

@@ -1,9 +1,9 @@
 -- Jobs: pages of one call that go out in one call of our own. (This project's profile.)
-use Rattle.std.specs.Prelude.{◌≡◌, ℕ, ◌<◌, ◌≤◌, List, All, length}
+use Rattle.std.specs.Prelude.{◌≡◌, ℕ, ◌<◌, ◌≤◌, List, [], ◌∷◌, All, length}
 use Rattle.fax_runcodes.specs.declared.format.Format.{Format}
 use Rattle.fax_pagestore.specs.Pages.{PageValue, IsPage}
 
--- the number of the call that the pages came in, their format, and the pages in the order of their confirmations
+-- the number of the call that the pages came in, the format of the first, and the pages in the order of their confirmations
 pub record JobValue : Type 0 where
   pub call : ℕ
   pub format : Format
@@ -13,9 +13,14 @@ pub record JobValue : Type 0 where
 abbrev pub most_pages : ℕ
 most_pages = 999
 
--- 1 to 999 pages, each of the job's format
+-- the format is that of the first page
+abbrev pub IsOfFirst : Format → List PageValue → Type 0
+IsOfFirst format [] = ⊥
+IsOfFirst format (page ∷ pages) = format ≡ page.format
+
+-- 1 to 999 pages, of any formats; the job's format is that of the first
 pub record IsJob (job : JobValue) : Type 0 where
   pub some : 0 < length job.pages
   pub few : length job.pages ≤ most_pages
-  pub one_format : All (λ page. page.format ≡ job.format) job.pages
+  pub of_first : IsOfFirst job.format job.pages
   pub are_pages : All IsPage job.pages

@@ -8,8 +8,8 @@ use fax_pagestore::{Format, Page, RowStore};
 use std::alloc::Global;
 use std::marker::Model;
 
-/// The pages of one call that go out in one call of our own: 1 to 999 of them, all of one format. Seen as these, with the
-/// number of the call that they came in.
+/// The pages of one call that go out in one call of our own: 1 to 999 of them, of any formats. Seen as these, with the
+/// number of the call that they came in and the format of the first.
 #[derive(Drop)]
 pub struct Job<S: RowStore> {
     call: u32,
@@ -57,8 +57,7 @@ impl<S: RowStore> Job<S> {
 
     /// Adds a page behind the others, or hands it back for want of memory.
     pub fn add_page(&mut self, page: Page<S>) -> Result<(), Page<S>>
-        requires one_format { page.format ≡ self.old.format }
-        requires few { length self.old.pages < most_pages }
+        requires { length self.old.pages < most_pages }
         ensures added { OnOk result (self.new ≡ longer self.old page) }
         ensures back { IfErr result (λ back. back ≡ page) }
         ensures err { OnErr result (self.new ≡ self.old) }
@@ -70,7 +69,6 @@ impl<S: RowStore> Job<S> {
 
     /// Adds a page behind the others, which move into a larger list where theirs is full: it takes no memory.
     pub(crate) fn add_within(&mut self, larger: &mut Vec<Page<S>>, page: Page<S>)
-        requires one_format { page.format ≡ self.old.format }
         requires few { length self.old.pages < most_pages }
         requires empty { vec_len larger.old ≡ 0 }
         requires room { length self.old.pages < vec_capacity larger.old }
@@ -89,7 +87,7 @@ impl<S: RowStore> Job<S> {
         self.call
     }
 
-    /// The format of its pages.
+    /// The format of its first page.
     pub fn format(&self) -> Format
         ensures { result ≡ self.now.format }
     {

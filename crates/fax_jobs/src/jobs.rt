@@ -102,10 +102,10 @@ impl<S: RowStore> Jobs<S> {
         self.open_next(call, page)
     }
 
-    /// Adds a page to the open job, which is of its format and has fewer than 999 pages. For want of memory nothing
+    /// Adds a page to the open job, which has fewer than 999 pages. For want of memory nothing
     /// changes, and the page is handed back.
     pub fn add_page(&mut self, page: Page<S>) -> Result<(), Page<S>>
-        requires { TakesPage self.old.book.open_job page }
+        requires { TakesPage self.old.book.open_job }
         ensures added { OnOk result (self.new.book ≡ added self.old.book page) }
         ensures back { IfErr result (λ back. back ≡ page) }
         ensures err { OnErr result (self.new ≡ self.old) }
@@ -133,7 +133,7 @@ impl<S: RowStore> Jobs<S> {
         ensures err { OnErr result (self.new ≡ self.old) }
         ensures memory { OnErr result (self.old.spare ≡ 0) }
     {
-        if self.joins(call, &page) {
+        if self.joins(call) {
             self.add_page(page)?;
         } else {
             self.open_next(call, page)?;
@@ -226,14 +226,12 @@ impl<S: RowStore> Jobs<S> {
     }
 
     /// Whether a page of the call of this number joins the open job.
-    fn joins(&self, call: u32, page: &Page<S>) -> bool
-        ensures { result ≡ joins self.now.book.open_job call page.now }
+    fn joins(&self, call: u32) -> bool
+        ensures { result ≡ joins self.now.book.open_job call }
     {
         match &self.open_job {
             None => false,
-            Some(job) => {
-                job.call() == call && job.format() == page.format() && job.page_count() < MOST_PAGES
-            }
+            Some(job) => job.call() == call && job.page_count() < MOST_PAGES,
         }
     }
 

@@ -8,7 +8,7 @@ use std::fmt;
 pub struct Report {
     /// The number of the call that its pages came in.
     pub call: u32,
-    /// The format of its pages.
+    /// The format of its first page.
     pub format: Format,
     /// How many pages it had.
     pub pages: u32,
