@@ -1,5 +1,6 @@
 -- The calling side counts the images that are answered with MCF or RTP.
-use Rattle.std.proofs.Common.{◌≡◌, ℕ, ◌+◌, ◌-◌, ◌^◌, ◌<◌, ◌≤◌, min, Bool, true, false, List, [], ◌∷◌, Option, Some, None, Result, Ok, Err, ◌⊎◌, inl, inr, refl, sym, ◌∙◌, ap, subst, nat_lt, nat_le, arith, length, drop, take, length-drop, length-take, if◌then◌else◌}
+use Rattle.std.proofs.Common.{nat_eq, ◌≡◌, ℕ, ◌+◌, ◌-◌, ◌^◌, ◌<◌, ◌≤◌, min, Bool, true, false, List, [], ◌∷◌, Option, Some, None, Result, Ok, Err, ◌⊎◌, inl, inr, refl, sym, ◌∙◌, ap, subst, nat_lt, nat_le, arith, length, drop, take, length-drop, length-take, if◌then◌else◌}
+use Rattle.fax_runcodes.specs.declared.format.Format.{Format}
 use Rattle.fax_frames.specs.declared.dis.Dis.{Dis}
 use Rattle.fax_frames.specs.declared.dcs.Dcs.{Dcs}
 use Rattle.fax_frames.specs.declared.rate.Rate.{Rate}
@@ -22,8 +23,8 @@ use Rattle.fax_jobs.specs.declared.outcome.Outcome.TheVariants as outcomes
 use Rattle.fax_jobs.specs.Jobs.{JobValue}
 use Rattle.fax_call.specs.declared.state.State.{State}
 use Rattle.fax_call.specs.declared.state.State.TheVariants.{Idle, AwaitDis, AwaitCfr, AwaitMcf, Closing}
-use Rattle.fax_call.specs.Replies.{Packet, Signals, Tells, Part, Due, One, Text, waits, part_length, training_check, frame_reply, training, is_last_page, command, image, goodbye}
-use Rattle.fax_call.specs.Table.{Counts, Move, Stays, Trains, Sends, AsksAgain, Closes, HangsUp, outcome_of, first_try, next_try, next_step, next_page, one_delivered, one_refused, by_choice, tries_again, asks_again, on_frame, on_timers}
+use Rattle.fax_call.specs.Replies.{Packet, Signals, Tells, Part, Due, One, Text, waits, part_length, training_check, training, is_last_page, command, image, goodbye, turn_behind, command_by, command_behind}
+use Rattle.fax_call.specs.Table.{Counts, Move, Stays, Trains, Sends, AsksAgain, Closes, HangsUp, outcome_of, first_try, next_try, next_step, next_page, one_delivered, one_refused, by_choice, tries_again, asks_again, on_frame, on_timers, Turns, turns_or, gives_up_dis}
 use Rattle.fax_call.specs.Calls.{Calling, started, moved, heard, came, timed, text_at, Taken, taken_text, taken, state_when_given, outcome_when_given, t4_when_given, after_giving, given_first, paced, ticked, Ticked}
 use Rattle.fax_call.specs.Emission.{Emission, emitted_at, ended_frame, Mark, Gave, Acknowledged, Refused, Begins, gave_all, elements_given, acknowledged_by, marks_heard, marks_given, frame_at, is_command, is_preamble, Reply, Unasked, Asked, Answered, closed, reply_given, reply_or, reply_heard, replied}
 use Rattle.fax_call.specs.Delivery.{good_one, answered_if, answered_before, answered_images, is_over}
@@ -213,38 +214,35 @@ parts_plain rate (Text p d g ∷ due) a = absurd a
 goodbye_plan : (before : List elements.Element) → Plan goodbye before
 goodbye_plan before = frame_plan (written_plain plain.Dcn true) [] before (omega arith) (omega arith) refl tt
 
-command_told : (end : Bool) (before : List elements.Element) (r : Reply) →
-    reply_after (elements.Signal 3 ∷ before) (elements.Field 0 0 (written_plain (if end then plain.Eop else plain.Mps) true) ∷ elements.Field 0 4 [] ∷ []) r ≡ Asked
+command_told : (end : Bool) (turn : Option Format) (before : List elements.Element) (r : Reply) →
+    reply_after (elements.Signal 3 ∷ before) (elements.Field 0 0 (written_plain (command_by end turn) true) ∷ elements.Field 0 4 [] ∷ []) r ≡ Asked
 unfolding ended_frame
-command_told true before r = refl
-command_told false before r = refl
+command_told true turn before r = refl
+command_told false (Some format) before r = refl
+command_told false None before r = refl
 
-command_asks : (pages page : ℕ) (before : List elements.Element) → WillAsk (command pages page) before
-command_asks pages page before = by (is_last_page pages page)
-  where
-    length_ok : (end : Bool) → (1 ≤ length (written_plain (if end then plain.Eop else plain.Mps) true)) × (length (written_plain (if end then plain.Eop else plain.Mps) true) ≤ 256)
-    length_ok true = (omega arith, omega arith)
-    length_ok false = (omega arith, omega arith)
+command_asks : (end : Bool) (turn : Option Format) (before : List elements.Element) → WillAsk (command (command_by end turn)) before
+command_asks end turn before =
+    let f : List ℕ = written_plain (command_by end turn) true in
+    subst (λ (es : List elements.Element). NoCommand before es × WillAsk (One (Tells f) ∷ []) (pushed es before)) (sym (signal_back 3 (omega arith))) (
+      (refl, tt),
+      subst (λ (es : List elements.Element). (r : Reply) → reply_after (elements.Signal 3 ∷ before) es r ≡ Asked) (sym (frame_back f (omega arith) (omega arith))) (command_told end turn before),
+    )
 
-    by : (end : Bool) → WillAsk (frame_reply (written_plain (if end then plain.Eop else plain.Mps) true)) before
-    by end =
-        let f : List ℕ = written_plain (if end then plain.Eop else plain.Mps) true in
-        let l = length_ok end in
-        subst (λ (es : List elements.Element). NoCommand before es × WillAsk (One (Tells f) ∷ []) (pushed es before)) (sym (signal_back 3 (omega arith))) (
-          (refl, tt),
-          subst (λ (es : List elements.Element). (r : Reply) → reply_after (elements.Signal 3 ∷ before) es r ≡ Asked) (sym (frame_back f l.0 l.1)) (command_told end before),
-        )
-
-image_plan : (pages page : ℕ) (dcs : Dcs) (before : List elements.Element) → Plan (image pages page dcs) before
-image_plan pages page dcs before =
-    signal_plan (training_of dcs.rate false) (Text page dcs 0 ∷ command pages page) before (code_fits dcs.rate false) (λ after. command_asks pages page after)
+image_plan : (end : Bool) (turn : Option Format) (page : ℕ) (dcs : Dcs) (before : List elements.Element) → Plan (image (command_by end turn) page dcs) before
+image_plan end turn page dcs before =
+    signal_plan (training_of dcs.rate false) (Text page dcs 0 ∷ command (command_by end turn)) before (code_fits dcs.rate false) (λ after. command_asks end turn after)
 
 -- moves
 trains : (L : Type 0) (a : Calling) (marks : List Mark) (dis : Dis) (dcs : Dcs) (c : Counts) → IsSettled c.delivered marks → IsRunning L (moved a (Trains dis dcs c)) marks
 trains L a marks dis dcs c s = (parts_plain dcs.rate (training_check dcs) (check_parts dcs), record { is = s; plan = training_plan dcs (elements_given marks) })
 
 sends : (L : Type 0) (a : Calling) (marks : List Mark) (dis : Dis) (dcs : Dcs) (c : Counts) → IsSettled c.delivered marks → IsRunning L (moved a (Sends dis dcs c)) marks
-sends L a marks dis dcs c s = inl (refl, record { is = s; plan = image_plan a.pages c.page dcs (elements_given marks) })
+sends L a marks dis dcs c s = inl (refl, record { is = s; plan = image_plan (is_last_page a.pages c.page) (turn_behind a.formats c.page) c.page dcs (elements_given marks) })
+
+turns : (L : Type 0) (a : Calling) (marks : List Mark) (now : ℕ) (c : Counts) (m : Move) (t : Option Format) → IsSettled (c.delivered + 1) marks → IsRunning L (moved a m) marks → IsRunning L (moved a (turns_or now t c m)) marks
+turns L a marks now c m (Some format) s r = (refl, record { is = s; plan = tt })
+turns L a marks now c m None s r = r
 
 closes : (L : Type 0) (a : Calling) (marks : List Mark) (x : Outcome) (c : Counts) → IsSettled c.delivered marks → IsRunning L (moved a (Closes x c)) marks
 closes L a marks x c s = (refl, goodbye_plan (elements_given marks), inl s)
@@ -360,55 +358,57 @@ well_counted L a marks m x y =
     let close : Move = Closes outcomes.Delivered (one_delivered a.counts) in
     runs L (moved a (if last then close else m)) marks (if_running L a marks last close m x y)
 
-frame_counted : (L : Type 0) (a : Calling) (marks : List Mark) (state : State) (frame : Option Frame) → a.state ≡ state → a.waiting ≡ [] → Running L state [] a.counts.delivered marks →
-    Counted L (moved a (on_frame a.format a.pages state a.counts frame)) (acknowledged_by frame marks)
-frame_counted L a marks Idle frame e w s = absurd s
-frame_counted L a marks AwaitDis (Some (frames.Dis dis)) e w s =
+frame_counted : (L : Type 0) (a : Calling) (now : ℕ) (marks : List Mark) (state : State) (frame : Option Frame) → a.state ≡ state → a.waiting ≡ [] → Running L state [] a.counts.delivered marks →
+    Counted L (moved a (on_frame now a.format (turn_behind a.formats a.counts.page) a.pages state a.counts frame)) (acknowledged_by frame marks)
+frame_counted L a now marks Idle frame e w s = absurd s
+frame_counted L a now marks AwaitDis (Some (frames.Dis dis)) e w s =
     let m : Move = by_choice dis (first_try a.counts) (choice dis a.format a.counts.step) in
     runs L (moved a m) marks (chooses L a marks dis (first_try a.counts) (choice dis a.format a.counts.step) s.1.is)
-frame_counted L a marks AwaitDis (Some frames.Dcn) e w s = hangs L a marks s.1.is.count
-frame_counted L a marks (AwaitCfr dis dcs) (Some frames.Cfr) e w s = sends L a marks dis dcs (first_try a.counts) s.1.is
-frame_counted L a marks (AwaitCfr dis dcs) (Some frames.Ftt) e w s =
+frame_counted L a now marks AwaitDis (Some frames.Dcn) e w s = hangs L a marks s.1.is.count
+frame_counted L a now marks (AwaitCfr dis dcs) (Some frames.Cfr) e w s = sends L a marks dis dcs (first_try a.counts) s.1.is
+frame_counted L a now marks (AwaitCfr dis dcs) (Some frames.Ftt) e w s =
     let m : Move = by_choice dis (next_step a.counts) (choice dis a.format (a.counts.step + 1)) in
     runs L (moved a m) marks (chooses L a marks dis (next_step a.counts) (choice dis a.format (a.counts.step + 1)) s.1.is)
-frame_counted L a marks (AwaitCfr dis dcs) (Some (frames.Dis other)) e w s = runs L (moved a (tries_again dis dcs a.counts)) marks (tries L a marks dis dcs a.counts s.1.is)
-frame_counted L a marks (AwaitCfr dis dcs) (Some frames.Dcn) e w s = hangs L a marks s.1.is.count
-frame_counted L a marks (AwaitMcf dis dcs) (Some frames.Mcf) e w s =
+frame_counted L a now marks (AwaitCfr dis dcs) (Some (frames.Dis other)) e w s = runs L (moved a (tries_again dis dcs a.counts)) marks (tries L a marks dis dcs a.counts s.1.is)
+frame_counted L a now marks (AwaitCfr dis dcs) (Some frames.Dcn) e w s = hangs L a marks s.1.is.count
+frame_counted L a now marks (AwaitMcf dis dcs) (Some frames.Mcf) e w s =
     let o : Open a.counts.delivered marks = is_open L a.counts.delivered marks s in
     let k : IsSettled (a.counts.delivered + 1) (Acknowledged ∷ marks) = answered_well a.counts.delivered marks o.count o.asked in
-    well_counted L a (Acknowledged ∷ marks) (Sends dis dcs (next_page a.counts))
-    (closes L a (Acknowledged ∷ marks) outcomes.Delivered (one_delivered a.counts) k) (sends L a (Acknowledged ∷ marks) dis dcs (next_page a.counts) k)
-frame_counted L a marks (AwaitMcf dis dcs) (Some frames.Rtp) e w s =
+    let t : Option Format = turn_behind a.formats a.counts.page in
+    well_counted L a (Acknowledged ∷ marks) (turns_or now t a.counts (Sends dis dcs (next_page a.counts)))
+    (closes L a (Acknowledged ∷ marks) outcomes.Delivered (one_delivered a.counts) k) (turns L a (Acknowledged ∷ marks) now a.counts (Sends dis dcs (next_page a.counts)) t k (sends L a (Acknowledged ∷ marks) dis dcs (next_page a.counts) k))
+frame_counted L a now marks (AwaitMcf dis dcs) (Some frames.Rtp) e w s =
     let o : Open a.counts.delivered marks = is_open L a.counts.delivered marks s in
     let k : IsSettled (a.counts.delivered + 1) (Acknowledged ∷ marks) = answered_well a.counts.delivered marks o.count o.asked in
-    well_counted L a (Acknowledged ∷ marks) (Trains dis dcs (next_page a.counts))
-    (closes L a (Acknowledged ∷ marks) outcomes.Delivered (one_delivered a.counts) k) (trains L a (Acknowledged ∷ marks) dis dcs (next_page a.counts) k)
-frame_counted L a marks (AwaitMcf dis dcs) (Some frames.Rtn) e w s =
+    let t : Option Format = turn_behind a.formats a.counts.page in
+    well_counted L a (Acknowledged ∷ marks) (turns_or now t a.counts (Trains dis dcs (next_page a.counts)))
+    (closes L a (Acknowledged ∷ marks) outcomes.Delivered (one_delivered a.counts) k) (turns L a (Acknowledged ∷ marks) now a.counts (Trains dis dcs (next_page a.counts)) t k (trains L a (Acknowledged ∷ marks) dis dcs (next_page a.counts) k))
+frame_counted L a now marks (AwaitMcf dis dcs) (Some frames.Rtn) e w s =
     let o : Open a.counts.delivered marks = is_open L a.counts.delivered marks s in
     let k : IsSettled a.counts.delivered (Refused ∷ marks) = answered_badly a.counts.delivered marks o.count o.asked in
     let again : Bool = nat_lt a.counts.refused 2 in
     runs L (moved a (if again then Trains dis dcs (one_refused a.counts) else Closes outcomes.PageRefused a.counts)) (Refused ∷ marks)
     (if_running L a (Refused ∷ marks) again (Trains dis dcs (one_refused a.counts)) (Closes outcomes.PageRefused a.counts)
     (trains L a (Refused ∷ marks) dis dcs (one_refused a.counts) k) (closes L a (Refused ∷ marks) outcomes.PageRefused a.counts k))
-frame_counted L a marks (AwaitMcf dis dcs) (Some frames.Dcn) e w s = hangs L a marks (open_count a.counts.delivered marks (is_open L a.counts.delivered marks s))
-frame_counted L a marks AwaitDis frame e w s = stays_so L a (acknowledged_by frame marks) AwaitDis e w (s.0, all_heard [] a.counts.delivered frame marks s.1)
-frame_counted L a marks (AwaitCfr dis dcs) frame e w s = stays_so L a (acknowledged_by frame marks) (AwaitCfr dis dcs) e w (s.0, all_heard [] a.counts.delivered frame marks s.1)
-frame_counted L a marks (AwaitMcf dis dcs) frame e w s = stays_so L a marks (AwaitMcf dis dcs) e w s
-frame_counted L a marks (Closing x) frame e w s = stays_so L a (acknowledged_by frame marks) (Closing x) e w (over_heard L x [] a.counts.delivered frame marks s)
+frame_counted L a now marks (AwaitMcf dis dcs) (Some frames.Dcn) e w s = hangs L a marks (open_count a.counts.delivered marks (is_open L a.counts.delivered marks s))
+frame_counted L a now marks AwaitDis frame e w s = stays_so L a (acknowledged_by frame marks) AwaitDis e w (s.0, all_heard [] a.counts.delivered frame marks s.1)
+frame_counted L a now marks (AwaitCfr dis dcs) frame e w s = stays_so L a (acknowledged_by frame marks) (AwaitCfr dis dcs) e w (s.0, all_heard [] a.counts.delivered frame marks s.1)
+frame_counted L a now marks (AwaitMcf dis dcs) frame e w s = stays_so L a marks (AwaitMcf dis dcs) e w s
+frame_counted L a now marks (Closing x) frame e w s = stays_so L a (acknowledged_by frame marks) (Closing x) e w (over_heard L x [] a.counts.delivered frame marks s)
 
-pub comes_counted : (L : Type 0) (a : Calling) (piece : pieces.Piece) (marks : List Mark) → IsRunning L a marks → Counted L (came a piece) (marks_heard piece marks)
-comes_counted L a (pieces.Frame octets) marks s = by a.waiting refl
+pub comes_counted : (L : Type 0) (a : Calling) (piece : pieces.Piece) (now : ℕ) (marks : List Mark) → IsRunning L a marks → Counted L (came a piece now) (marks_heard piece marks)
+comes_counted L a (pieces.Frame octets) now marks s = by a.waiting refl
   where
-    by : (w : List Due) → a.waiting ≡ w → Counted L (moved a (if waits w then Stays else on_frame a.format a.pages a.state a.counts (frame_of octets))) (acknowledged_by (frame_of octets) marks)
-    by [] e = frame_counted L a marks a.state (frame_of octets) refl e (subst (λ (w : List Due). Running L a.state w a.counts.delivered marks) e s)
+    by : (w : List Due) → a.waiting ≡ w → Counted L (moved a (if waits w then Stays else on_frame now a.format (turn_behind a.formats a.counts.page) a.pages a.state a.counts (frame_of octets))) (acknowledged_by (frame_of octets) marks)
+    by [] e = frame_counted L a now marks a.state (frame_of octets) refl e (subst (λ (w : List Due). Running L a.state w a.counts.delivered marks) e s)
     by (d ∷ due) e =
         runs L a (acknowledged_by (frame_of octets) marks)
         (subst (λ (w : List Due). Running L a.state w a.counts.delivered (acknowledged_by (frame_of octets) marks)) (sym e)
         (state_heard L a.state d due a.counts.delivered (frame_of octets) marks (subst (λ (w : List Due). Running L a.state w a.counts.delivered marks) e s)))
-comes_counted L a (pieces.Start k) marks s = runs L a marks s
-comes_counted L a (pieces.Octets os) marks s = runs L a marks s
-comes_counted L a (pieces.End w) marks s = runs L a marks s
-comes_counted L a pieces.Gap marks s = runs L a marks s
+comes_counted L a (pieces.Start k) now marks s = runs L a marks s
+comes_counted L a (pieces.Octets os) now marks s = runs L a marks s
+comes_counted L a (pieces.End w) now marks s = runs L a marks s
+comes_counted L a pieces.Gap now marks s = runs L a marks s
 
 -- a tick: T4 was set when the last packet was given
 abbrev pub TimedOf : List Due → State → Option ℕ → Option ℕ → Type 0
@@ -440,9 +440,9 @@ asks_expired : (L : Type 0) (a : Calling) (now : ℕ) (marks : List Mark) (dis :
 asks_expired L a now marks dis dcs c e p o =
     let new : List Mark = gave_all (elements_in (Signals 3)) marks in
     let g = preamble_given marks o.asked in
-    let f : List ℕ = written_plain (if is_last_page a.pages c.page then plain.Eop else plain.Mps) true in
+    let f : List ℕ = written_plain (command_behind a.formats a.pages c.page) true in
     let asks : WillAsk (One (Tells f) ∷ []) (elements_given new) =
-    subst (WillAsk (One (Tells f) ∷ [])) (sym (pushed_given (elements_in (Signals 3)) marks)) (command_asks a.pages c.page (elements_given marks)).1 in
+    subst (WillAsk (One (Tells f) ∷ [])) (sym (pushed_given (elements_in (Signals 3)) marks)) (command_asks (is_last_page a.pages c.page) (turn_behind a.formats c.page) (elements_given marks)).1 in
     record {
       frame = f;
       paced = p;
@@ -481,7 +481,7 @@ timer_counted : (L : Type 0) (a : Calling) (now : ℕ) (marks : List Mark) (stat
 timer_counted L a now marks Idle f e t s h = absurd s
 timer_counted L a now marks (Closing x) f e t s h = inl t
 timer_counted L a now marks AwaitDis f e t s h =
-    inl (if_running L a marks (is_due a.t1 now) (Closes outcomes.NoAnswer a.counts) Stays (closes L a marks outcomes.NoAnswer a.counts s.1.is) t)
+    inl (if_running L a marks (is_due a.t1 now) (gives_up_dis a.counts) Stays (closes L a marks (if nat_eq a.counts.delivered 0 then outcomes.NoAnswer else outcomes.NoReply) a.counts s.1.is) t)
 timer_counted L a now marks (AwaitCfr dis dcs) f e t s h =
     inl (if_running L a marks (is_due a.t4 now) (tries_again dis dcs a.counts) Stays (tries L a marks dis dcs a.counts s.1.is) t)
 timer_counted L a now marks (AwaitMcf dis dcs) f e t s h = by (is_due a.t4 now) refl
@@ -493,8 +493,8 @@ timer_counted L a now marks (AwaitMcf dis dcs) f e t s h = by (is_due a.t4 now) 
     again true p d = inr (asks_expired L a now marks dis dcs (next_try a.counts) e p (record { count = o.count; asked = o.asked }))
     again false p d =
         let l : L = f (late h.0 now (ap (λ (x : Option ℕ). is_due x now) (sym h.1) ∙ d) (ap (λ (x : Option ℕ). pace_allows x now) (sym h.2) ∙ p)) in
-        inl (subst (λ (x : State). Running L x (command a.pages a.counts.page) a.counts.delivered marks) (sym e)
-        (inr (refl, (o.count, command_asks a.pages a.counts.page (elements_given marks), inl l))))
+        inl (subst (λ (x : State). Running L x (command (command_behind a.formats a.pages a.counts.page)) a.counts.delivered marks) (sym e)
+        (inr (refl, (o.count, command_asks (is_last_page a.pages a.counts.page) (turn_behind a.formats a.counts.page) (elements_given marks), inl l))))
 
     ends : (w : Bool) → pace_allows a.last now ≡ w → is_due a.t4 now ≡ true → IsTimed L (moved a (Closes outcomes.NoReply a.counts)) now marks
     ends true p d = inr (closes_expired L a now marks a.counts p o)
@@ -670,7 +670,7 @@ pub ticked_counted : (L : Type 0) (texts : Texts) (job : JobValue) (a : Calling)
     Counted L (ticked texts.writes job a now).core (marks_given (ticked texts.writes job a now).given marks)
 ticked_counted L texts job a now marks f g h s = paced_counted L texts job (timed a now) now marks (timed_good texts job a now marks g) (timed_counted L a now marks f h s)
 
-pub start_counted : (L : Type 0) (job : JobValue) (old : List Mark) (core : Calling) (now : ℕ) → Counted L (started core job.format (length job.pages) now) (Begins ∷ old)
+pub start_counted : (L : Type 0) (job : JobValue) (old : List Mark) (core : Calling) (now : ℕ) → Counted L (started core job now) (Begins ∷ old)
 start_counted L job old core now =
     (refl, record { is = record { count = refl; still = λ q. cc }; plan = signal_plan 1 [] (elements_given old) (omega arith) tt })
 
@@ -680,11 +680,12 @@ moved_timed a Stays h = h
 moved_timed a (Trains dis dcs c) h = tt
 moved_timed a (Sends dis dcs c) h = tt
 moved_timed a (AsksAgain c) h = tt
+moved_timed a (Turns format t1 c) h = tt
 moved_timed a (Closes x c) h = tt
 moved_timed a HangsUp h = tt
 
-pub comes_timed : (a : Calling) (piece : pieces.Piece) → Timed a → Timed (came a piece)
-comes_timed a piece h = moved_timed a (heard a piece) h
+pub comes_timed : (a : Calling) (piece : pieces.Piece) (now : ℕ) → Timed a → Timed (came a piece now)
+comes_timed a piece now h = moved_timed a (heard a piece now) h
 
 given_timed : (a : Calling) (now : ℕ) (rest : List Due) → Timed (after_giving a now rest)
 given_timed a now [] = by a.state

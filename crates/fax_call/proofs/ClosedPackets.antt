@@ -1,6 +1,7 @@
 -- Each packet that the calling side gives can be read, and one of V.21 data ends at a boundary.
 use Rattle.std.proofs.Common.{◌≡◌, ℕ, ◌+◌, ◌<◌, ◌≤◌, Bool, true, false, nat_le, List, [], ◌∷◌, length, take, drop, ◌-◌, Option, Some, None, Ok, refl, sym, ◌∙◌, ap, subst, arith, if◌then◌else◌, length-drop, length-take}
 use Rattle.std.proofs.lemmas.List.Elements.{All-from_recursion}
+use Rattle.fax_runcodes.specs.declared.format.Format.{Format}
 use Rattle.fax_frames.specs.declared.dcs.Dcs.{Dcs}
 use Rattle.fax_frames.specs.declared.rate.Rate.{Rate}
 use Rattle.fax_frames.specs.declared.rate.Rate.TheVariants.{V27At2400, V27At4800, V29At7200, V29At9600, V17At7200, V17At9600, V17At12000, V17At14400}
@@ -13,9 +14,9 @@ use Rattle.fax_ifp.specs.WrittenPackets.{IsWritableField, frame_fields, image_fi
 use Rattle.fax_ifp.specs.Schedules.{is_closed}
 use Rattle.fax_ifp.proofs.ReadBackLemmas.{indicators, messages_back}
 use Rattle.fax_jobs.specs.Jobs.{JobValue, IsJob}
-use Rattle.fax_call.specs.Replies.{Signals, Tells, Part, Due, One, Text, written, part_length, training_check, is_last_page, command}
+use Rattle.fax_call.specs.Replies.{Signals, Tells, Part, Due, One, Text, written, part_length, training_check, is_last_page, turn_behind, command_by, command}
 use Rattle.fax_call.specs.Replies as replies
-use Rattle.fax_call.specs.Table.{Move, Stays, Trains, Sends, AsksAgain, Closes, HangsUp}
+use Rattle.fax_call.specs.Table.{Move, Stays, Trains, Sends, AsksAgain, Turns, Closes, HangsUp}
 use Rattle.fax_call.specs.Calls.{Calling, started, moved, heard, timed, text_at, Taken, taken_text, taken, after_giving, given_first, Ticked, CallEvent, Comes, Ticks, after_events, ticked}
 use Rattle.fax_call.specs.Emission.{Mark, Begins, elements_given, marks_after}
 use Rattle.fax_call.specs.Given.{GivesClosedPackets}
@@ -80,19 +81,18 @@ parts_closed rate (One (Signals c) ∷ due) a = absurd a
 parts_closed rate (One (Tells f) ∷ due) a = absurd a
 parts_closed rate (Text p d f ∷ due) a = absurd a
 
-command_closed : (pages page : ℕ) → AllClosed (command pages page)
-command_closed pages page = by (is_last_page pages page)
-  where
-    by : (end : Bool) → AllClosed (One (Signals 3) ∷ One (Tells (written_plain (if end then plain.Eop else plain.Mps) true)) ∷ [])
-    by true = (signal_closed 3 (omega arith), (frame_closed (written_plain plain.Eop true) (omega arith) (omega arith), tt))
-    by false = (signal_closed 3 (omega arith), (frame_closed (written_plain plain.Mps true) (omega arith) (omega arith), tt))
+command_closed : (end : Bool) (turn : Option Format) → AllClosed (command (command_by end turn))
+command_closed true turn = (signal_closed 3 (omega arith), (frame_closed (written_plain plain.Eop true) (omega arith) (omega arith), tt))
+command_closed false (Some format) = (signal_closed 3 (omega arith), (frame_closed (written_plain plain.Eom true) (omega arith) (omega arith), tt))
+command_closed false None = (signal_closed 3 (omega arith), (frame_closed (written_plain plain.Mps true) (omega arith) (omega arith), tt))
 
 moved_closed : (a : Calling) (m : Move) → AllClosed a.waiting → AllClosed (moved a m).waiting
 moved_closed a Stays h = h
 moved_closed a (Trains dis dcs c) h =
     (signal_closed 3 (omega arith), (frame_closed (written_dcs dcs) (omega arith) (omega arith), (signal_closed (training_of dcs.rate true) (code_fits dcs.rate true), parts_closed dcs.rate (training_check dcs) (check_parts dcs))))
-moved_closed a (Sends dis dcs c) h = (signal_closed (training_of dcs.rate false) (code_fits dcs.rate false), (tt, command_closed a.pages c.page))
-moved_closed a (AsksAgain c) h = command_closed a.pages c.page
+moved_closed a (Sends dis dcs c) h = (signal_closed (training_of dcs.rate false) (code_fits dcs.rate false), (tt, command_closed (is_last_page a.pages c.page) (turn_behind a.formats c.page)))
+moved_closed a (AsksAgain c) h = command_closed (is_last_page a.pages c.page) (turn_behind a.formats c.page)
+moved_closed a (Turns format t1 c) h = tt
 moved_closed a (Closes outcome c) h = (signal_closed 3 (omega arith), (frame_closed (written_plain plain.Dcn true) (omega arith) (omega arith), tt))
 moved_closed a HangsUp h = tt
 
@@ -169,9 +169,9 @@ tick_closed texts job a now marks g h =
 
 events_closed : (texts : Texts) (job : JobValue) (a : Calling) (events : List CallEvent) → IsJob job → Good texts job a (Begins ∷ []) → AllClosed a.waiting → AllClosed (after_events texts.writes job a events).waiting
 events_closed texts job a [] is g h = h
-events_closed texts job a (Comes piece ∷ before) is g h =
+events_closed texts job a (Comes piece now ∷ before) is g h =
     let c : Calling = after_events texts.writes job a before in
-    moved_closed c (heard c piece) (events_closed texts job a before is g h)
+    moved_closed c (heard c piece now) (events_closed texts job a before is g h)
 events_closed texts job a (Ticks now ∷ before) is g h =
     (tick_closed texts job (after_events texts.writes job a before) now (marks_after texts.writes job [] a before) (events_good texts job [] a before is g) (events_closed texts job a before is g h)).core
 
@@ -182,7 +182,7 @@ if_some (Some p) packet e h = let same : p ≡ packet = cc in subst Closed same 
 pub gives_closed_packets : GivesClosedPackets
 gives_closed_packets writes job core start now events packet w is given =
     let texts : Texts = record { writes = writes; are = w } in
-    let a : Calling = started core job.format (length job.pages) start in
+    let a : Calling = started core job start in
     let g : Good texts job a (Begins ∷ []) = start_good texts job [] core start is in
     if_some (ticked writes job (after_events writes job a events) now).given packet given
     (tick_closed texts job (after_events writes job a events) now (marks_after writes job [] a events) (events_good texts job [] a events is g)

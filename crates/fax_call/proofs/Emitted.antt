@@ -25,18 +25,19 @@ use Rattle.fax_jobs.specs.declared.outcome.Outcome.TheVariants as outcomes
 use Rattle.fax_jobs.specs.Jobs.{JobValue, IsJob}
 use Rattle.fax_call.specs.declared.state.State.{State}
 use Rattle.fax_call.specs.declared.state.State.TheVariants.{Idle, AwaitDis, AwaitCfr, AwaitMcf, Closing}
-use Rattle.fax_call.specs.Replies.{Packet, Part, Due, One, Text, part_length, is_last_page, command, goodbye, waits}
-use Rattle.fax_call.specs.Table.{Counts, Move, Stays, Trains, Sends, AsksAgain, Closes, HangsUp, first_try, next_try, next_step, next_page, one_delivered, one_refused, by_choice, tries_again, asks_again, after_refusal, on_frame, on_timers}
-use Rattle.fax_call.specs.Calls.{Calling, started, moved, came, timed, text_at, Taken, taken_text, taken, state_when_given, after_giving, given_first, paced, Ticked, CallEvent, Comes, Ticks, after_events}
+use Rattle.fax_call.specs.Replies.{Packet, Part, Due, One, Text, part_length, is_last_page, turn_behind, command_behind, command, goodbye, waits}
+use Rattle.fax_call.specs.Table.{Counts, Move, Stays, Trains, Sends, AsksAgain, Turns, Closes, HangsUp, first_try, next_try, next_step, next_page, one_delivered, one_refused, by_choice, tries_again, asks_again, after_refusal, turns_or, gives_up_dis, on_frame, on_timers}
+use Rattle.fax_call.proofs.Due.{DueAt, MoveDue, IsDue, moved_due, next_due, frame_due, timers_due, after_due, start_due}
+use Rattle.fax_call.specs.Calls.{Calling, formats_of, started, moved, came, timed, text_at, Taken, taken_text, taken, state_when_given, after_giving, given_first, paced, Ticked, CallEvent, Comes, Ticks, after_events}
 use Rattle.fax_call.specs.Emission.{Emission, SinceDcs, since_dcs, emitted_with, emitted_at, Mark, Gave, Begins, gave_all, elements_given, acknowledged_by, marks_heard, marks_given, marks_after, is_command, Reply, Asked, Unasked, Answered, reply_heard, replied, IsAnswered, EmitsBy, Emits, EmitsThePages}
 use Rattle.fax_call.proofs.PacketsBack.{elements_in, part_back, read_dcs}
-use Rattle.fax_call.proofs.Waiting.{Texts, Quiet, pushed_given, quiet_emits, quiet_answered, quiet_replied, TextReady, AfterText, SafeTo, PostOf, signal_safe, frame_safe, high_speed, told_part, part_some, training_safe, Keeps, signal_keeps, training_keeps, command_safe, no_text, Asks, command_asks, image_asks, image_safe, text_goes_on, emits_text, means_page}
+use Rattle.fax_call.proofs.Waiting.{Texts, Quiet, pushed_given, quiet_emits, quiet_answered, quiet_replied, TextReady, AfterText, SafeTo, PostOf, signal_safe, frame_safe, high_speed, told_part, part_some, training_safe, Keeps, signal_keeps, training_keeps, command_safe, no_text, Asks, command_asks, image_asks, image_safe, text_goes_on, emits_text, means_page, IsFormatOf}
 
 -- The core in a call.
-abbrev pub HasFormat : JobValue → State → Type 0
-HasFormat job (AwaitCfr dis dcs) = format_of dcs ≡ job.format
-HasFormat job (AwaitMcf dis dcs) = format_of dcs ≡ job.format
-HasFormat job state = Unit {0}
+abbrev pub HasFormat : JobValue → ℕ → State → Type 0
+HasFormat job page (AwaitCfr dis dcs) = IsFormatOf job page dcs
+HasFormat job page (AwaitMcf dis dcs) = IsFormatOf job page dcs
+HasFormat job page state = Unit {0}
 
 -- where a command waits or was given, the page due is the one emitted last
 abbrev pub IsSent : Option ℕ → ℕ → State → List Due → Type 0
@@ -61,9 +62,9 @@ pub record Kept (texts : Texts) (job : JobValue) (a : Calling) (marks : List Mar
   pub emits : Emits job marks last
   pub safe : SafeTo texts job a.counts.page (PostOf a.state) a.waiting (elements_given marks)
   pub within : a.counts.page < length job.pages
-  pub format : HasFormat job a.state
+  pub format : HasFormat job a.counts.page a.state
   pub sent : IsSent last a.counts.page a.state a.waiting
-  pub same_format : a.format ≡ job.format
+  pub due : IsDue (formats_of job) a
   pub same_pages : a.pages ≡ length job.pages
 
 pub record Good (texts : Texts) (job : JobValue) (a : Calling) (marks : List Mark) : Type 0 where
@@ -72,12 +73,12 @@ pub record Good (texts : Texts) (job : JobValue) (a : Calling) (marks : List Mar
   pub turn : InTurn last (replied marks) a.counts.page a.state a.waiting (elements_given marks)
 
 -- what giving the first packet that waits leaves
-record Gives (texts : Texts) (job : JobValue) (page : ℕ) (state : State) (marks : List Mark) (t : Taken) : Type 0 where
-  last : Option ℕ
-  emits : Emits job (gave_all (elements_in t.packet) marks) last
-  safe : SafeTo texts job page (PostOf state) t.rest (elements_given (gave_all (elements_in t.packet) marks))
-  turn : InTurn last (replied (gave_all (elements_in t.packet) marks)) page state t.rest (elements_given (gave_all (elements_in t.packet) marks))
-  sent : IsSent last page state t.rest
+pub record Gives (texts : Texts) (job : JobValue) (page : ℕ) (state : State) (marks : List Mark) (t : Taken) : Type 0 where
+  pub last : Option ℕ
+  pub emits : Emits job (gave_all (elements_in t.packet) marks) last
+  pub safe : SafeTo texts job page (PostOf state) t.rest (elements_given (gave_all (elements_in t.packet) marks))
+  pub turn : InTurn last (replied (gave_all (elements_in t.packet) marks)) page state t.rest (elements_given (gave_all (elements_in t.packet) marks))
+  pub sent : IsSent last page state t.rest
 
 -- the turn, when a packet is given
 one_turn : (last : Option ℕ) (page : ℕ) (state : State) (p : Packet) (due : List Due) (marks : List Mark) → Quiet (elements_given marks) (elements_in p) →
@@ -190,7 +191,7 @@ gives_part texts job page state marks dcs from due last e s t h =
     ) in
     record { last = last; emits = x.0; safe = x.1; turn = x.2; sent = sent_text last page state page dcs (from + part_length dcs) due }
 
-gives_end : (texts : Texts) (job : JobValue) (page : ℕ) (state : State) (marks : List Mark) (dcs : Dcs) (from : ℕ) (due : List Due) (last : Option ℕ) → IsJob job → page < length job.pages →
+pub gives_end : (texts : Texts) (job : JobValue) (page : ℕ) (state : State) (marks : List Mark) (dcs : Dcs) (from : ℕ) (due : List Due) (last : Option ℕ) → IsJob job → page < length job.pages →
     Emits job marks last → SafeTo texts job page (PostOf state) (Text page dcs from ∷ due) (elements_given marks) → InTurn last (replied marks) page state (Text page dcs from ∷ due) (elements_given marks) →
     length (drop from (text_at texts.writes job page dcs)) ≤ part_length dcs →
     Gives texts job page state marks (record { packet = Part (kind_of dcs.rate) true (drop from (text_at texts.writes job page dcs)); rest = due })
@@ -213,6 +214,14 @@ gives_end texts job page state marks dcs from due last is within e s turn h =
       end_turn last (replied marks) (replied (Gave f ∷ marks)) page state page dcs from due before (f ∷ before) turn,
     ) in
     record { last = Some page; emits = x.0; safe = x.1; turn = x.2; sent = sent_page page state due }
+
+-- the last part ends the image of the page due
+pub end_emits : (texts : Texts) (job : JobValue) (page : ℕ) (state : State) (marks : List Mark) (dcs : Dcs) (from : ℕ) (due : List Due) (last : Option ℕ) → IsJob job → page < length job.pages →
+    Emits job marks last → SafeTo texts job page (PostOf state) (Text page dcs from ∷ due) (elements_given marks) → InTurn last (replied marks) page state (Text page dcs from ∷ due) (elements_given marks) →
+    length (drop from (text_at texts.writes job page dcs)) ≤ part_length dcs →
+    Emits job (gave_all (elements_in (Part (kind_of dcs.rate) true (drop from (text_at texts.writes job page dcs)))) marks) (Some page)
+unfolding gives_end
+end_emits texts job page state marks dcs from due last is within e s turn h = (gives_end texts job page state marks dcs from due last is within e s turn h).emits
 
 pub le_if : (m n : ℕ) → nat_le m n ≡ true → m ≤ n
 le_if m n h = grind (arith)
@@ -247,12 +256,12 @@ post_when_given (AwaitCfr dis dcs) before p = p
 post_when_given (AwaitMcf dis dcs) before p = p
 post_when_given (Closing o) before p = tt
 
-format_when_given : (job : JobValue) (state : State) → HasFormat job state → HasFormat job (state_when_given state)
-format_when_given job Idle p = tt
-format_when_given job AwaitDis p = tt
-format_when_given job (AwaitCfr dis dcs) p = p
-format_when_given job (AwaitMcf dis dcs) p = p
-format_when_given job (Closing o) p = tt
+format_when_given : (job : JobValue) (page : ℕ) (state : State) → HasFormat job page state → HasFormat job page (state_when_given state)
+format_when_given job page Idle p = tt
+format_when_given job page AwaitDis p = tt
+format_when_given job page (AwaitCfr dis dcs) p = p
+format_when_given job page (AwaitMcf dis dcs) p = p
+format_when_given job page (Closing o) p = tt
 
 sent_when_given : (last : Option ℕ) (page : ℕ) (state : State) → IsSent last page state [] → IsSent last page (state_when_given state) []
 sent_when_given last page Idle p = tt
@@ -261,18 +270,18 @@ sent_when_given last page (AwaitCfr dis dcs) p = tt
 sent_when_given last page (AwaitMcf dis dcs) p = p
 sent_when_given last page (Closing o) p = tt
 
-after_good : (texts : Texts) (job : JobValue) (a : Calling) (now : ℕ) (marks : List Mark) (p : Packet) (rest : List Due) → IsJob job → a.counts.page < length job.pages → HasFormat job a.state → a.format ≡ job.format → a.pages ≡ length job.pages →
+after_good : (texts : Texts) (job : JobValue) (a : Calling) (now : ℕ) (marks : List Mark) (p : Packet) (rest : List Due) → IsJob job → a.counts.page < length job.pages → HasFormat job a.counts.page a.state → IsDue (formats_of job) a → a.pages ≡ length job.pages →
     Gives texts job a.counts.page a.state marks (record { packet = p; rest = rest }) → Good texts job (after_giving a now rest) (gave_all (elements_in p) marks)
 after_good texts job a now marks p [] is w f s q g =
     record {
       last = g.last;
-      kept = record { is_job = is; emits = g.emits; safe = post_when_given a.state (elements_given (gave_all (elements_in p) marks)) g.safe; within = w; format = format_when_given job a.state f; sent = sent_when_given g.last a.counts.page a.state g.sent; same_format = s; same_pages = q };
+      kept = record { is_job = is; emits = g.emits; safe = post_when_given a.state (elements_given (gave_all (elements_in p) marks)) g.safe; within = w; format = format_when_given job a.counts.page a.state f; sent = sent_when_given g.last a.counts.page a.state g.sent; due = after_due (formats_of job) a now [] s; same_pages = q };
       turn = turn_when_given g.last (replied (gave_all (elements_in p) marks)) a.counts.page a.state (elements_given (gave_all (elements_in p) marks)) g.turn;
     }
 after_good texts job a now marks p (d ∷ rest) is w f s q g =
     record {
       last = g.last;
-      kept = record { is_job = is; emits = g.emits; safe = g.safe; within = w; format = f; sent = g.sent; same_format = s; same_pages = q };
+      kept = record { is_job = is; emits = g.emits; safe = g.safe; within = w; format = f; sent = g.sent; due = after_due (formats_of job) a now (d ∷ rest) s; same_pages = q };
       turn = g.turn;
     }
 
@@ -282,7 +291,7 @@ first_good texts job a now marks [] is h g = g
 first_good texts job a now marks (d ∷ due) is h g =
     let t : Taken = taken texts.writes job d due in
     let k : Kept texts job a marks g.last = g.kept in
-    after_good texts job a now marks t.packet t.rest is k.within k.format k.same_format k.same_pages
+    after_good texts job a now marks t.packet t.rest is k.within k.format k.due k.same_pages
     (gives_first texts job a.counts.page a.state marks d due g.last is k.within k.emits
     (subst (λ (w : List Due). SafeTo texts job a.counts.page (PostOf a.state) w (elements_given marks)) h k.safe)
     (subst (λ (w : List Due). InTurn g.last (replied marks) a.counts.page a.state w (elements_given marks)) h g.turn)
@@ -307,8 +316,9 @@ record PageOk (job : JobValue) (last : Option ℕ) (r : Reply) (c : Counts) : Ty
 
 abbrev MoveOk : Texts → JobValue → Option ℕ → Reply → ℕ → List elements.Element → State → Move → Type 0
 MoveOk texts job last r page before state Stays = InTurn last r page state [] before
-MoveOk texts job last r page before state (Trains dis dcs c) = (format_of dcs ≡ job.format) × PageOk job last r c
-MoveOk texts job last r page before state (Sends dis dcs c) = (format_of dcs ≡ job.format) × PageOk job last r c × AfterText dcs before
+MoveOk texts job last r page before state (Trains dis dcs c) = IsFormatOf job c.page dcs × PageOk job last r c
+MoveOk texts job last r page before state (Sends dis dcs c) = IsFormatOf job c.page dcs × PageOk job last r c × AfterText dcs before
+MoveOk texts job last r page before state (Turns format t1 c) = PageOk job last r c
 MoveOk texts job last r page before state (AsksAgain c) = AskOk last page before state c
 MoveOk texts job last r page before state (Closes o c) = c.page < length job.pages
 MoveOk texts job last r page before state HangsUp = Unit {0}
@@ -317,55 +327,61 @@ goodbye_safe : (texts : Texts) (job : JobValue) (page : ℕ) (before : List elem
 goodbye_safe texts job page before = frame_safe texts job page (λ e. Unit {0}) (written_plain plain.Dcn true) [] before (omega arith) (omega arith) tt
 
 asks_good : (texts : Texts) (job : JobValue) (a : Calling) (marks : List Mark) (state : State) (c : Counts) (last : Option ℕ) → a.state ≡ state → Kept texts job a marks last →
-    AskOk last a.counts.page (elements_given marks) state c →
-    Good texts job (record { state = state; format = a.format; pages = a.pages; counts = c; waiting = command a.pages c.page; t1 = None; t4 = None; last = a.last; outcome = a.outcome }) marks
-asks_good texts job a marks Idle c last h g k = absurd k
-asks_good texts job a marks AwaitDis c last h g k = absurd k
-asks_good texts job a marks (AwaitCfr dis dcs) c last h g k = absurd k
-asks_good texts job a marks (Closing o) c last h g k = absurd k
-asks_good texts job a marks (AwaitMcf dis dcs) c last h g k =
+    AskOk last a.counts.page (elements_given marks) state c → DueAt (formats_of job) c.page a.format →
+    Good texts job (record { state = state; format = a.format; formats = a.formats; pages = a.pages; counts = c; waiting = command (command_behind a.formats a.pages c.page); t1 = None; t4 = None; last = a.last; outcome = a.outcome }) marks
+asks_good texts job a marks Idle c last h g k d = absurd k
+asks_good texts job a marks AwaitDis c last h g k d = absurd k
+asks_good texts job a marks (AwaitCfr dis dcs) c last h g k d = absurd k
+asks_good texts job a marks (Closing o) c last h g k d = absurd k
+asks_good texts job a marks (AwaitMcf dis dcs) c last h g k d =
     record {
       last = last;
       kept = record {
         is_job = g.is_job;
         emits = g.emits;
-        safe = command_safe texts job c.page a.pages dcs (elements_given marks) k.1;
+        safe = command_safe texts job c.page (is_last_page a.pages c.page) (turn_behind a.formats c.page) dcs (elements_given marks) k.1;
         within = subst (λ (n : ℕ). n < length job.pages) (sym k.0) g.within;
-        format = subst (HasFormat job) h g.format;
+        format = subst (λ (n : ℕ). IsFormatOf job n dcs) (sym k.0) (subst (HasFormat job a.counts.page) h g.format);
         sent = λ e. k.2 ∙ ap (λ (n : ℕ). Some n) (sym k.0);
-        same_format = g.same_format;
+        due = record { formats = g.due.formats; due = d };
         same_pages = g.same_pages;
       };
-      turn = (command_asks a.pages c.page (elements_given marks), λ e. cc);
+      turn = (command_asks (is_last_page a.pages c.page) (turn_behind a.formats c.page) (elements_given marks), λ e. cc);
     }
 
 moved_good : (texts : Texts) (job : JobValue) (a : Calling) (marks : List Mark) (m : Move) (last : Option ℕ) → Kept texts job a marks last → a.waiting ≡ [] →
-    MoveOk texts job last (replied marks) a.counts.page (elements_given marks) a.state m → Good texts job (moved a m) marks
-moved_good texts job a marks Stays last g h k =
+    MoveOk texts job last (replied marks) a.counts.page (elements_given marks) a.state m → MoveDue (formats_of job) a.format m → Good texts job (moved a m) marks
+moved_good texts job a marks Stays last g h k d =
     record { last = last; kept = g; turn = subst (λ (w : List Due). InTurn last (replied marks) a.counts.page a.state w (elements_given marks)) (sym h) k }
-moved_good texts job a marks (Trains dis dcs c) last g h k =
+moved_good texts job a marks (Trains dis dcs c) last g h k d =
     record {
       last = last;
-      kept = record { is_job = g.is_job; emits = g.emits; safe = training_safe texts job c.page dcs (elements_given marks); within = k.1.within; format = k.0; sent = tt; same_format = g.same_format; same_pages = g.same_pages };
+      kept = record { is_job = g.is_job; emits = g.emits; safe = training_safe texts job c.page dcs (elements_given marks); within = k.1.within; format = k.0; sent = tt; due = moved_due (formats_of job) a (Trains dis dcs c) g.due d; same_pages = g.same_pages };
       turn = (k.1.answered, training_keeps dcs (elements_given marks));
     }
-moved_good texts job a marks (Sends dis dcs c) last g h k =
+moved_good texts job a marks (Sends dis dcs c) last g h k d =
     record {
       last = last;
-      kept = record { is_job = g.is_job; emits = g.emits; safe = image_safe texts job c.page a.pages dcs (elements_given marks) g.is_job k.2 k.1.within k.0; within = k.1.within; format = k.0; sent = λ e. cc; same_format = g.same_format; same_pages = g.same_pages };
-      turn = (image_asks a.pages c.page dcs (elements_given marks), λ e. k.1.answered);
+      kept = record { is_job = g.is_job; emits = g.emits; safe = image_safe texts job c.page (is_last_page a.pages c.page) (turn_behind a.formats c.page) dcs (elements_given marks) g.is_job k.2 k.1.within k.0; within = k.1.within; format = k.0; sent = λ e. cc; due = moved_due (formats_of job) a (Sends dis dcs c) g.due d; same_pages = g.same_pages };
+      turn = (image_asks (is_last_page a.pages c.page) (turn_behind a.formats c.page) c.page dcs (elements_given marks), λ e. k.1.answered);
     }
-moved_good texts job a marks (AsksAgain c) last g h k = asks_good texts job a marks a.state c last refl g k
-moved_good texts job a marks (Closes o c) last g h k =
+moved_good texts job a marks (AsksAgain c) last g h k d = asks_good texts job a marks a.state c last refl g k d
+moved_good texts job a marks (Turns format t1 c) last g h k d =
     record {
       last = last;
-      kept = record { is_job = g.is_job; emits = g.emits; safe = goodbye_safe texts job c.page (elements_given marks); within = k; format = tt; sent = tt; same_format = g.same_format; same_pages = g.same_pages };
+      kept = record { is_job = g.is_job; emits = g.emits; safe = tt; within = k.within; format = tt; sent = tt; due = moved_due (formats_of job) a (Turns format t1 c) g.due d; same_pages = g.same_pages };
+      turn = (k.answered, tt);
+    }
+moved_good texts job a marks (Closes o c) last g h k d =
+    record {
+      last = last;
+      kept = record { is_job = g.is_job; emits = g.emits; safe = goodbye_safe texts job c.page (elements_given marks); within = k; format = tt; sent = tt; due = moved_due (formats_of job) a (Closes o c) g.due d; same_pages = g.same_pages };
       turn = refl;
     }
-moved_good texts job a marks HangsUp last g h k =
+moved_good texts job a marks HangsUp last g h k d =
     record {
       last = last;
-      kept = record { is_job = g.is_job; emits = g.emits; safe = tt; within = g.within; format = tt; sent = tt; same_format = g.same_format; same_pages = g.same_pages };
+      kept = record { is_job = g.is_job; emits = g.emits; safe = tt; within = g.within; format = tt; sent = tt; due = moved_due (formats_of job) a HangsUp g.due d; same_pages = g.same_pages };
       turn = refl;
     }
 
@@ -396,7 +412,7 @@ choice_format dis format step dcs h =
     by false false false r f e = f e
 
 by_choice_ok : (texts : Texts) (job : JobValue) (last : Option ℕ) (r : Reply) (page : ℕ) (before : List elements.Element) (state : State) (dis : Dis) (c : Counts) (chosen : Result Dcs Refusal) →
-    ((dcs : Dcs) → chosen ≡ Ok dcs → format_of dcs ≡ job.format) → PageOk job last r c → MoveOk texts job last r page before state (by_choice dis c chosen)
+    ((dcs : Dcs) → chosen ≡ Ok dcs → IsFormatOf job c.page dcs) → PageOk job last r c → MoveOk texts job last r page before state (by_choice dis c chosen)
 by_choice_ok texts job last r page before state dis c (Ok dcs) f k = (f dcs refl, k)
 by_choice_ok texts job last r page before state dis c (Err e) f k = k.within
 
@@ -458,60 +474,68 @@ heard_turn frame last r page (AwaitMcf dis dcs) d due before t = (t.0, λ e. by_
 -- what is known where no packet waits
 record Resting (texts : Texts) (job : JobValue) (last : Option ℕ) (before : List elements.Element) (state : State) (c : Counts) : Type 0 where
   post : PostOf state before
-  format : HasFormat job state
+  format : HasFormat job c.page state
   sent : IsSent last c.page state []
   within : c.page < length job.pages
 
 tries_ok : (texts : Texts) (job : JobValue) (last : Option ℕ) (r : Reply) (page : ℕ) (before : List elements.Element) (state : State) (dis : Dis) (dcs : Dcs) (c : Counts) →
-    format_of dcs ≡ job.format → PageOk job last r c → MoveOk texts job last r page before state (tries_again dis dcs c)
+    IsFormatOf job c.page dcs → PageOk job last r c → MoveOk texts job last r page before state (tries_again dis dcs c)
 tries_ok texts job last r page before state dis dcs c f k =
     if_ok texts job last r page before state (nat_lt c.tries 3) (Trains dis dcs (next_try c)) (Closes outcomes.NoReply c) (f, record { within = k.within; answered = k.answered }) k.within
 
 refusal_ok : (texts : Texts) (job : JobValue) (last : Option ℕ) (r : Reply) (page : ℕ) (before : List elements.Element) (state : State) (dis : Dis) (dcs : Dcs) (c : Counts) →
-    format_of dcs ≡ job.format → PageOk job last r c → MoveOk texts job last r page before state (after_refusal dis dcs c)
+    IsFormatOf job c.page dcs → PageOk job last r c → MoveOk texts job last r page before state (after_refusal dis dcs c)
 refusal_ok texts job last r page before state dis dcs c f k =
     if_ok texts job last r page before state (nat_lt c.refused 2) (Trains dis dcs (one_refused c)) (Closes outcomes.PageRefused c) (f, record { within = k.within; answered = k.answered }) k.within
 
 chosen_ok : (texts : Texts) (job : JobValue) (last : Option ℕ) (r : Reply) (page : ℕ) (before : List elements.Element) (state : State) (format : Format) (dis : Dis) (step : ℕ) (c : Counts) →
-    format ≡ job.format → PageOk job last r c → MoveOk texts job last r page before state (by_choice dis c (choice dis format step))
+    DueAt (formats_of job) c.page format → PageOk job last r c → MoveOk texts job last r page before state (by_choice dis c (choice dis format step))
 chosen_ok texts job last r page before state format dis step c f k =
-    by_choice_ok texts job last r page before state dis c (choice dis format step) (λ dcs e. choice_format dis format step dcs e ∙ f) k
+    by_choice_ok texts job last r page before state dis c (choice dis format step) (λ dcs e. subst (DueAt (formats_of job) c.page) (sym (choice_format dis format step dcs e)) f) k
+
+-- behind EOM the next exchange begins
+turns_ok : (texts : Texts) (job : JobValue) (last : Option ℕ) (r : Reply) (page : ℕ) (before : List elements.Element) (state : State) (now : ℕ) (c : Counts) (m : Move) (t : Option Format) →
+    turn_behind (formats_of job) c.page ≡ t → PageOk job last r (next_page c) → (turn_behind (formats_of job) c.page ≡ None → MoveOk texts job last r page before state m) → MoveOk texts job last r page before state (turns_or now t c m)
+turns_ok texts job last r page before state now c m (Some format) e k f = record { within = k.within; answered = k.answered }
+turns_ok texts job last r page before state now c m None e k f = f e
 
 -- in AwaitMcf the reply is Asked, so that MCF, RTP and RTN answer
-frame_ok : (texts : Texts) (job : JobValue) (pages : ℕ) (format : Format) (last : Option ℕ) (r : Reply) (before : List elements.Element) (state : State) (c : Counts) (frame : Option Frame) →
-    pages ≡ length job.pages → format ≡ job.format → Resting texts job last before state c → InTurn last r c.page state [] before →
-    MoveOk texts job last (reply_by frame r) c.page before state (on_frame format pages state c frame)
-frame_ok texts job pages format last r before AwaitDis c (Some (frames.Dis dis)) h f s t =
+frame_ok : (texts : Texts) (job : JobValue) (now : ℕ) (pages : ℕ) (format : Format) (last : Option ℕ) (r : Reply) (before : List elements.Element) (state : State) (c : Counts) (frame : Option Frame) →
+    pages ≡ length job.pages → DueAt (formats_of job) c.page format → Resting texts job last before state c → InTurn last r c.page state [] before →
+    MoveOk texts job last (reply_by frame r) c.page before state (on_frame now format (turn_behind (formats_of job) c.page) pages state c frame)
+frame_ok texts job now pages format last r before AwaitDis c (Some (frames.Dis dis)) h f s t =
     chosen_ok texts job last r c.page before AwaitDis format dis c.step (first_try c) f (record { within = s.within; answered = t.0 })
-frame_ok texts job pages format last r before AwaitDis c (Some frames.Dcn) h f s t = tt
-frame_ok texts job pages format last r before AwaitDis c frame h f s t = (by_answered frame last r c.page t.0, tt)
-frame_ok texts job pages format last r before (AwaitCfr dis dcs) c (Some frames.Cfr) h f s t = (s.format, record { within = s.within; answered = t.0 }, s.post)
-frame_ok texts job pages format last r before (AwaitCfr dis dcs) c (Some frames.Ftt) h f s t =
+frame_ok texts job now pages format last r before AwaitDis c (Some frames.Dcn) h f s t = tt
+frame_ok texts job now pages format last r before AwaitDis c frame h f s t = (by_answered frame last r c.page t.0, tt)
+frame_ok texts job now pages format last r before (AwaitCfr dis dcs) c (Some frames.Cfr) h f s t = (s.format, record { within = s.within; answered = t.0 }, s.post)
+frame_ok texts job now pages format last r before (AwaitCfr dis dcs) c (Some frames.Ftt) h f s t =
     chosen_ok texts job last r c.page before (AwaitCfr dis dcs) format dis (c.step + 1) (next_step c) f (record { within = s.within; answered = t.0 })
-frame_ok texts job pages format last r before (AwaitCfr dis dcs) c (Some (frames.Dis other)) h f s t =
+frame_ok texts job now pages format last r before (AwaitCfr dis dcs) c (Some (frames.Dis other)) h f s t =
     tries_ok texts job last r c.page before (AwaitCfr dis dcs) dis dcs c s.format (record { within = s.within; answered = t.0 })
-frame_ok texts job pages format last r before (AwaitCfr dis dcs) c (Some frames.Dcn) h f s t = tt
-frame_ok texts job pages format last r before (AwaitCfr dis dcs) c frame h f s t = (by_answered frame last r c.page t.0, tt)
-frame_ok texts job pages format last r before (AwaitMcf dis dcs) c (Some frames.Mcf) h f s t =
-    after_ack texts job pages last (reply_heard true r) c.page before (AwaitMcf dis dcs) c (Sends dis dcs (next_page c)) h s.within (s.sent refl) (ap (reply_heard true) t) (λ k. (s.format, k, s.post))
-frame_ok texts job pages format last r before (AwaitMcf dis dcs) c (Some frames.Rtp) h f s t =
-    after_ack texts job pages last (reply_heard true r) c.page before (AwaitMcf dis dcs) c (Trains dis dcs (next_page c)) h s.within (s.sent refl) (ap (reply_heard true) t) (λ k. (s.format, k))
-frame_ok texts job pages format last r before (AwaitMcf dis dcs) c (Some frames.Rtn) h f s t =
+frame_ok texts job now pages format last r before (AwaitCfr dis dcs) c (Some frames.Dcn) h f s t = tt
+frame_ok texts job now pages format last r before (AwaitCfr dis dcs) c frame h f s t = (by_answered frame last r c.page t.0, tt)
+frame_ok texts job now pages format last r before (AwaitMcf dis dcs) c (Some frames.Mcf) h f s t =
+    after_ack texts job pages last (reply_heard true r) c.page before (AwaitMcf dis dcs) c (turns_or now (turn_behind (formats_of job) c.page) c (Sends dis dcs (next_page c))) h s.within (s.sent refl) (ap (reply_heard true) t)
+    (λ k. turns_ok texts job last (reply_heard true r) c.page before (AwaitMcf dis dcs) now c (Sends dis dcs (next_page c)) (turn_behind (formats_of job) c.page) refl k (λ e. (next_due (formats_of job) (format_of dcs) c.page s.format e, k, s.post)))
+frame_ok texts job now pages format last r before (AwaitMcf dis dcs) c (Some frames.Rtp) h f s t =
+    after_ack texts job pages last (reply_heard true r) c.page before (AwaitMcf dis dcs) c (turns_or now (turn_behind (formats_of job) c.page) c (Trains dis dcs (next_page c))) h s.within (s.sent refl) (ap (reply_heard true) t)
+    (λ k. turns_ok texts job last (reply_heard true r) c.page before (AwaitMcf dis dcs) now c (Trains dis dcs (next_page c)) (turn_behind (formats_of job) c.page) refl k (λ e. (next_due (formats_of job) (format_of dcs) c.page s.format e, k)))
+frame_ok texts job now pages format last r before (AwaitMcf dis dcs) c (Some frames.Rtn) h f s t =
     refusal_ok texts job last (reply_heard false r) c.page before (AwaitMcf dis dcs) dis dcs c s.format
     (record {
       within = s.within;
       answered = subst (λ (o : Option ℕ). IsAnswered o (reply_heard false r) c.page) (sym (s.sent refl)) (subst (λ (x : Reply). IsAnswered (Some c.page) (reply_heard false x) c.page) (sym t) refl);
     })
-frame_ok texts job pages format last r before (AwaitMcf dis dcs) c (Some frames.Dcn) h f s t = tt
-frame_ok texts job pages format last r before (AwaitMcf dis dcs) c frame h f s t = t
-frame_ok texts job pages format last r before state c frame h f s t = refl
+frame_ok texts job now pages format last r before (AwaitMcf dis dcs) c (Some frames.Dcn) h f s t = tt
+frame_ok texts job now pages format last r before (AwaitMcf dis dcs) c frame h f s t = t
+frame_ok texts job now pages format last r before state c frame h f s t = refl
 
 timer_ok : (texts : Texts) (job : JobValue) (t1_due t4_due : Bool) (last : Option ℕ) (r : Reply) (before : List elements.Element) (state : State) (c : Counts) →
     Resting texts job last before state c → InTurn last r c.page state [] before → MoveOk texts job last r c.page before state (on_timers t1_due t4_due state c)
 timer_ok texts job t1_due t4_due last r before Idle c s t = t
 timer_ok texts job t1_due t4_due last r before (Closing o) c s t = t
 timer_ok texts job t1_due t4_due last r before AwaitDis c s t =
-    if_ok texts job last r c.page before AwaitDis t1_due (Closes outcomes.NoAnswer c) Stays s.within t
+    if_ok texts job last r c.page before AwaitDis t1_due (gives_up_dis c) Stays s.within t
 timer_ok texts job t1_due t4_due last r before (AwaitCfr dis dcs) c s t =
     if_ok texts job last r c.page before (AwaitCfr dis dcs) t4_due (tries_again dis dcs c) Stays
     (tries_ok texts job last r c.page before (AwaitCfr dis dcs) dis dcs c s.format (record { within = s.within; answered = t.0 })) t
@@ -537,6 +561,7 @@ timed_good texts job a now marks g = by a.waiting refl
         moved_good texts job a marks (on_timers (is_due a.t1 now) (is_due a.t4 now) a.state a.counts) g.last g.kept h
         (timer_ok texts job (is_due a.t1 now) (is_due a.t4 now) g.last (replied marks) (elements_given marks) a.state a.counts (resting texts job a marks g.last h g.kept)
         (subst (λ (w : List Due). InTurn g.last (replied marks) a.counts.page a.state w (elements_given marks)) h g.turn))
+        (timers_due (formats_of job) a.format (is_due a.t1 now) (is_due a.t4 now) a.state a.counts g.kept.due.due)
     by (d ∷ due) h = g
 
 -- a frame that comes, among the marks
@@ -558,9 +583,9 @@ elements_ack (Some frames.Rtp) marks = refl
 elements_ack (Some frames.Rtn) marks = refl
 elements_ack frame marks = refl
 
-frame_good : (texts : Texts) (job : JobValue) (a : Calling) (frame : Option Frame) (marks : List Mark) → Good texts job a marks →
-    Good texts job (moved a (if waits a.waiting then Stays else on_frame a.format a.pages a.state a.counts frame)) (acknowledged_by frame marks)
-frame_good texts job a frame marks g =
+frame_good : (texts : Texts) (job : JobValue) (a : Calling) (now : ℕ) (frame : Option Frame) (marks : List Mark) → Good texts job a marks →
+    Good texts job (moved a (if waits a.waiting then Stays else on_frame now a.format (turn_behind a.formats a.counts.page) a.pages a.state a.counts frame)) (acknowledged_by frame marks)
+frame_good texts job a now frame marks g =
     let k : Kept texts job a marks g.last = g.kept in
     by (acknowledged_by frame marks) (elements_ack frame marks) (replied_by frame marks)
     (record {
@@ -570,18 +595,21 @@ frame_good texts job a frame marks g =
       within = k.within;
       format = k.format;
       sent = k.sent;
-      same_format = k.same_format;
+      due = k.due;
       same_pages = k.same_pages;
     }) a.waiting refl
   where
     by : (new : List Mark) → elements_given new ≡ elements_given marks → replied new ≡ reply_by frame (replied marks) → Kept texts job a new g.last → (w : List Due) → a.waiting ≡ w →
-        Good texts job (moved a (if waits w then Stays else on_frame a.format a.pages a.state a.counts frame)) new
+        Good texts job (moved a (if waits w then Stays else on_frame now a.format (turn_behind a.formats a.counts.page) a.pages a.state a.counts frame)) new
     by new es rs k [] h =
-        moved_good texts job a new (on_frame a.format a.pages a.state a.counts frame) g.last k h
-        (subst (λ (x : Reply). MoveOk texts job g.last x a.counts.page (elements_given new) a.state (on_frame a.format a.pages a.state a.counts frame)) (sym rs)
-        (frame_ok texts job a.pages a.format g.last (replied marks) (elements_given new) a.state a.counts frame k.same_pages k.same_format (resting texts job a new g.last h k)
+        moved_good texts job a new (on_frame now a.format (turn_behind a.formats a.counts.page) a.pages a.state a.counts frame) g.last k h
+        (subst (λ (x : Reply). MoveOk texts job g.last x a.counts.page (elements_given new) a.state (on_frame now a.format (turn_behind a.formats a.counts.page) a.pages a.state a.counts frame)) (sym rs)
+        (subst (λ (fs : List Format). MoveOk texts job g.last (reply_by frame (replied marks)) a.counts.page (elements_given new) a.state (on_frame now a.format (turn_behind fs a.counts.page) a.pages a.state a.counts frame)) (sym k.due.formats)
+        (frame_ok texts job now a.pages a.format g.last (replied marks) (elements_given new) a.state a.counts frame k.same_pages k.due.due (resting texts job a new g.last h k)
         (subst (λ (before : List elements.Element). InTurn g.last (replied marks) a.counts.page a.state [] before) (sym es)
-        (subst (λ (w : List Due). InTurn g.last (replied marks) a.counts.page a.state w (elements_given marks)) h g.turn))))
+        (subst (λ (w : List Due). InTurn g.last (replied marks) a.counts.page a.state w (elements_given marks)) h g.turn)))))
+        (subst (λ (fs : List Format). MoveDue (formats_of job) a.format (on_frame now a.format (turn_behind fs a.counts.page) a.pages a.state a.counts frame)) (sym k.due.formats)
+        (frame_due (formats_of job) now a.format a.pages a.state a.counts frame k.due.due))
     by new es rs k (d ∷ due) h =
         record {
           last = g.last;
@@ -593,14 +621,14 @@ frame_good texts job a frame marks g =
               (subst (λ (w : List Due). InTurn g.last (replied marks) a.counts.page a.state w (elements_given marks)) h g.turn))));
         }
 
-pub comes_good : (texts : Texts) (job : JobValue) (a : Calling) (piece : pieces.Piece) (marks : List Mark) → Good texts job a marks → Good texts job (came a piece) (marks_heard piece marks)
-comes_good texts job a (pieces.Frame octets) marks g = frame_good texts job a (frame_of octets) marks g
-comes_good texts job a (pieces.Start k) marks g = g
-comes_good texts job a (pieces.Octets os) marks g = g
-comes_good texts job a (pieces.End w) marks g = g
-comes_good texts job a pieces.Gap marks g = g
+pub comes_good : (texts : Texts) (job : JobValue) (a : Calling) (piece : pieces.Piece) (now : ℕ) (marks : List Mark) → Good texts job a marks → Good texts job (came a piece now) (marks_heard piece marks)
+comes_good texts job a (pieces.Frame octets) now marks g = frame_good texts job a now (frame_of octets) marks g
+comes_good texts job a (pieces.Start k) now marks g = g
+comes_good texts job a (pieces.Octets os) now marks g = g
+comes_good texts job a (pieces.End w) now marks g = g
+comes_good texts job a pieces.Gap now marks g = g
 
-pub start_good : (texts : Texts) (job : JobValue) (old : List Mark) (core : Calling) (start : ℕ) → IsJob job → Good texts job (started core job.format (length job.pages) start) (Begins ∷ old)
+pub start_good : (texts : Texts) (job : JobValue) (old : List Mark) (core : Calling) (start : ℕ) → IsJob job → Good texts job (started core job start) (Begins ∷ old)
 start_good texts job old core start is =
     record {
       last = None;
@@ -611,7 +639,7 @@ start_good texts job old core start is =
         within = is.some;
         format = tt;
         sent = tt;
-        same_format = refl;
+        due = start_due core job start is;
         same_pages = refl;
       };
       turn = (refl, signal_keeps 1 [] (elements_given old) (omega arith) tt);
@@ -619,7 +647,7 @@ start_good texts job old core start is =
 
 pub events_good : (texts : Texts) (job : JobValue) (old : List Mark) (a : Calling) (events : List CallEvent) → IsJob job → Good texts job a (Begins ∷ old) → Good texts job (after_events texts.writes job a events) (marks_after texts.writes job old a events)
 events_good texts job old a [] is g = g
-events_good texts job old a (Comes piece ∷ before) is g = comes_good texts job (after_events texts.writes job a before) piece (marks_after texts.writes job old a before) (events_good texts job old a before is g)
+events_good texts job old a (Comes piece now ∷ before) is g = comes_good texts job (after_events texts.writes job a before) piece now (marks_after texts.writes job old a before) (events_good texts job old a before is g)
 events_good texts job old a (Ticks now ∷ before) is g =
     let core : Calling = after_events texts.writes job a before in
     paced_good texts job (timed core now) now (marks_after texts.writes job old a before) is (timed_good texts job core now (marks_after texts.writes job old a before) (events_good texts job old a before is g))
@@ -627,6 +655,6 @@ events_good texts job old a (Ticks now ∷ before) is g =
 pub emits_the_pages : EmitsThePages
 emits_the_pages writes job old core start events w is =
     let texts : Texts = record { writes = writes; are = w } in
-    let a : Calling = started core job.format (length job.pages) start in
+    let a : Calling = started core job start in
     let g : Good texts job (after_events writes job a events) (marks_after writes job old a events) = events_good texts job old a events is (start_good texts job old core start is) in
     (g.last, g.kept.emits)

@@ -4,6 +4,7 @@ use Rattle.std.specs.Prelude.{option_map, IsSome}
 use Rattle.std.specs.Result.{IfOk, OnOk, OnErr}
 use Rattle.std.proofs.Math.Seq.{drop-drop}
 use Rattle.std.proofs.lemmas.List.{take-replicate, drop-replicate, length-replicate}
+use Rattle.fax_runcodes.specs.declared.format.Format.{Format}
 use Rattle.fax_frames.specs.declared.dcs.Dcs.{Dcs}
 use Rattle.fax_frames.specs.declared.rate.Rate.{Rate}
 use Rattle.fax_frames.specs.declared.rate.Rate.TheVariants.{V27At2400, V27At4800, V29At7200, V29At9600, V17At7200, V17At9600, V17At12000, V17At14400}
@@ -20,14 +21,47 @@ use Rattle.fax_call.specs.declared.pending.Pending.{Pending}
 use Rattle.fax_call.specs.declared.pending.Pending.TheVariants as pendings
 use Rattle.fax_call.specs.declared.procedure.Procedure.{Procedure}
 use Rattle.fax_call.specs.declared.state.State.{State}
-use Rattle.fax_call.specs.declared.state.State.TheVariants.{Idle}
+use Rattle.fax_call.specs.declared.state.State.TheVariants.{Idle, AwaitDis, AwaitCfr, AwaitMcf, Closing}
 use Rattle.fax_call.specs.Writings.{Writing}
-use Rattle.fax_call.specs.Replies.{Packet, Tells, Part, written, Due, One, Text, waits, parts_of, part_length, check_length, training_check, frame_reply}
-use Rattle.fax_call.specs.Calls.{Calling, text_at, Taken, taken, state_when_given, outcome_when_given, t4_when_given, after_giving, Ticked, given_first, paced, timed, ticked}
+use Rattle.fax_call.specs.Replies.{Packet, Tells, Part, written, Due, One, Text, waits, parts_of, part_length, check_length, training_check, is_last_page, turn_behind, command_by, command_behind, command, frame_reply}
+use Rattle.fax_call.specs.Calls.{Calling, formats_of, text_at, Taken, taken, state_when_given, outcome_when_given, t4_when_given, after_giving, Ticked, given_first, paced, timed, ticked}
 use Rattle.fax_call.specs.Kept.{waiting_of, framed, training_behind, check_behind, packet_of, pending_behind, FitsPending}
-use Rattle.fax_call.specs.Following.{IsFit, IsLeft, Follows, IsMade, HasText, text_octets, text_behind, behind_packet, given_by, gives_now, GivesNext, IsJobOfCall}
+use Rattle.fax_call.specs.Following.{IsFit, IsLeft, KeepsTurn, Follows, HasText, HasFormats, text_octets, text_behind, behind_packet, command_kept, given_by, with_turn, gives_now, GivesNext}
 use Rattle.fax_call.specs.Reached.{Kept, IsReached, IsGiven}
 use Rattle.fax_call.proofs.FollowingLemmas.{pending_waits}
+
+-- THE NEXT PAGE'S FORMAT is kept by every packet but the short training indicator, with which it is told
+pub turn_named : (s : State) (q : Pending) (formats : List Format) (page : ℕ) (turn : Option Format) → turn ≡ turn_behind formats page → KeepsTurn s q formats page turn
+turn_named Idle q formats page turn h = tt
+turn_named AwaitDis q formats page turn h = tt
+turn_named (AwaitCfr dis dcs) q formats page turn h = tt
+turn_named (Closing outcome) q formats page turn h = tt
+turn_named (AwaitMcf dis dcs) pendings.Nothing formats page turn h = h
+turn_named (AwaitMcf dis dcs) pendings.Tone formats page turn h = h
+turn_named (AwaitMcf dis dcs) (pendings.Preamble m) formats page turn h = h
+turn_named (AwaitMcf dis dcs) (pendings.Frame m) formats page turn h = h
+turn_named (AwaitMcf dis dcs) (pendings.Training d) formats page turn h = h
+turn_named (AwaitMcf dis dcs) (pendings.Check d given) formats page turn h = h
+turn_named (AwaitMcf dis dcs) (pendings.Image d) formats page turn h = tt
+turn_named (AwaitMcf dis dcs) (pendings.Text d plain) formats page turn h = h
+
+pub turn_kept : (s : State) (q r : Pending) (formats : List Format) (page : ℕ) (turn : Option Format) → ((dcs : Dcs) → q ≡ pendings.Image dcs → ⊥)
+    → KeepsTurn s q formats page turn → KeepsTurn s r formats page turn
+turn_kept Idle q r formats page turn other k = tt
+turn_kept AwaitDis q r formats page turn other k = tt
+turn_kept (AwaitCfr dis dcs) q r formats page turn other k = tt
+turn_kept (Closing outcome) q r formats page turn other k = tt
+turn_kept (AwaitMcf dis dcs) q r formats page turn other k = turn_named (AwaitMcf dis dcs) r formats page turn (by q other k)
+  where
+    by : (q : Pending) → ((dcs : Dcs) → q ≡ pendings.Image dcs → ⊥) → KeepsTurn (AwaitMcf dis dcs) q formats page turn → turn ≡ turn_behind formats page
+    by pendings.Nothing other k = k
+    by pendings.Tone other k = k
+    by (pendings.Preamble m) other k = k
+    by (pendings.Frame m) other k = k
+    by (pendings.Training d) other k = k
+    by (pendings.Check d given) other k = k
+    by (pendings.Image d) other k = absurd (other d refl)
+    by (pendings.Text d plain) other k = k
 
 -- THE CORE, behind a packet: some packets wait, or none
 more_wait : (a : Calling) (now : ℕ) (due : List Due) → waits due ≡ true → after_giving a now due ≡ record a { waiting = due; last = Some now }
@@ -60,20 +94,26 @@ some_behind (pendings.Preamble m) p now some = refl
 some_behind (pendings.Frame m) p now some = refl
 some_behind (pendings.Training dcs) p now some = refl
 some_behind (pendings.Check dcs given) p now some = refl
-some_behind (pendings.Image dcs plain) p now some = refl
+some_behind (pendings.Image dcs) p now some = refl
 some_behind (pendings.Text dcs plain) p now some = refl
+
+-- what waits, told of what is kept
+abbrev waits_in : Calling → Procedure → Pending → ℕ → List Due
+waits_in core p q from = waiting_of q (command_behind core.formats core.pages p.counts.page) p.counts.page from
 
 -- BOTH, where some packets wait behind the one that is given
 pub follows_more : (writes : Writing) (job : JobValue) (core : Calling) (text left : List ℕ) (p : Procedure) (now from : ℕ) (q : Pending)
-    → Follows writes job core text p → (q ≡ pendings.Nothing → ⊥) → waits (waiting_of q p.counts.page from) ≡ true
-    → IsLeft writes job p.counts.page from q left
-    → Follows writes job (after_giving core now (waiting_of q p.counts.page from)) left (behind_packet q p now)
-follows_more writes job core text left p now from q f some w is_left =
-    subst (λ (n : Procedure). Follows writes job (after_giving core now (waiting_of q p.counts.page from)) left n) (sym (some_behind q p now some))
-    (subst (λ (a : Calling). Follows writes job a left (record p { pending = q; pace = Some now })) (sym (more_wait core now (waiting_of q p.counts.page from) w))
+    → Follows writes job core text p → (q ≡ pendings.Nothing → ⊥) → waits (waits_in core p q from) ≡ true
+    → IsLeft writes job p.counts.page from q left → KeepsTurn p.state q core.formats p.counts.page p.turn
+    → Follows writes job (after_giving core now (waits_in core p q from)) left (behind_packet q p now)
+follows_more writes job core text left p now from q f some w is_left turn =
+    subst (λ (n : Procedure). Follows writes job (after_giving core now (waits_in core p q from)) left n) (sym (some_behind q p now some))
+    (subst (λ (a : Calling). Follows writes job a left (record p { pending = q; pace = Some now })) (sym (more_wait core now (waits_in core p q from) w))
     (record {
       state = f.state;
       format = f.format;
+      formats = f.formats;
+      turn = turn;
       pages = f.pages;
       counts = f.counts;
       from = from;
@@ -86,12 +126,22 @@ follows_more writes job core text left p now from q f some w is_left =
     }))
 
 -- and where none does
+pub given_turn : (s : State) (formats : List Format) (page : ℕ) (turn : Option Format) → KeepsTurn s pendings.Nothing formats page turn → KeepsTurn (state_when_given s) pendings.Nothing formats page turn
+given_turn Idle formats page turn k = tt
+given_turn AwaitDis formats page turn k = tt
+given_turn (AwaitCfr dis dcs) formats page turn k = tt
+given_turn (AwaitMcf dis dcs) formats page turn k = k
+given_turn (Closing outcome) formats page turn k = tt
+
 pub follows_last : (writes : Writing) (job : JobValue) (core : Calling) (text left : List ℕ) (p : Procedure) (now : ℕ)
-    → Follows writes job core text p → Follows writes job (after_giving core now []) left (behind_packet pendings.Nothing p now)
-follows_last writes job core text left p now f =
+    → Follows writes job core text p → KeepsTurn p.state pendings.Nothing core.formats p.counts.page p.turn
+    → Follows writes job (after_giving core now []) left (behind_packet pendings.Nothing p now)
+follows_last writes job core text left p now f turn =
     record {
       state = ap state_when_given f.state;
       format = f.format;
+      formats = λ on. f.formats (λ e. on (ap state_when_given e));
+      turn = given_turn p.state core.formats p.counts.page p.turn turn;
       pages = f.pages;
       counts = f.counts;
       from = 0;
@@ -225,48 +275,53 @@ abbrev Next : Writing → JobValue → Calling → Procedure → ℕ → Packet 
 Next writes job core p now packet left q = GivesNext writes job core now packet left (behind_packet q p now)
 
 more : (writes : Writing) (job : JobValue) (core : Calling) (text left : List ℕ) (p : Procedure) (now from : ℕ) (packet : Packet) (q : Pending)
-    → Follows writes job core text p → Gives writes job core packet (waiting_of q p.counts.page from) → (q ≡ pendings.Nothing → ⊥) → FitsPending q
-    → IsLeft writes job p.counts.page from q left → Next writes job core p now packet left q
-more writes job core text left p now from packet q f g some fits is_left =
+    → Follows writes job core text p → Gives writes job core packet (waits_in core p q from) → (q ≡ pendings.Nothing → ⊥) → FitsPending q
+    → IsLeft writes job p.counts.page from q left → KeepsTurn p.state q core.formats p.counts.page p.turn → Next writes job core p now packet left q
+more writes job core text left p now from packet q f g some fits is_left turn =
     record {
       follows =
-          subst (λ (a : Calling). Follows writes job a left (behind_packet q p now)) (sym (core_behind writes job core now packet (waiting_of q p.counts.page from) g))
-          (follows_more writes job core text left p now from q f some (pending_waits q p.counts.page from fits some) is_left);
-      given = packet_given writes job core now packet (waiting_of q p.counts.page from) g;
+          subst (λ (a : Calling). Follows writes job a left (behind_packet q p now)) (sym (core_behind writes job core now packet (waits_in core p q from) g))
+          (follows_more writes job core text left p now from q f some (pending_waits q (command_behind core.formats core.pages p.counts.page) p.counts.page from fits some) is_left turn);
+      given = packet_given writes job core now packet (waits_in core p q from) g;
     }
 
 last : (writes : Writing) (job : JobValue) (core : Calling) (text left : List ℕ) (p : Procedure) (now : ℕ) (packet : Packet)
-    → Follows writes job core text p → Gives writes job core packet [] → Next writes job core p now packet left pendings.Nothing
-last writes job core text left p now packet f g =
+    → Follows writes job core text p → Gives writes job core packet [] → KeepsTurn p.state pendings.Nothing core.formats p.counts.page p.turn
+    → Next writes job core p now packet left pendings.Nothing
+last writes job core text left p now packet f g turn =
     record {
       follows =
           subst (λ (a : Calling). Follows writes job a left (behind_packet pendings.Nothing p now)) (sym (core_behind writes job core now packet [] g))
-          (follows_last writes job core text left p now f);
+          (follows_last writes job core text left p now f turn);
       given = packet_given writes job core now packet [] g;
     }
 
 gives_one : (writes : Writing) (job : JobValue) (core : Calling) (packet : Packet) (due : List Due) → One packet ∷ due ≡ core.waiting → Gives writes job core packet due
 gives_one writes job core packet due w = record { d = One packet; due = due; waiting = sym w; packet_is = refl; rest_is = refl }
 
+-- the next page's format is kept, whatever waits
+abbrev KeepsTo : Calling → Procedure → Type 0
+KeepsTo core p = (r : Pending) → KeepsTurn p.state r core.formats p.counts.page p.turn
+
 check_next : (writes : Writing) (job : JobValue) (core : Calling) (text : List ℕ) (p : Procedure) (now : ℕ) (dcs : Dcs) (given : ℕ) (b : Bool)
     → Follows writes job core text p → (b ≡ false → given + part_length dcs < check_length dcs)
     → (if b then One (Part (kind_of dcs.rate) true (replicate (check_length dcs - given) 0)) ∷ []
     else One (Part (kind_of dcs.rate) false (replicate (part_length dcs) 0)) ∷ check_behind dcs (given + part_length dcs)) ≡ core.waiting
-    → Next writes job core p now
+    → KeepsTo core p → Next writes job core p now
     (if b then Part (kind_of dcs.rate) true (replicate (check_length dcs - given) 0) else Part (kind_of dcs.rate) false (replicate (part_length dcs) 0))
     text (if b then pendings.Nothing else pendings.Check dcs (given + part_length dcs))
-check_next writes job core text p now dcs given true f fits w = last writes job core text text p now _ f (gives_one writes job core _ [] w)
-check_next writes job core text p now dcs given false f fits w =
-    more writes job core text text p now 0 _ (pendings.Check dcs (given + part_length dcs)) f (gives_one writes job core _ _ w) (λ e. cc) (fits refl) tt
+check_next writes job core text p now dcs given true f fits w turn = last writes job core text text p now _ f (gives_one writes job core _ [] w) (turn pendings.Nothing)
+check_next writes job core text p now dcs given false f fits w turn =
+    more writes job core text text p now 0 _ (pendings.Check dcs (given + part_length dcs)) f (gives_one writes job core _ _ w) (λ e. cc) (fits refl) tt (turn (pendings.Check dcs (given + part_length dcs)))
 
 text_next : (writes : Writing) (job : JobValue) (core : Calling) (text : List ℕ) (p : Procedure) (now from : ℕ) (dcs : Dcs) (plain : Plain) (b : Bool)
     → Follows writes job core text p → b ≡ nat_le (length text) (part_length dcs)
     → Text p.counts.page dcs from ∷ frame_reply (written_plain plain true) ≡ core.waiting
-    → text ≡ drop from (text_at writes job p.counts.page dcs)
+    → text ≡ drop from (text_at writes job p.counts.page dcs) → KeepsTo core p
     → Next writes job core p now
     (if b then Part (kind_of dcs.rate) true text else Part (kind_of dcs.rate) false (take (part_length dcs) text))
     (drop (part_length dcs) text) (if b then pendings.Preamble (messages.Plain plain) else pendings.Text dcs plain)
-text_next writes job core text p now from dcs plain true f e w left =
+text_next writes job core text p now from dcs plain true f e w left turn =
     more writes job core text _ p now 0 _ (pendings.Preamble (messages.Plain plain)) f
     (record {
       d = Text p.counts.page dcs from;
@@ -274,7 +329,7 @@ text_next writes job core text p now from dcs plain true f e w left =
       waiting = sym w;
       packet_is = ap (λ (t : Taken). t.packet) whole ∙ ap (λ (os : List ℕ). Part (kind_of dcs.rate) true os) (sym left);
       rest_is = ap (λ (t : Taken). t.rest) whole;
-    }) (λ q. cc) tt tt
+    }) (λ q. cc) tt tt (turn (pendings.Preamble (messages.Plain plain)))
   where
     all : List ℕ
     all = text_at writes job p.counts.page dcs
@@ -285,7 +340,7 @@ text_next writes job core text p now from dcs plain true f e w left =
 
     whole : taken writes job (Text p.counts.page dcs from) (frame_reply (written_plain plain true)) ≡ record { packet = Part (kind_of dcs.rate) true (drop from all); rest = frame_reply (written_plain plain true) }
     whole = by (nat_le (length (drop from all)) (part_length dcs)) _ _ (sym (e ∙ ap (λ (os : List ℕ). nat_le (length os) (part_length dcs)) left))
-text_next writes job core text p now from dcs plain false f e w left =
+text_next writes job core text p now from dcs plain false f e w left turn =
     more writes job core text _ p now (from + part_length dcs) _ (pendings.Text dcs plain) f
     (record {
       d = Text p.counts.page dcs from;
@@ -293,7 +348,7 @@ text_next writes job core text p now from dcs plain false f e w left =
       waiting = sym w;
       packet_is = ap (λ (t : Taken). t.packet) partly ∙ ap (λ (os : List ℕ). Part (kind_of dcs.rate) false (take (part_length dcs) os)) (sym left);
       rest_is = ap (λ (t : Taken). t.rest) partly;
-    }) (λ q. cc) tt (ap (drop (part_length dcs)) left ∙ drops)
+    }) (λ q. cc) tt (ap (drop (part_length dcs)) left ∙ drops) (turn (pendings.Text dcs plain))
   where
     all : List ℕ
     all = text_at writes job p.counts.page dcs
@@ -309,71 +364,93 @@ text_next writes job core text p now from dcs plain false f e w left =
     drops : drop (part_length dcs) (drop from all) ≡ drop (from + part_length dcs) all
     drops = drop-drop (part_length dcs) from all
 
-next_by : (writes : Writing) (job : JobValue) (core : Calling) (text made : List ℕ) (p : Procedure) (now : ℕ) → Follows writes job core text p
-    → (q : Pending) → FitsPending q → (q ≡ pendings.Nothing → ⊥) → (from : ℕ) → waiting_of q p.counts.page from ≡ core.waiting
-    → IsLeft writes job p.counts.page from q text → IsMade writes job p.counts.page q made
-    → Next writes job core p now (packet_of q text) (text_behind q made text) (pending_behind q (length text))
-next_by writes job core text made p now f pendings.Nothing fits some from w left is = absurd (some refl)
-next_by writes job core text made p now f pendings.Tone fits some from w left is =
-    last writes job core text text p now (packet_of pendings.Tone text) f (gives_one writes job core (packet_of pendings.Tone text) [] w)
-next_by writes job core text made p now f (pendings.Preamble m) fits some from w left is =
-    more writes job core text text p now from (packet_of (pendings.Preamble m) text) (pendings.Frame m) f (gives_one writes job core (packet_of (pendings.Preamble m) text) (framed m) w) (λ e. cc) fits tt
-next_by writes job core text made p now f (pendings.Frame (messages.Dcs dcs)) fits some from w left is =
-    more writes job core text text p now from (Tells (written_dcs dcs)) (pendings.Training dcs) f (gives_one writes job core (Tells (written_dcs dcs)) (training_behind dcs) w) (λ e. cc) tt tt
-next_by writes job core text made p now f (pendings.Frame (messages.Plain plain)) fits some from w left is =
-    last writes job core text text p now (Tells (written_plain plain true)) f (gives_one writes job core (Tells (written_plain plain true)) [] w)
-next_by writes job core text made p now f (pendings.Training dcs) fits some from w left is =
+next_by : (writes : Writing) (job : JobValue) (core : Calling) (text : List ℕ) (p : Procedure) (now : ℕ) → Follows writes job core text p → KeepsTo core p
+    → (q : Pending) → FitsPending q → (q ≡ pendings.Nothing → ⊥) → ((dcs : Dcs) → q ≡ pendings.Image dcs → ⊥) → (from : ℕ) → waits_in core p q from ≡ core.waiting
+    → IsLeft writes job p.counts.page from q text
+    → Next writes job core p now (packet_of q text) (text_behind q [] text) (pending_behind q (command_kept p) (length text))
+next_by writes job core text p now f turn pendings.Nothing fits some other from w left = absurd (some refl)
+next_by writes job core text p now f turn pendings.Tone fits some other from w left =
+    last writes job core text text p now (packet_of pendings.Tone text) f (gives_one writes job core (packet_of pendings.Tone text) [] w) (turn pendings.Nothing)
+next_by writes job core text p now f turn (pendings.Preamble m) fits some other from w left =
+    more writes job core text text p now from (packet_of (pendings.Preamble m) text) (pendings.Frame m) f (gives_one writes job core (packet_of (pendings.Preamble m) text) (framed m) w) (λ e. cc) fits tt (turn (pendings.Frame m))
+next_by writes job core text p now f turn (pendings.Frame (messages.Dcs dcs)) fits some other from w left =
+    more writes job core text text p now from (Tells (written_dcs dcs)) (pendings.Training dcs) f (gives_one writes job core (Tells (written_dcs dcs)) (training_behind dcs) w) (λ e. cc) tt tt (turn (pendings.Training dcs))
+next_by writes job core text p now f turn (pendings.Frame (messages.Plain plain)) fits some other from w left =
+    last writes job core text text p now (Tells (written_plain plain true)) f (gives_one writes job core (Tells (written_plain plain true)) [] w) (turn pendings.Nothing)
+next_by writes job core text p now f turn (pendings.Training dcs) fits some other from w left =
     more writes job core text text p now 0 (packet_of (pendings.Training dcs) text) (pendings.Check dcs 0) f
     (subst (λ (due : List Due). Gives writes job core (packet_of (pendings.Training dcs) text) due) (check_begins dcs) (gives_one writes job core (packet_of (pendings.Training dcs) text) (training_check dcs) w))
-    (λ e. cc) (check_some dcs) tt
-next_by writes job core text made p now f (pendings.Check dcs given) fits some from w left is =
+    (λ e. cc) (check_some dcs) tt (turn (pendings.Check dcs 0))
+next_by writes job core text p now f turn (pendings.Check dcs given) fits some other from w left =
     check_next writes job core text p now dcs given (nat_le (check_length dcs - given) (part_length dcs)) f
     (λ h. let more_left : part_length dcs < check_length dcs - given = not_le (check_length dcs - given) (part_length dcs) h in omega arith)
-    (sym (check_step dcs given fits) ∙ w)
-next_by writes job core text made p now f (pendings.Image dcs plain) fits some from w left is =
-    more writes job core text made p now 0 (packet_of (pendings.Image dcs plain) text) (pendings.Text dcs plain) f
-    (gives_one writes job core (packet_of (pendings.Image dcs plain) text) (Text p.counts.page dcs 0 ∷ frame_reply (written_plain plain true)) w) (λ e. cc) tt is
-next_by writes job core text made p now f (pendings.Text dcs plain) fits some from w left is =
-    text_next writes job core text p now from dcs plain (nat_le (length text) (part_length dcs)) f refl w left
+    (sym (check_step dcs given fits) ∙ w) turn
+next_by writes job core text p now f turn (pendings.Image dcs) fits some other from w left = absurd (other dcs refl)
+next_by writes job core text p now f turn (pendings.Text dcs plain) fits some other from w left =
+    text_next writes job core text p now from dcs plain (nat_le (length text) (part_length dcs)) f refl w left turn
 
-not_made : (writes : Writing) (job : JobValue) (page : ℕ) (q : Pending) → ((dcs : Dcs) (plain : Plain) → q ≡ pendings.Image dcs plain → ⊥) → IsMade writes job page q []
-not_made writes job page pendings.Nothing other = tt
-not_made writes job page pendings.Tone other = tt
-not_made writes job page (pendings.Preamble m) other = tt
-not_made writes job page (pendings.Frame m) other = tt
-not_made writes job page (pendings.Training dcs) other = tt
-not_made writes job page (pendings.Check dcs given) other = tt
-not_made writes job page (pendings.Image dcs plain) other = absurd (other dcs plain refl)
-not_made writes job page (pendings.Text dcs plain) other = tt
-
-behind_drop : (q : Pending) (text : List ℕ) → ((dcs : Dcs) (plain : Plain) → q ≡ pendings.Image dcs plain → ⊥) → text_behind q [] text ≡ drop (text_octets q) text
+behind_drop : (q : Pending) (text : List ℕ) → ((dcs : Dcs) → q ≡ pendings.Image dcs → ⊥) → text_behind q [] text ≡ drop (text_octets q) text
 behind_drop pendings.Nothing text other = refl
 behind_drop pendings.Tone text other = refl
 behind_drop (pendings.Preamble m) text other = refl
 behind_drop (pendings.Frame m) text other = refl
 behind_drop (pendings.Training dcs) text other = refl
 behind_drop (pendings.Check dcs given) text other = refl
-behind_drop (pendings.Image dcs plain) text other = absurd (other dcs plain refl)
+behind_drop (pendings.Image dcs) text other = absurd (other dcs refl)
 behind_drop (pendings.Text dcs plain) text other = refl
 
 -- a packet that is no short training indicator
 pub packet_next : (writes : Writing) (job : JobValue) (core : Calling) (text : List ℕ) (p : Procedure) (now : ℕ) → IsFit p → Follows writes job core text p
-    → (p.pending ≡ pendings.Nothing → ⊥) → ((dcs : Dcs) (plain : Plain) → p.pending ≡ pendings.Image dcs plain → ⊥)
+    → (p.pending ≡ pendings.Nothing → ⊥) → ((dcs : Dcs) → p.pending ≡ pendings.Image dcs → ⊥)
     → GivesNext writes job core now (packet_of p.pending text) (drop (text_octets p.pending) text) (given_by p (length text) now)
 packet_next writes job core text p now fit f some other =
     subst (λ (left : List ℕ). GivesNext writes job core now (packet_of p.pending text) left (given_by p (length text) now)) (behind_drop p.pending text other)
-    (next_by writes job core text [] p now f p.pending fit.pending some f.from f.waiting f.left (not_made writes job p.counts.page p.pending other))
+    (next_by writes job core text p now f (λ r. turn_kept p.state p.pending r core.formats p.counts.page p.turn other f.turn) p.pending fit.pending some other f.from f.waiting f.left)
 
--- a short training indicator, with which the text is made
-pub image_next : (writes : Writing) (job : JobValue) (core : Calling) (text : List ℕ) (p : Procedure) (now : ℕ) (dcs : Dcs) (plain : Plain) → Follows writes job core text p
-    → p.pending ≡ pendings.Image dcs plain
-    → GivesNext writes job core now (packet_of p.pending []) (text_at writes job p.counts.page dcs) (given_by p 0 now)
-image_next writes job core text p now dcs plain f e =
+-- a short training indicator, with which the text is made, and the job tells the next page's format
+pub image_next : (writes : Writing) (job : JobValue) (core : Calling) (text : List ℕ) (p : Procedure) (now : ℕ) (dcs : Dcs) → IsFit p → Follows writes job core text p
+    → p.pending ≡ pendings.Image dcs
+    → GivesNext writes job core now (packet_of p.pending []) (text_at writes job p.counts.page dcs) (given_by (with_turn p job) 0 now)
+image_next writes job core text p now dcs fit f e =
     let made : List ℕ = text_at writes job p.counts.page dcs in
-    let image : Pending = pendings.Image dcs plain in
-    subst (λ (q : Pending). GivesNext writes job core now (packet_of q []) made (behind_packet (pending_behind q 0) p now)) (sym e)
-    (next_by writes job core text made p now f image tt (λ h. cc) f.from
-    (subst (λ (q : Pending). waiting_of q p.counts.page f.from ≡ core.waiting) e f.waiting) tt refl)
+    subst (λ (q : Pending). GivesNext writes job core now (packet_of q []) made (behind_packet (pending_behind q (command_kept told) 0) told now)) (sym e)
+    (more writes job core text made told now 0 (packet_of (pendings.Image dcs) []) (pendings.Text dcs (command_kept told)) follows
+    (gives_one writes job core (packet_of (pendings.Image dcs) []) (Text p.counts.page dcs 0 ∷ command (command_kept told)) waits_so) (λ h. cc) tt refl
+    (turn_named p.state (pendings.Text dcs (command_kept told)) core.formats p.counts.page told.turn turn_so))
+  where
+    told : Procedure
+    told = with_turn p job
+
+    on : core.state ≡ Idle → ⊥
+    on s = let none : p.pending ≡ pendings.Nothing = fit.rests (f.state ∙ s) in cc
+
+    turn_so : told.turn ≡ turn_behind core.formats p.counts.page
+    turn_so = ap (λ (fs : List Format). turn_behind fs p.counts.page) (sym (f.formats on))
+
+    asks : command_kept told ≡ command_behind core.formats core.pages p.counts.page
+    asks = ap (λ (t : Option Format). command_by (is_last_page p.pages p.counts.page) t) turn_so ∙ ap (λ (n : ℕ). command_by (is_last_page n p.counts.page) (turn_behind core.formats p.counts.page)) f.pages
+
+    waits_so : One (packet_of (pendings.Image dcs) []) ∷ Text p.counts.page dcs 0 ∷ command (command_kept told) ≡ core.waiting
+    waits_so =
+        ap (λ (plain : Plain). One (packet_of (pendings.Image dcs) []) ∷ Text p.counts.page dcs 0 ∷ command plain) asks
+        ∙ sym (ap (λ (q : Pending). waits_in core p q f.from) e) ∙ f.waiting
+
+    follows : Follows writes job core text told
+    follows = record {
+      state = f.state;
+      format = f.format;
+      formats = f.formats;
+      turn = turn_named p.state p.pending core.formats p.counts.page told.turn turn_so;
+      pages = f.pages;
+      counts = f.counts;
+      from = f.from;
+      waiting = f.waiting;
+      left = f.left;
+      t1 = f.t1;
+      t4 = f.t4;
+      last = f.last;
+      outcome = f.outcome;
+    }
 
 -- what a tick leaves that gives a packet
 pub reached_gives : (writes : Writing) (job : JobValue) (heard : List Slot) (core : Calling) (now : ℕ) (packet : Packet) (left : List ℕ) (new : Procedure) (kept : Kept)
@@ -410,31 +487,29 @@ on_given (Ok a) Q R q f = f q
 on_given (Err a) Q R q f = tt
 
 -- the job stays that of the call
-pub job_kept : (old p : Procedure) (q : Pending) (now : ℕ) (job : JobValue) → p.format ≡ old.format → p.pages ≡ old.pages → (old.state ≡ Idle → ⊥) → IsJobOfCall old job
-    → IsJobOfCall (behind_packet q p now) job
-job_kept old p q now job format pages on is n =
-    let h = is on in
-    (h.0 ∙ sym (format_same q ∙ format), h.1 ∙ sym (pages_same q ∙ pages))
-  where
-    format_same : (q : Pending) → (behind_packet q p now).format ≡ p.format
-    format_same pendings.Nothing = refl
-    format_same pendings.Tone = refl
-    format_same (pendings.Preamble m) = refl
-    format_same (pendings.Frame m) = refl
-    format_same (pendings.Training dcs) = refl
-    format_same (pendings.Check dcs given) = refl
-    format_same (pendings.Image dcs plain) = refl
-    format_same (pendings.Text dcs plain) = refl
+pub job_kept : (p : Procedure) (q : Pending) (now : ℕ) (job : JobValue) → KeepsTurn p.state q (formats_of job) p.counts.page p.turn → HasFormats p job
+    → HasFormats (behind_packet q p now) job
+job_kept p pendings.Nothing now job turn is = record { pages = is.pages; due = is.due; turn = given_turn p.state (formats_of job) p.counts.page p.turn turn }
+job_kept p pendings.Tone now job turn is = record { pages = is.pages; due = is.due; turn = turn }
+job_kept p (pendings.Preamble m) now job turn is = record { pages = is.pages; due = is.due; turn = turn }
+job_kept p (pendings.Frame m) now job turn is = record { pages = is.pages; due = is.due; turn = turn }
+job_kept p (pendings.Training dcs) now job turn is = record { pages = is.pages; due = is.due; turn = turn }
+job_kept p (pendings.Check dcs given) now job turn is = record { pages = is.pages; due = is.due; turn = turn }
+job_kept p (pendings.Image dcs) now job turn is = record { pages = is.pages; due = is.due; turn = turn }
+job_kept p (pendings.Text dcs plain) now job turn is = record { pages = is.pages; due = is.due; turn = turn }
 
-    pages_same : (q : Pending) → (behind_packet q p now).pages ≡ p.pages
-    pages_same pendings.Nothing = refl
-    pages_same pendings.Tone = refl
-    pages_same (pendings.Preamble m) = refl
-    pages_same (pendings.Frame m) = refl
-    pages_same (pendings.Training dcs) = refl
-    pages_same (pendings.Check dcs given) = refl
-    pages_same (pendings.Image dcs plain) = refl
-    pages_same (pendings.Text dcs plain) = refl
+-- so where a packet is given that is no short training indicator, and where one is
+pub packet_job : (p : Procedure) (left now : ℕ) (job : JobValue) → ((dcs : Dcs) → p.pending ≡ pendings.Image dcs → ⊥) → HasFormats p job → HasFormats (given_by p left now) job
+packet_job p left now job other is =
+    let q : Pending = pending_behind p.pending (command_kept p) left in
+    job_kept p q now job (turn_kept p.state p.pending q (formats_of job) p.counts.page p.turn other is.turn) is
+
+pub image_job : (p : Procedure) (left now : ℕ) (job : JobValue) → HasFormats p job → HasFormats (given_by (with_turn p job) left now) job
+image_job p left now job is =
+    let told : Procedure = with_turn p job in
+    let q : Pending = pending_behind p.pending (command_kept told) left in
+    job_kept told q now job (turn_named p.state q (formats_of job) p.counts.page told.turn refl)
+    (record { pages = is.pages; due = is.due; turn = turn_named p.state p.pending (formats_of job) p.counts.page told.turn refl })
 
 -- the text is not empty while it is given
 pub given_pending : (q : Pending) (p : Procedure) (now : ℕ) → (behind_packet q p now).pending ≡ q
@@ -444,24 +519,24 @@ given_pending (pendings.Preamble m) p now = refl
 given_pending (pendings.Frame m) p now = refl
 given_pending (pendings.Training dcs) p now = refl
 given_pending (pendings.Check dcs given) p now = refl
-given_pending (pendings.Image dcs plain) p now = refl
+given_pending (pendings.Image dcs) p now = refl
 given_pending (pendings.Text dcs plain) p now = refl
 
-pub has_behind : (q : Pending) (text : List ℕ) → ((dcs : Dcs) (plain : Plain) → q ≡ pendings.Image dcs plain → ⊥)
-    → HasText (pending_behind q (length text)) (drop (text_octets q) text)
-has_behind pendings.Nothing text other = tt
-has_behind pendings.Tone text other = tt
-has_behind (pendings.Preamble m) text other = tt
-has_behind (pendings.Frame (messages.Dcs dcs)) text other = tt
-has_behind (pendings.Frame (messages.Plain plain)) text other = tt
-has_behind (pendings.Training dcs) text other = tt
-has_behind (pendings.Check dcs given) text other = by (nat_le (check_length dcs - given) (part_length dcs))
+pub has_behind : (q : Pending) (asks : Plain) (text : List ℕ) → ((dcs : Dcs) → q ≡ pendings.Image dcs → ⊥)
+    → HasText (pending_behind q asks (length text)) (drop (text_octets q) text)
+has_behind pendings.Nothing asks text other = tt
+has_behind pendings.Tone asks text other = tt
+has_behind (pendings.Preamble m) asks text other = tt
+has_behind (pendings.Frame (messages.Dcs dcs)) asks text other = tt
+has_behind (pendings.Frame (messages.Plain plain)) asks text other = tt
+has_behind (pendings.Training dcs) asks text other = tt
+has_behind (pendings.Check dcs given) asks text other = by (nat_le (check_length dcs - given) (part_length dcs))
   where
     by : (b : Bool) → HasText (if b then pendings.Nothing else pendings.Check dcs (given + part_length dcs)) text
     by true = tt
     by false = tt
-has_behind (pendings.Image dcs plain) text other = absurd (other dcs plain refl)
-has_behind (pendings.Text dcs plain) text other = by (nat_le (length text) (part_length dcs)) (λ h. h)
+has_behind (pendings.Image dcs) asks text other = absurd (other dcs refl)
+has_behind (pendings.Text dcs plain) asks text other = by (nat_le (length text) (part_length dcs)) (λ h. h)
   where
     by : (b : Bool) → (b ≡ false → nat_le (length text) (part_length dcs) ≡ false) → HasText (if b then pendings.Preamble (messages.Plain plain) else pendings.Text dcs plain) (drop (part_length dcs) text)
     by true h = tt

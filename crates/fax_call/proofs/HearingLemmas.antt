@@ -16,16 +16,16 @@ use Rattle.fax_call.specs.Calls.{Calling, came, came_all}
 use Rattle.fax_call.specs.Following.{Follows}
 use Rattle.fax_call.specs.Reached.{Kept, IsReached, Hears}
 
-pub came_append : (core : Calling) (xs ys : List Piece) → came_all core (xs ++ ys) ≡ came_all (came_all core xs) ys
-came_append core [] ys = refl
-came_append core (x ∷ xs) ys = came_append (came core x) xs ys
+pub came_append : (core : Calling) (xs ys : List Piece) (now : ℕ) → came_all core (xs ++ ys) now ≡ came_all (came_all core xs now) ys now
+came_append core [] ys now = refl
+came_append core (x ∷ xs) ys now = came_append (came core x now) xs ys now
 
-pub came_more : (core : Calling) (xs : List Piece) (p : Piece) → came_all core (xs ++ p ∷ []) ≡ came (came_all core xs) p
-came_more core xs p = came_append core xs (p ∷ [])
+pub came_more : (core : Calling) (xs : List Piece) (p : Piece) (now : ℕ) → came_all core (xs ++ p ∷ []) now ≡ came (came_all core xs now) p now
+came_more core xs p now = came_append core xs (p ∷ []) now
 
-came_gaps : (n : ℕ) (core : Calling) → came_all core (replicate n Gap) ≡ core
-came_gaps zero core = refl
-came_gaps (suc n) core = came_gaps n core
+came_gaps : (n : ℕ) (core : Calling) (now : ℕ) → came_all core (replicate n Gap) now ≡ core
+came_gaps zero core now = refl
+came_gaps (suc n) core now = came_gaps n core now
 
 pub shown_more : (ps : List code_pieces.Piece) (i : ℕ) (p : code_pieces.Piece) → i < length ps → p ≡ get_or ps i p → pieces_shown (take i ps) ++ piece_of p ∷ [] ≡ pieces_shown (take (i + 1) ps)
 shown_more ps i p h e =
@@ -50,10 +50,10 @@ reversed_lost zero = refl
 reversed_lost (suc n) = reverse-append (None ∷ []) (lost_slots n) ∙ ap (λ (s : List Slot). s ++ None ∷ []) (reversed_lost n) ∙ one_more_lost n
 
 -- LOST SLOTS bring nothing about
-pub loses : (writes : Writing) (job : JobValue) (count : ℕ) (heard : List Slot) (core : Calling) (old new : Kept) → IsReached writes job heard core old
+pub loses : (writes : Writing) (job : JobValue) (count now : ℕ) (heard : List Slot) (core : Calling) (old new : Kept) → IsReached writes job heard core old
     → TracksRun (lost_slots count) old.tracked new.tracked → GivesRun (lost_slots count) old.tracked (replicate count Gap)
-    → new.procedure ≡ old.procedure → new.text ≡ old.text → Hears writes job (lost_slots count) heard core new
-loses writes job count heard core old new r tracks gives procedure text =
+    → new.procedure ≡ old.procedure → new.text ≡ old.text → Hears writes job (lost_slots count) now heard core new
+loses writes job count now heard core old new r tracks gives procedure text =
     let back : reverse (lost_slots count) ≡ lost_slots count = reversed_lost count in
     record {
       given = replicate count Gap;
@@ -61,24 +61,24 @@ loses writes job count heard core old new r tracks gives procedure text =
       reached = record {
         tracked = subst (λ (s : List Slot). IsTracked (s ++ heard) new.tracked) (sym back) (tracks heard r.tracked);
         follows =
-            subst (λ (a : Calling). Follows writes job a new.text new.procedure) (sym (came_gaps count core))
+            subst (λ (a : Calling). Follows writes job a new.text new.procedure) (sym (came_gaps count core now))
             (subst (λ (t : List ℕ). Follows writes job core t new.procedure) (sym text)
             (subst (λ (p : Procedure). Follows writes job core old.text p) (sym procedure) r.follows));
       };
     }
 
 -- A PACKET in the next slot
-pub hears_more : (writes : Writing) (job : JobValue) (slots : List Slot) (packet : List ℕ) (heard : List Slot) (core : Calling) (mid new : Kept) (tracked : Tracked) (given : List Piece)
-    → Hears writes job slots heard core mid → Tracks (Some packet) mid.tracked tracked → Gives (Some packet) mid.tracked given → new.tracked ≡ tracked
-    → ((a : Calling) → Follows writes job a mid.text mid.procedure → Follows writes job (came_all a given) new.text new.procedure)
-    → Hears writes job (slots ++ Some packet ∷ []) heard core new
-hears_more writes job slots packet heard core mid new tracked given h tracks gives same takes =
+pub hears_more : (writes : Writing) (job : JobValue) (slots : List Slot) (now : ℕ) (packet : List ℕ) (heard : List Slot) (core : Calling) (mid new : Kept) (tracked : Tracked) (given : List Piece)
+    → Hears writes job slots now heard core mid → Tracks (Some packet) mid.tracked tracked → Gives (Some packet) mid.tracked given → new.tracked ≡ tracked
+    → ((a : Calling) → Follows writes job a mid.text mid.procedure → Follows writes job (came_all a given now) new.text new.procedure)
+    → Hears writes job (slots ++ Some packet ∷ []) now heard core new
+hears_more writes job slots now packet heard core mid new tracked given h tracks gives same takes =
     let back : reverse (slots ++ Some packet ∷ []) ++ heard ≡ Some packet ∷ (reverse slots ++ heard) = ap (λ (s : List Slot). s ++ heard) (reverse-append slots (Some packet ∷ [])) in
     record {
       given = h.given ++ given;
       pieces = ap pieces back ∙ gives (reverse slots ++ heard) h.reached.tracked ∙ ap (λ (ps : List Piece). ps ++ given) h.pieces ∙ append_assoc (pieces heard) h.given given;
       reached = record {
         tracked = subst (λ (s : List Slot). IsTracked s new.tracked) (sym back) (subst (λ (k : Tracked). IsTracked (Some packet ∷ (reverse slots ++ heard)) k) (sym same) (tracks (reverse slots ++ heard) h.reached.tracked));
-        follows = subst (λ (a : Calling). Follows writes job a new.text new.procedure) (sym (came_append core h.given given)) (takes (came_all core h.given) h.reached.follows);
+        follows = subst (λ (a : Calling). Follows writes job a new.text new.procedure) (sym (came_append core h.given given now)) (takes (came_all core h.given now) h.reached.follows);
       };
     }

@@ -1,6 +1,6 @@
 -- No image is emitted of a page whose width or resolution the called machine lacks.
-use Rattle.std.proofs.Common.{◌≡◌, ℕ, ◌≤◌, Bool, true, false, not, ◌&&◌, nat_eq, nat_lt, List, [], ◌∷◌, length, Option, Some, None, Result, Ok, Err, ◌⊎◌, inl, inr, refl, sym, ◌∙◌, subst, arith, if◌then◌else◌}
-use Rattle.std.proofs.lemmas.List.Elements.{All-nil, All-cons}
+use Rattle.std.proofs.Common.{◌≡◌, ℕ, ◌+◌, ◌<◌, ◌≤◌, Bool, true, false, not, ◌&&◌, nat_lt, nat_le, List, [], ◌∷◌, length, take, drop, slice_get, Option, Some, None, Result, Ok, Err, inl, inr, refl, sym, ◌∙◌, subst, arith, length-take, if◌then◌else◌}
+use Rattle.std.specs.Prelude.{IsSome}
 use Rattle.fax_runcodes.specs.declared.format.Format.{Format}
 use Rattle.fax_frames.specs.declared.dis.Dis.{Dis}
 use Rattle.fax_frames.specs.declared.dcs.Dcs.{Dcs}
@@ -14,26 +14,25 @@ use Rattle.fax_frames.specs.FieldBits.{has_bit}
 use Rattle.fax_frames.specs.Frames.{frame_of}
 use Rattle.fax_timers.specs.Moments.{is_due}
 use Rattle.fax_timers.specs.Paces.{pace_allows}
-use Rattle.fax_ifp.specs.declared.fault.IfpFault.{IfpFault}
 use Rattle.fax_ifp.specs.Elements as elements
-use Rattle.fax_ifp.specs.Elements.{elements_in}
-use Rattle.fax_ifp.specs.ImageOctets.{image_octets}
-use Rattle.fax_ifp.specs.Packets as packets
 use Rattle.fax_ifp.specs.Pieces as pieces
-use Rattle.fax_ifp.specs.WrittenPackets.{IsWritableField, IsWritable, frame_fields}
-use Rattle.fax_ifp.proofs.ReadBackLemmas as read_back
-use Rattle.fax_jobs.specs.declared.outcome.Outcome.{Outcome}
 use Rattle.fax_jobs.specs.declared.outcome.Outcome.TheVariants as outcomes
-use Rattle.fax_jobs.specs.Jobs.{JobValue}
+use Rattle.fax_jobs.specs.Jobs.{JobValue, IsJob}
 use Rattle.fax_call.specs.declared.state.State.{State}
 use Rattle.fax_call.specs.declared.state.State.TheVariants.{Idle, AwaitDis, AwaitCfr, AwaitMcf, Closing}
 use Rattle.fax_call.specs.Writings.{Writing}
-use Rattle.fax_call.specs.Replies.{Signals, Tells, Part, Due, One, Text, waits}
-use Rattle.fax_call.specs.Table.{Counts, Move, Stays, Trains, Sends, AsksAgain, Closes, HangsUp, first_try, by_choice, on_frame, on_timers}
-use Rattle.fax_call.specs.Calls.{Calling, started, moved, came, timed, taken, state_when_given, after_giving, Ticked, given_first, ticked, CallEvent, Comes, Ticks, after_events}
-use Rattle.fax_call.specs.Emission.{Emission, SinceDcs, since_dcs, emitted_with, emitted_at, Mark, Gave, Acknowledged, Refused, Begins, gave_all, elements_given, acknowledged_by, marks_heard, marks_given, marks_after, replied, EmitsBy, Emits}
-use Rattle.fax_call.specs.Refusals.{dis_by, dis_with, dis_taken, Allows, NoneIsLacking}
-use Rattle.fax_call.proofs.Refusals.{moved_format, format_in_call}
+use Rattle.fax_call.specs.Replies.{Packet, Part, Due, One, Text, waits, part_length, turn_behind, is_last_page}
+use Rattle.fax_call.specs.Table.{Counts, Move, Stays, Trains, Sends, AsksAgain, Turns, Closes, HangsUp, first_try, next_try, next_step, next_page, one_delivered, one_refused, most_tries, by_choice, turns_or, on_frame, on_timers}
+use Rattle.fax_call.specs.Calls.{Calling, started, moved, came, timed, text_at, Taken, taken, state_when_given, after_giving, Ticked, given_first, paced, ticked, CallEvent, Comes, Ticks, after_events}
+use Rattle.fax_call.specs.Emission.{Emission, since_dcs, emitted_at, Mark, Gave, gave_all, elements_given, marks_given, marks_after, replied, Reply, Emits}
+use Rattle.fax_call.specs.Refusals.{dis_by, dis_with, dis_taken, Allows, EndsImage, NoneIsLacking}
+use Rattle.fax_frames.specs.Rates.{kind_of}
+use Rattle.fax_ifp.specs.ImageOctets.{image_octets}
+use Rattle.fax_call.proofs.PacketsBack.{elements_in, part_back}
+use Rattle.fax_call.proofs.Waiting.{Texts, Quiet, SafeTo, PostOf, part_some, page_at}
+use Rattle.fax_call.proofs.Emitted.{InTurn, Kept, Good, not_last, le_if, gt_if, end_emits, timed_good, start_good, events_good}
+use Rattle.fax_call.proofs.Numbered.{numbers_are_fixed}
+use Rattle.fax_call.proofs.Due.{format_at}
 
 -- ---- the choice
 
@@ -48,272 +47,248 @@ chosen_allows dis format step dcs h = by (has_bit 10 dis.caps.0) (has_width form
     by true true true true r a b c d e = record { receives = a; width = b; fine = λ q. d }
     by true true false z r a b c d e = record { receives = a; width = b; fine = λ q. let w : false ≡ true = sym c ∙ q in cc }
 
--- ---- no image was emitted in the call
+-- ---- behind a DIS that was taken, the format of the page due is allowed
 
-NoneOf : List Mark → Type 0
-NoneOf [] = Unit {0}
-NoneOf (Begins ∷ marks) = Unit {0}
-NoneOf (Acknowledged ∷ marks) = NoneOf marks
-NoneOf (Refused ∷ marks) = NoneOf marks
-NoneOf (Gave e ∷ marks) = (emitted_at (elements_given marks) e ≡ None) × NoneOf marks
+abbrev Allowed : Dis → Format → Option Dis → Type 0
+Allowed dis format o = (o ≡ Some dis) × Allows dis format
 
-none_emitted : (job : JobValue) (marks : List Mark) (n : ℕ) → NoneOf marks → Emits job marks (Some n) → ⊥
-unfolding NoneOf
-none_emitted job [] n q e = e
-none_emitted job (Begins ∷ marks) n q e = e
-none_emitted job (Acknowledged ∷ marks) n q e = none_emitted job marks n q e
-none_emitted job (Refused ∷ marks) n q e = none_emitted job marks n q e
-none_emitted job (Gave x ∷ marks) n q e = by (emitted_at (elements_given marks) x) q.0 (λ h. none_emitted job marks n q.1 h) e
+abbrev pub HeldOf : State → Format → Option Dis → Type 0
+HeldOf (AwaitCfr dis dcs) format o = Allowed dis format o
+HeldOf (AwaitMcf dis dcs) format o = Allowed dis format o
+HeldOf state format o = Unit {0}
+
+abbrev HeldMove : Format → Option Dis → Move → Type 0
+HeldMove format o (Trains dis dcs c) = Allowed dis format o
+HeldMove format o (Sends dis dcs c) = Allowed dis format o
+HeldMove format o m = Unit {0}
+
+moved_held : (a : Calling) (o : Option Dis) (m : Move) → HeldOf a.state a.format o → HeldMove a.format o m → HeldOf (moved a m).state (moved a m).format o
+moved_held a o Stays h k = h
+moved_held a o (Trains dis dcs c) h k = k
+moved_held a o (Sends dis dcs c) h k = k
+moved_held a o (AsksAgain c) h k = h
+moved_held a o (Turns format t1 c) h k = tt
+moved_held a o (Closes outcome c) h k = tt
+moved_held a o HangsUp h k = tt
+
+if_held : (format : Format) (o : Option Dis) (t : Bool) (m n : Move) → HeldMove format o m → HeldMove format o n → HeldMove format o (if t then m else n)
+if_held format o true m n x y = x
+if_held format o false m n x y = y
+
+choice_held : (format : Format) (dis : Dis) (c : Counts) (step : ℕ) (o : Option Dis) (r : Result Dcs Refusal) → choice dis format step ≡ r → o ≡ Some dis → HeldMove format o (by_choice dis c r)
+choice_held format dis c step o (Ok dcs) h e = (e, chosen_allows dis format step dcs h)
+choice_held format dis c step o (Err refusal) h e = tt
+
+turns_held : (format : Format) (o : Option Dis) (now : ℕ) (c : Counts) (m : Move) (t : Option Format) → HeldMove format o m → HeldMove format o (turns_or now t c m)
+turns_held format o now c m (Some next) k = tt
+turns_held format o now c m None k = k
+
+frame_held : (now : ℕ) (format : Format) (turn : Option Format) (pages : ℕ) (o : Option Dis) (state : State) (c : Counts) (frame : Option Frame) → HeldOf state format o
+    → HeldMove format (dis_by state false frame o) (on_frame now format turn pages state c frame)
+frame_held now format turn pages o AwaitDis c (Some (frames.Dis dis)) h = choice_held format dis (first_try c) c.step (Some dis) (choice dis format c.step) refl refl
+frame_held now format turn pages o AwaitDis c (Some frames.Dcn) h = tt
+frame_held now format turn pages o AwaitDis c frame h = tt
+frame_held now format turn pages o (AwaitCfr dis dcs) c (Some frames.Cfr) h = h
+frame_held now format turn pages o (AwaitCfr dis dcs) c (Some frames.Ftt) h = choice_held format dis (next_step c) (c.step + 1) o (choice dis format (c.step + 1)) refl h.0
+frame_held now format turn pages o (AwaitCfr dis dcs) c (Some (frames.Dis other)) h = if_held format o (nat_lt c.tries most_tries) (Trains dis dcs (next_try c)) (Closes outcomes.NoReply c) h tt
+frame_held now format turn pages o (AwaitCfr dis dcs) c (Some frames.Dcn) h = tt
+frame_held now format turn pages o (AwaitMcf dis dcs) c (Some frames.Mcf) h =
+    if_held format o (is_last_page pages c.page) (Closes outcomes.Delivered (one_delivered c)) (turns_or now turn c (Sends dis dcs (next_page c))) tt (turns_held format o now c (Sends dis dcs (next_page c)) turn h)
+frame_held now format turn pages o (AwaitMcf dis dcs) c (Some frames.Rtp) h =
+    if_held format o (is_last_page pages c.page) (Closes outcomes.Delivered (one_delivered c)) (turns_or now turn c (Trains dis dcs (next_page c))) tt (turns_held format o now c (Trains dis dcs (next_page c)) turn h)
+frame_held now format turn pages o (AwaitMcf dis dcs) c (Some frames.Rtn) h = if_held format o (nat_lt c.refused 2) (Trains dis dcs (one_refused c)) (Closes outcomes.PageRefused c) h tt
+frame_held now format turn pages o (AwaitMcf dis dcs) c (Some frames.Dcn) h = tt
+frame_held now format turn pages o state c frame h = tt
+
+kept_held : (state : State) (format : Format) (w : Bool) (frame : Option Frame) (o : Option Dis) → HeldOf state format o → HeldOf state format (dis_by state w frame o)
+kept_held Idle format w frame o h = tt
+kept_held AwaitDis format w frame o h = tt
+kept_held (AwaitCfr dis dcs) format w frame o h = h
+kept_held (AwaitMcf dis dcs) format w frame o h = h
+kept_held (Closing x) format w frame o h = tt
+
+timers_held : (format : Format) (o : Option Dis) (x y : Bool) (state : State) (c : Counts) → HeldOf state format o → HeldMove format o (on_timers x y state c)
+timers_held format o x y Idle c h = tt
+timers_held format o x y (Closing z) c h = tt
+timers_held format o true y AwaitDis c h = tt
+timers_held format o false y AwaitDis c h = tt
+timers_held format o x true (AwaitCfr dis dcs) c h = if_held format o (nat_lt c.tries most_tries) (Trains dis dcs (next_try c)) (Closes outcomes.NoReply c) h tt
+timers_held format o x false (AwaitCfr dis dcs) c h = tt
+timers_held format o x true (AwaitMcf dis dcs) c h = if_held format o (nat_lt c.tries most_tries) (AsksAgain (next_try c)) (Closes outcomes.NoReply c) tt tt
+timers_held format o x false (AwaitMcf dis dcs) c h = tt
+
+-- ---- a piece, and a tick
+
+abbrev pub Held : Calling → Option Dis → Type 0
+Held a o = HeldOf a.state a.format o
+
+came_held : (a : Calling) (o : Option Dis) (piece : pieces.Piece) (now : ℕ) → Held a o → Held (came a piece now) (dis_with a piece o)
+came_held a o (pieces.Frame octets) now h = by (waits a.waiting)
   where
-    by : (o : Option Emission) → o ≡ None → (Emits job marks (Some n) → ⊥) → EmitsBy job o (replied marks) (Some n) (Emits job marks) → ⊥
-    by None h f e = f e
-    by (Some emission) h f e = cc
+    turn : Option Format
+    turn = turn_behind a.formats a.counts.page
 
-none_heard : (o : Option Frame) (marks : List Mark) → NoneOf marks → NoneOf (acknowledged_by o marks)
-unfolding NoneOf
-none_heard (Some frames.Mcf) marks q = q
-none_heard (Some frames.Rtp) marks q = q
-none_heard (Some frames.Rtn) marks q = q
-none_heard frame marks q = q
+    by : (w : Bool) → Held (moved a (if w then Stays else on_frame now a.format turn a.pages a.state a.counts (frame_of octets))) (dis_by a.state w (frame_of octets) o)
+    by true = kept_held a.state a.format true (frame_of octets) o h
+    by false =
+        moved_held a (dis_by a.state false (frame_of octets) o) (on_frame now a.format turn a.pages a.state a.counts (frame_of octets)) (kept_held a.state a.format false (frame_of octets) o h)
+        (frame_held now a.format turn a.pages o a.state a.counts (frame_of octets) h)
+came_held a o (pieces.Start k) now h = h
+came_held a o (pieces.Octets os) now h = h
+came_held a o (pieces.End w) now h = h
+came_held a o pieces.Gap now h = h
 
--- ---- what gives no image
+pub timed_held : (a : Calling) (o : Option Dis) (now : ℕ) → Held a o → Held (timed a now) o
+timed_held a o now h =
+    moved_held a o _ h (if_held a.format o (waits a.waiting) Stays (on_timers (is_due a.t1 now) (is_due a.t4 now) a.state a.counts) tt
+    (timers_held a.format o (is_due a.t1 now) (is_due a.t4 now) a.state a.counts h))
 
--- a field that ends no high-speed signal
-no_image : (before : List elements.Element) (kind what : ℕ) (octets : List ℕ) → nat_eq what 7 ≡ false → emitted_at before (elements.Field kind what octets) ≡ None
-no_image before kind what octets h = by (since_dcs before) (pieces.open_image before) (image_octets before)
+given_held : (state : State) (format : Format) (o : Option Dis) → HeldOf state format o → HeldOf (state_when_given state) format o
+given_held Idle format o h = tt
+given_held AwaitDis format o h = tt
+given_held (AwaitCfr dis dcs) format o h = h
+given_held (AwaitMcf dis dcs) format o h = h
+given_held (Closing x) format o h = tt
+
+after_held : (a : Calling) (o : Option Dis) (now : ℕ) (rest : List Due) → Held a o → Held (after_giving a now rest) o
+after_held a o now [] h = given_held a.state a.format o h
+after_held a o now (d ∷ rest) h = h
+
+first_held : (writes : Writing) (job : JobValue) (a : Calling) (o : Option Dis) (now : ℕ) (due : List Due) → Held a o → Held (given_first writes job a now due).core o
+first_held writes job a o now [] h = h
+first_held writes job a o now (d ∷ due) h = after_held a o now (taken writes job d due).rest h
+
+ticked_held : (writes : Writing) (job : JobValue) (a : Calling) (o : Option Dis) (now : ℕ) → Held a o → Held (ticked writes job a now).core o
+ticked_held writes job a o now h = by (timed a now) (timed_held a o now h) (pace_allows (timed a now).last now)
   where
-    none : (a b c : Bool) → b ≡ false → (x : Emission) → (if a && (b && c) then Some x else None) ≡ None
-    none true true c e x = cc
-    none true false c e x = refl
-    none false b c e x = refl
+    by : (b : Calling) → Held b o → (t : Bool) → Held (if◌then◌else◌ {A = Ticked} t (given_first writes job b now b.waiting) (record { core = b; given = None })).core o
+    by b k true = first_held writes job b o now b.waiting k
+    by b k false = k
 
-    by : (s : Option SinceDcs) (i : Option pieces.Image) (begun : List ℕ) → emitted_with s i begun kind what octets ≡ None
-    by None i begun = refl
-    by (Some s) None begun = refl
-    by (Some s) (Some image) begun = none (nat_eq kind image.kind) (nat_eq what 7) (nat_lt 1 s.signals) h _
+pub held_in_call : (writes : Writing) (job : JobValue) (core : Calling) (start : ℕ) (events : List CallEvent) → Held (after_events writes job (started core job start) events) (dis_taken writes job (started core job start) events)
+held_in_call writes job core start [] = tt
+held_in_call writes job core start (Comes piece now ∷ before) =
+    let begun : Calling = started core job start in
+    came_held (after_events writes job begun before) (dis_taken writes job begun before) piece now (held_in_call writes job core start before)
+held_in_call writes job core start (Ticks now ∷ before) =
+    let begun : Calling = started core job start in
+    ticked_held writes job (after_events writes job begun before) (dis_taken writes job begun before) now (held_in_call writes job core start before)
 
--- an indicator, or a frame
-IsQuiet : Due → Type 0
-IsQuiet (One (Signals code)) = code ≤ 15
-IsQuiet (One (Tells frame)) = (1 ≤ length frame) × (length frame ≤ 65535)
-IsQuiet (One (Part kind last octets)) = ⊥
-IsQuiet (Text page dcs from) = ⊥
+-- ---- what ends an image
 
-AreQuiet : List Due → Type 0
-AreQuiet [] = Unit {0}
-AreQuiet (d ∷ due) = IsQuiet d × AreQuiet due
+none_some : (o : Option Emission) → o ≡ None → IsSome o → ⊥
+none_some None e s = cc
+none_some (Some x) e s = cc
 
-frame_back : (frame : List ℕ) → 1 ≤ length frame → length frame ≤ 65535 → IsWritable 0 (frame_fields frame)
-frame_back frame some few =
-    let octets : packets.FieldText = record { what = 0; octets = Some frame } in
-    let end : packets.FieldText = record { what = 4; octets = None } in
-    record {
-      known = omega arith;
-      few = omega arith;
-      each = All-cons IsWritableField octets (end ∷ []) (record { what = omega arith; octets = (some, few) })
-          (All-cons IsWritableField end [] (record { what = omega arith; octets = tt }) (All-nil IsWritableField));
-    }
+quiet_ends : (es : List elements.Element) (marks : List Mark) → Quiet (elements_given marks) es → EndsImage es marks → ⊥
+quiet_ends [] marks q h = h
+quiet_ends (e ∷ es) marks q (inl s) = none_some (emitted_at (elements_given marks) e) q.0 s
+quiet_ends (e ∷ es) marks q (inr h) = quiet_ends es (Gave e ∷ marks) q.1 h
 
-none_given : (writes : Writing) (job : JobValue) (d : Due) (due : List Due) (marks : List Mark) → IsQuiet d → NoneOf marks → NoneOf (marks_given (Some (taken writes job d due).packet) marks)
-unfolding NoneOf IsQuiet
-none_given writes job (One (Signals code)) due marks q n =
-    subst (λ (r : Result packets.Packet IfpFault). NoneOf (gave_all (elements_in r) marks)) (sym (read_back.indicators code q)) (refl, n)
-none_given writes job (One (Tells frame)) due marks q n =
-    let before : List elements.Element = elements_given marks in
-    let octets : elements.Element = elements.Field 0 0 frame in
-    subst (λ (r : Result packets.Packet IfpFault). NoneOf (gave_all (elements_in r) marks)) (sym (read_back.messages_back 0 (frame_fields frame) (frame_back frame q.0 q.1)))
-    (no_image (octets ∷ before) 0 4 [] refl, (no_image before 0 0 frame refl, n))
-none_given writes job (One (Part kind last octets)) due marks q n = absurd q
-none_given writes job (Text page dcs from) due marks q n = absurd q
-
-rest_of : (writes : Writing) (job : JobValue) (d : Due) (due : List Due) → IsQuiet d → AreQuiet due → AreQuiet (taken writes job d due).rest
-unfolding IsQuiet
-rest_of writes job (One packet) due q h = h
-rest_of writes job (Text page dcs from) due q h = absurd q
-
--- ---- before a DIS was taken that allows the format, and behind it
-
-IsBefore : State → Type 0
-IsBefore Idle = Unit {0}
-IsBefore AwaitDis = Unit {0}
-IsBefore (AwaitCfr dis dcs) = ⊥
-IsBefore (AwaitMcf dis dcs) = ⊥
-IsBefore (Closing outcome) = Unit {0}
-
-IsBehind : State → Type 0
-IsBehind Idle = Unit {0}
-IsBehind AwaitDis = ⊥
-IsBehind (AwaitCfr dis dcs) = Unit {0}
-IsBehind (AwaitMcf dis dcs) = Unit {0}
-IsBehind (Closing outcome) = Unit {0}
-
-record Before (a : Calling) (marks : List Mark) : Type 0 where
-  state : IsBefore a.state
-  quiet : AreQuiet a.waiting
-  none : NoneOf marks
-
-record Behind (a : Calling) (o : Option Dis) : Type 0 where
-  state : IsBehind a.state
+-- the last part of a text alone, in Await MCF
+record InMcf (texts : Texts) (job : JobValue) (a : Calling) (marks : List Mark) (packet : Packet) : Type 0 where
   dis : Dis
-  is_taken : o ≡ Some dis
-  allows : Allows dis a.format
+  dcs : Dcs
+  state : a.state ≡ AwaitMcf dis dcs
+  emits : Emits job (gave_all (elements_in packet) marks) (Some a.counts.page)
 
-Held : Calling → Option Dis → List Mark → Type 0
-Held a o marks = Before a marks ⊎ Behind a o
+in_mcf : (last : Option ℕ) (r : Reply) (page m : ℕ) (state : State) (c : Dcs) (from : ℕ) (due : List Due) (before : List elements.Element) → InTurn last r page state (Text m c from ∷ due) before →
+    (dis : Dis) × (dcs : Dcs) × (state ≡ AwaitMcf dis dcs)
+in_mcf last r page m Idle c from due before t = let q : false ≡ true = t in cc
+in_mcf last r page m AwaitDis c from due before t = absurd t.1
+in_mcf last r page m (AwaitCfr dis dcs) c from due before t = absurd t.1
+in_mcf last r page m (AwaitMcf dis dcs) c from due before t = (dis, dcs, refl)
+in_mcf last r page m (Closing x) c from due before t = let q : false ≡ true = t in cc
 
--- ---- a move
-
-move_behind : (a : Calling) (m : Move) → IsBehind a.state → IsBehind (moved a m).state
-unfolding IsBehind
-move_behind a Stays h = h
-move_behind a (Trains dis dcs c) h = tt
-move_behind a (Sends dis dcs c) h = tt
-move_behind a (AsksAgain c) h = h
-move_behind a (Closes outcome c) h = tt
-move_behind a HangsUp h = tt
-
-moved_behind : (a : Calling) (m : Move) (o : Option Dis) → Behind a o → Behind (moved a m) o
-moved_behind a m o b =
-    record { state = move_behind a m b.state; dis = b.dis; is_taken = b.is_taken; allows = subst (Allows b.dis) (sym (moved_format a m)) b.allows }
-
-stays_before : (a : Calling) (o : Option Dis) (marks : List Mark) → Before a marks → Held (moved a Stays) o marks
-unfolding Held
-stays_before a o marks b = inl b
-
-closes_before : (a : Calling) (o : Option Dis) (marks : List Mark) (outcome : Outcome) (c : Counts) → Before a marks → Held (moved a (Closes outcome c)) o marks
-unfolding Held IsBefore AreQuiet IsQuiet
-closes_before a o marks outcome c b = inl (record { state = tt; quiet = (omega arith, ((omega arith, omega arith), tt)); none = b.none })
-
--- ---- a piece
-
-choice_held : (a : Calling) (dis : Dis) (c : Counts) (step : ℕ) (marks : List Mark) (r : Result Dcs Refusal) → choice dis a.format step ≡ r → Before a marks → Held (moved a (by_choice dis c r)) (Some dis) marks
-unfolding Held IsBehind
-choice_held a dis c step marks (Ok dcs) h b = inr (record { state = tt; dis = dis; is_taken = refl; allows = chosen_allows dis a.format step dcs h })
-choice_held a dis c step marks (Err refusal) h b = closes_before a (Some dis) marks _ c b
-
-frame_before : (a : Calling) (o : Option Dis) (marks : List Mark) (state : State) (frame : Option Frame) → IsBefore state → Before a marks
-    → Held (moved a (on_frame a.format a.pages state a.counts frame)) (dis_by state false frame o) marks
-unfolding Held IsBefore AreQuiet
-frame_before a o marks Idle frame s b = inl b
-frame_before a o marks (Closing outcome) frame s b = inl b
-frame_before a o marks (AwaitCfr dis dcs) frame s b = absurd s
-frame_before a o marks (AwaitMcf dis dcs) frame s b = absurd s
-frame_before a o marks AwaitDis (Some (frames.Dis dis)) s b = choice_held a dis (first_try a.counts) a.counts.step marks (choice dis a.format a.counts.step) refl b
-frame_before a o marks AwaitDis (Some frames.Dcn) s b = inl (record { state = tt; quiet = tt; none = b.none })
-frame_before a o marks AwaitDis frame s b = inl b
-
-dis_stays : (state : State) (t : Bool) (frame : Option Frame) (o : Option Dis) → IsBehind state → dis_by state t frame o ≡ o
-unfolding IsBehind
-dis_stays Idle t frame o h = refl
-dis_stays AwaitDis t frame o h = absurd h
-dis_stays (AwaitCfr dis dcs) t frame o h = refl
-dis_stays (AwaitMcf dis dcs) t frame o h = refl
-dis_stays (Closing outcome) t frame o h = refl
-
-came_held : (a : Calling) (o : Option Dis) (marks : List Mark) (piece : pieces.Piece) → Held a o marks → Held (came a piece) (dis_with a piece o) (marks_heard piece marks)
-unfolding Held
-came_held a o marks (pieces.Frame octets) (inl b) =
-    let c : Before a (acknowledged_by (frame_of octets) marks) = record { state = b.state; quiet = b.quiet; none = none_heard (frame_of octets) marks b.none } in
-    by (waits a.waiting) c
+text_ends : (texts : Texts) (job : JobValue) (a : Calling) (marks : List Mark) (dcs : Dcs) (from : ℕ) (due : List Due) (last : Option ℕ) → IsJob job → a.counts.page < length job.pages → Emits job marks last →
+    SafeTo texts job a.counts.page (PostOf a.state) (Text a.counts.page dcs from ∷ due) (elements_given marks) → InTurn last (replied marks) a.counts.page a.state (Text a.counts.page dcs from ∷ due) (elements_given marks) →
+    EndsImage (elements_in (taken texts.writes job (Text a.counts.page dcs from) due).packet) marks →
+    Emits job (gave_all (elements_in (taken texts.writes job (Text a.counts.page dcs from) due).packet) marks) (Some a.counts.page)
+text_ends texts job a marks dcs from due last is within e s t h0 = by (nat_le (length os) (part_length dcs)) refl h0
   where
-    by : (t : Bool) → Before a (acknowledged_by (frame_of octets) marks)
-        → Held (moved a (if t then Stays else on_frame a.format a.pages a.state a.counts (frame_of octets))) (dis_by a.state t (frame_of octets) o) (acknowledged_by (frame_of octets) marks)
-    by true c = inl c
-    by false c = frame_before a o (acknowledged_by (frame_of octets) marks) a.state (frame_of octets) c.state c
-came_held a o marks (pieces.Frame octets) (inr b) =
-    inr (subst (Behind (came a (pieces.Frame octets))) (sym (dis_stays a.state (waits a.waiting) (frame_of octets) o b.state)) (moved_behind a _ o b))
-came_held a o marks (pieces.Start kind) h = h
-came_held a o marks (pieces.Octets octets) h = h
-came_held a o marks (pieces.End whole) h = h
-came_held a o marks pieces.Gap h = h
+    page : ℕ
+    page = a.counts.page
 
--- ---- a tick
+    os : List ℕ
+    os = drop from (text_at texts.writes job page dcs)
 
-timers_before : (a : Calling) (o : Option Dis) (marks : List Mark) (x y : Bool) (state : State) → IsBefore state → Before a marks → Held (moved a (on_timers x y state a.counts)) o marks
-unfolding Held IsBefore
-timers_before a o marks x y Idle s b = inl b
-timers_before a o marks x y (Closing outcome) s b = inl b
-timers_before a o marks x y (AwaitCfr dis dcs) s b = absurd s
-timers_before a o marks x y (AwaitMcf dis dcs) s b = absurd s
-timers_before a o marks true y AwaitDis s b = closes_before a o marks outcomes.NoAnswer a.counts b
-timers_before a o marks false y AwaitDis s b = inl b
+    last_one : Taken
+    last_one = record { packet = Part (kind_of dcs.rate) true os; rest = due }
 
-timed_held : (a : Calling) (o : Option Dis) (marks : List Mark) (now : ℕ) → Held a o marks → Held (timed a now) o marks
-unfolding Held
-timed_held a o marks now (inl b) = by (waits a.waiting)
+    more : Taken
+    more = record { packet = Part (kind_of dcs.rate) false (take (part_length dcs) os); rest = Text page dcs (from + part_length dcs) ∷ due }
+
+    ends : EndsImage (elements_in last_one.packet) marks → nat_le (length os) (part_length dcs) ≡ true → Emits job (gave_all (elements_in last_one.packet) marks) (Some page)
+    ends h k = end_emits texts job page a.state marks dcs from due last is within e s t (le_if (length os) (part_length dcs) k)
+
+    goes_on : nat_le (length os) (part_length dcs) ≡ false → EndsImage (elements_in more.packet) marks → ⊥
+    goes_on k h =
+        let ps = part_some dcs.rate in
+        let part : List ℕ = take (part_length dcs) os in
+        let long : part_length dcs < length os = gt_if (length os) (part_length dcs) k in
+        let l : length part ≡ part_length dcs = grind (arith, length-take) in
+        let l1 : 1 ≤ part_length dcs = ps.0 in let l2 : part_length dcs ≤ 65535 = ps.1 in
+        let before : List elements.Element = elements_given marks in
+        let q : emitted_at before (elements.Field (kind_of dcs.rate) 6 part) ≡ None = not_last (since_dcs before) (pieces.open_image before) (image_octets before) (kind_of dcs.rate) part in
+        quiet_ends (elements.Field (kind_of dcs.rate) 6 part ∷ []) marks (q, tt)
+        (subst (λ (es : List elements.Element). EndsImage es marks) (part_back dcs.rate false part (omega arith) (omega arith)) h)
+
+    by : (w : Bool) → nat_le (length os) (part_length dcs) ≡ w → EndsImage (elements_in (if◌then◌else◌ {A = Taken} w last_one more).packet) marks →
+        Emits job (gave_all (elements_in (if◌then◌else◌ {A = Taken} w last_one more).packet) marks) (Some page)
+    by true k h = ends h k
+    by false k h = absurd (goes_on k h)
+
+-- so it is in each tick that gives such a packet
+first_ends : (texts : Texts) (job : JobValue) (a : Calling) (now : ℕ) (marks : List Mark) (packet : Packet) (w : List Due) → a.waiting ≡ w → Good texts job a marks → (given_first texts.writes job a now w).given ≡ Some packet →
+    EndsImage (elements_in packet) marks → InMcf texts job a marks packet
+first_ends texts job a now marks packet [] e g is h = cc
+first_ends texts job a now marks packet (One p ∷ due) e g is h =
+    let same : p ≡ packet = cc in
+    let s : SafeTo texts job a.counts.page (PostOf a.state) (One p ∷ due) (elements_given marks) = subst (λ (w : List Due). SafeTo texts job a.counts.page (PostOf a.state) w (elements_given marks)) e g.kept.safe in
+    absurd (quiet_ends (elements_in p) marks s.0 (subst (λ (x : Packet). EndsImage (elements_in x) marks) (sym same) h))
+first_ends texts job a now marks packet (Text m dcs from ∷ due) e g is h =
+    let s : SafeTo texts job a.counts.page (PostOf a.state) (Text m dcs from ∷ due) (elements_given marks) = subst (λ (w : List Due). SafeTo texts job a.counts.page (PostOf a.state) w (elements_given marks)) e g.kept.safe in
+    let t : InTurn g.last (replied marks) a.counts.page a.state (Text m dcs from ∷ due) (elements_given marks) = subst (λ (w : List Due). InTurn g.last (replied marks) a.counts.page a.state w (elements_given marks)) e g.turn in
+    let same : (taken texts.writes job (Text m dcs from) due).packet ≡ packet = cc in
+    by m s.0 s t (subst (λ (x : Packet). EndsImage (elements_in x) marks) (sym same) h) same
   where
-    by : (t : Bool) → Held (moved a (if t then Stays else on_timers (is_due a.t1 now) (is_due a.t4 now) a.state a.counts)) o marks
-    by true = inl b
-    by false = timers_before a o marks (is_due a.t1 now) (is_due a.t4 now) a.state b.state b
-timed_held a o marks now (inr b) = inr (moved_behind a _ o b)
+    by : (m : ℕ) → m ≡ a.counts.page → SafeTo texts job a.counts.page (PostOf a.state) (Text m dcs from ∷ due) (elements_given marks) → InTurn g.last (replied marks) a.counts.page a.state (Text m dcs from ∷ due) (elements_given marks) →
+        EndsImage (elements_in (taken texts.writes job (Text m dcs from) due).packet) marks → (taken texts.writes job (Text m dcs from) due).packet ≡ packet → InMcf texts job a marks packet
+    by m q s t h same =
+        let s1 = subst (λ (k : ℕ). SafeTo texts job a.counts.page (PostOf a.state) (Text k dcs from ∷ due) (elements_given marks)) q s in
+        let t1 = subst (λ (k : ℕ). InTurn g.last (replied marks) a.counts.page a.state (Text k dcs from ∷ due) (elements_given marks)) q t in
+        let h1 = subst (λ (k : ℕ). EndsImage (elements_in (taken texts.writes job (Text k dcs from) due).packet) marks) q h in
+        let same1 = subst (λ (k : ℕ). (taken texts.writes job (Text k dcs from) due).packet ≡ packet) q same in
+        let p = in_mcf g.last (replied marks) a.counts.page a.counts.page a.state dcs from due (elements_given marks) t1 in
+        record {
+          dis = p.0;
+          dcs = p.1;
+          state = p.2;
+          emits = subst (λ (x : Packet). Emits job (gave_all (elements_in x) marks) (Some a.counts.page)) same1 (text_ends texts job a marks dcs from due g.last g.kept.is_job g.kept.within g.kept.emits s1 t1 h1);
+        }
 
-given_before : (state : State) → IsBefore state → IsBefore (state_when_given state)
-unfolding IsBefore
-given_before Idle h = h
-given_before AwaitDis h = h
-given_before (AwaitCfr dis dcs) h = h
-given_before (AwaitMcf dis dcs) h = h
-given_before (Closing outcome) h = tt
-
-given_behind : (state : State) → IsBehind state → IsBehind (state_when_given state)
-unfolding IsBehind
-given_behind Idle h = h
-given_behind AwaitDis h = h
-given_behind (AwaitCfr dis dcs) h = h
-given_behind (AwaitMcf dis dcs) h = h
-given_behind (Closing outcome) h = tt
-
-after_before : (a : Calling) (marks : List Mark) (now : ℕ) (rest : List Due) → IsBefore a.state → AreQuiet rest → NoneOf marks → Before (after_giving a now rest) marks
-unfolding AreQuiet
-after_before a marks now [] s q n = record { state = given_before a.state s; quiet = tt; none = n }
-after_before a marks now (d ∷ rest) s q n = record { state = s; quiet = q; none = n }
-
-after_behind : (a : Calling) (o : Option Dis) (now : ℕ) (rest : List Due) → Behind a o → Behind (after_giving a now rest) o
-after_behind a o now [] b = record { state = given_behind a.state b.state; dis = b.dis; is_taken = b.is_taken; allows = b.allows }
-after_behind a o now (d ∷ rest) b = record { state = b.state; dis = b.dis; is_taken = b.is_taken; allows = b.allows }
-
-first_held : (writes : Writing) (job : JobValue) (a : Calling) (o : Option Dis) (marks : List Mark) (now : ℕ) (due : List Due) → a.waiting ≡ due → Held a o marks
-    → Held (given_first writes job a now due).core o (marks_given (given_first writes job a now due).given marks)
-unfolding Held AreQuiet
-first_held writes job a o marks now [] w h = h
-first_held writes job a o marks now (d ∷ due) w (inl b) =
-    let q : IsQuiet d × AreQuiet due = subst AreQuiet w b.quiet in
-    inl (after_before a _ now (taken writes job d due).rest b.state (rest_of writes job d due q.0 q.1) (none_given writes job d due marks q.0 b.none))
-first_held writes job a o marks now (d ∷ due) w (inr b) = inr (after_behind a o now (taken writes job d due).rest b)
-
-ticked_held : (writes : Writing) (job : JobValue) (a : Calling) (o : Option Dis) (marks : List Mark) (now : ℕ) → Held a o marks
-    → Held (ticked writes job a now).core o (marks_given (ticked writes job a now).given marks)
-ticked_held writes job a o marks now h = by (timed a now) (timed_held a o marks now h) (pace_allows (timed a now).last now)
+paced_ends : (texts : Texts) (job : JobValue) (a : Calling) (now : ℕ) (marks : List Mark) (packet : Packet) → Good texts job a marks → (paced texts.writes job a now).given ≡ Some packet → EndsImage (elements_in packet) marks → InMcf texts job a marks packet
+paced_ends texts job a now marks packet g is h = by (pace_allows a.last now) is
   where
-    tick : (b : Calling) → Bool → Ticked
-    tick b t = if◌then◌else◌ {A = Ticked} t (given_first writes job b now b.waiting) (record { core = b; given = None })
-
-    by : (b : Calling) → Held b o marks → (t : Bool) → Held (tick b t).core o (marks_given (tick b t).given marks)
-    by b h true = first_held writes job b o marks now b.waiting refl h
-    by b h false = h
-
--- ---- a call
-
-held_in_call : (writes : Writing) (job : JobValue) (old : List Mark) (core : Calling) (start : ℕ) (events : List CallEvent) →
-    let begun : Calling = started core job.format (length job.pages) start in
-    Held (after_events writes job begun events) (dis_taken writes job begun events) (marks_after writes job old begun events)
-unfolding Held IsBefore AreQuiet IsQuiet NoneOf
-held_in_call writes job old core start [] = inl (record { state = tt; quiet = (omega arith, tt); none = tt })
-held_in_call writes job old core start (Comes piece ∷ before) =
-    let begun : Calling = started core job.format (length job.pages) start in
-    came_held (after_events writes job begun before) (dis_taken writes job begun before) (marks_after writes job old begun before) piece (held_in_call writes job old core start before)
-held_in_call writes job old core start (Ticks now ∷ before) =
-    let begun : Calling = started core job.format (length job.pages) start in
-    ticked_held writes job (after_events writes job begun before) (dis_taken writes job begun before) (marks_after writes job old begun before) now (held_in_call writes job old core start before)
+    by : (w : Bool) → (if◌then◌else◌ {A = Ticked} w (given_first texts.writes job a now a.waiting) (record { core = a; given = None })).given ≡ Some packet → InMcf texts job a marks packet
+    by true q = first_ends texts job a now marks packet a.waiting refl g q h
+    by false q = cc
 
 pub none_is_lacking : NoneIsLacking
-unfolding Held
-none_is_lacking writes job old core start events n is_writing is_job emits = by (held_in_call writes job old core start events)
-  where
-    begun : Calling
-    begun = started core job.format (length job.pages) start
-
-    by : Held (after_events writes job begun events) (dis_taken writes job begun events) (marks_after writes job old begun events)
-        → (dis : Dis) × (dis_taken writes job begun events ≡ Some dis) × Allows dis job.format
-    by (inl b) = absurd (none_emitted job (marks_after writes job old begun events) n b.none emits)
-    by (inr b) = (b.dis, b.is_taken, subst (Allows b.dis) (format_in_call writes job begun events) b.allows)
+none_is_lacking writes job old core start before now packet n is_writing is_job given ends emits =
+    let texts : Texts = record { writes = writes; are = is_writing } in
+    let begun : Calling = started core job start in
+    let a : Calling = after_events writes job begun before in
+    let marks : List Mark = marks_after writes job old begun before in
+    let g : Good texts job a marks = events_good texts job old begun before is_job (start_good texts job old core start is_job) in
+    let t : Calling = timed a now in
+    let m : InMcf texts job t marks packet = paced_ends texts job t now marks packet (timed_good texts job a now marks g) given ends in
+    let o : Option Dis = dis_taken writes job begun before in
+    let held : HeldOf (AwaitMcf m.dis m.dcs) t.format o = subst (λ (s : State). HeldOf s t.format o) m.state (timed_held a o now (held_in_call writes job core start before)) in
+    let after : Emits job (gave_all (elements_in packet) marks) (Some n) = subst (λ (p : Option Packet). Emits job (marks_given p marks) (Some n)) given emits in
+    let same : Some (Some n) ≡ Some (Some t.counts.page) = sym (numbers_are_fixed job (gave_all (elements_in packet) marks) (Some n) after) ∙ numbers_are_fixed job (gave_all (elements_in packet) marks) (Some t.counts.page) m.emits in
+    let at : t.counts.page ≡ n = cc in
+    let k : Kept texts job t marks (timed_good texts job a now marks g).last = (timed_good texts job a now marks g).kept in
+    let p = page_at job.pages t.counts.page k.within in
+    let format : p.0.format ≡ t.format = k.due.due p.0.format (format_at job.pages t.counts.page p.0 p.1) in
+    (p.0, subst (λ (i : ℕ). slice_get job.pages i ≡ Some p.0) at p.1, m.dis, held.0, subst (Allows m.dis) (sym format) held.1)

@@ -3,7 +3,9 @@ mod Examples
 mod FollowingLemmas
 mod GivingLemmas
 mod HearingLemmas
+mod JobLemmas
 mod KeptLemmas
+mod MakingLemmas
 mod Numbered
 mod PacketLemmas
 mod PacketsBack
@@ -16,6 +18,8 @@ mod Unanswered
 mod Waiting
 pub mod ClosedPackets
 pub mod Emitted
+pub mod Due
+pub mod GivingUp
 pub mod Lacking
 pub mod Texts
 pub mod Told

@@ -63,7 +63,7 @@ packet_short (Frame (messages.Dcs dcs)) text = omega arith
 packet_short (Frame (messages.Plain plain)) text = omega arith
 packet_short (Training dcs) text = omega arith
 packet_short (Check dcs given) text = check_short dcs given
-packet_short (Image dcs plain) text = omega arith
+packet_short (Image dcs) text = omega arith
 packet_short (Text dcs plain) text = text_short dcs text
 
 -- the same of what is given, where it is one

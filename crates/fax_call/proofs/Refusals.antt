@@ -1,5 +1,5 @@
 -- A job for which a DIS leaves no choice ends so.
-use Rattle.std.proofs.Common.{◌≡◌, ℕ, ◌+◌, Bool, true, false, nat_lt, List, [], ◌∷◌, ◌++◌, Option, Some, None, Result, Ok, Err, ◌⊎◌, inl, inr, refl, sym, ◌∙◌, ap, subst, length, if◌then◌else◌}
+use Rattle.std.proofs.Common.{◌≡◌, ℕ, ◌+◌, Bool, true, false, nat_lt, List, [], ◌∷◌, ◌++◌, Option, Some, None, Result, Ok, Err, ◌⊎◌, inl, inr, refl, sym, ◌∙◌, ap, subst, if◌then◌else◌}
 use Rattle.fax_runcodes.specs.declared.format.Format.{Format}
 use Rattle.fax_frames.specs.declared.dis.Dis.{Dis}
 use Rattle.fax_frames.specs.declared.dcs.Dcs.{Dcs}
@@ -17,10 +17,11 @@ use Rattle.fax_jobs.specs.Jobs.{JobValue}
 use Rattle.fax_call.specs.declared.state.State.{State}
 use Rattle.fax_call.specs.declared.state.State.TheVariants.{Idle, AwaitDis, AwaitCfr, AwaitMcf, Closing}
 use Rattle.fax_call.specs.Writings.{Writing}
-use Rattle.fax_call.specs.Replies.{Due, waits, is_last_page}
-use Rattle.fax_call.specs.Table.{Counts, Move, Stays, Trains, Sends, AsksAgain, Closes, HangsUp, first_try, next_try, next_step, next_page, one_delivered, one_refused, most_tries, outcome_of, by_choice, tries_again, asks_again, on_frame, on_timers}
+use Rattle.fax_call.specs.Replies.{Due, waits, is_last_page, turn_behind}
+use Rattle.fax_call.specs.Table.{Counts, Move, Stays, Trains, Sends, AsksAgain, Closes, first_try, next_try, next_step, next_page, one_delivered, one_refused, most_tries, outcome_of, by_choice, tries_again, asks_again, on_frame, on_timers, turns_or, gives_up_dis}
 use Rattle.fax_call.specs.Calls.{Calling, started, moved, heard, came, timed, taken, state_when_given, outcome_when_given, after_giving, Ticked, given_first, ticked, CallEvent, Comes, Ticks, after_events}
 use Rattle.fax_call.specs.Refusals.{EndsByRefusal}
+use Rattle.fax_call.proofs.Due.{page_due}
 
 -- ---- once a call closes with an outcome, it ends with that one
 
@@ -30,24 +31,24 @@ ClosesSo x state o = (state ≡ Closing x) ⊎ ((state ≡ Idle) × (o ≡ Some 
 abbrev ClosesWith : Outcome → Calling → Type 0
 ClosesWith x a = ClosesSo x a.state a.outcome
 
-came_closes : (x : Outcome) (a : Calling) (piece : pieces.Piece) → ClosesWith x a → ClosesWith x (came a piece)
-came_closes x a (pieces.Frame octets) c = by (waits a.waiting) c
+came_closes : (x : Outcome) (a : Calling) (piece : pieces.Piece) (now : ℕ) → ClosesWith x a → ClosesWith x (came a piece now)
+came_closes x a (pieces.Frame octets) now c = by (waits a.waiting) c
   where
-    frame : (o : Option Frame) (state : State) → (state ≡ Closing x) ⊎ (state ≡ Idle) → on_frame a.format a.pages state a.counts o ≡ Stays
-    frame o state (inl e) = ap (λ (p : State). on_frame a.format a.pages p a.counts o) e
-    frame o state (inr e) = ap (λ (p : State). on_frame a.format a.pages p a.counts o) e
+    frame : (o : Option Frame) (state : State) → (state ≡ Closing x) ⊎ (state ≡ Idle) → on_frame now a.format (turn_behind a.formats a.counts.page) a.pages state a.counts o ≡ Stays
+    frame o state (inl e) = ap (λ (p : State). on_frame now a.format (turn_behind a.formats a.counts.page) a.pages p a.counts o) e
+    frame o state (inr e) = ap (λ (p : State). on_frame now a.format (turn_behind a.formats a.counts.page) a.pages p a.counts o) e
 
     of : ClosesWith x a → (a.state ≡ Closing x) ⊎ (a.state ≡ Idle)
     of (inl e) = inl e
     of (inr e) = inr e.0
 
-    by : (t : Bool) → ClosesWith x a → ClosesWith x (moved a (if t then Stays else on_frame a.format a.pages a.state a.counts (frame_of octets)))
+    by : (t : Bool) → ClosesWith x a → ClosesWith x (moved a (if t then Stays else on_frame now a.format (turn_behind a.formats a.counts.page) a.pages a.state a.counts (frame_of octets)))
     by true c = c
     by false c = subst (λ (m : Move). ClosesWith x (moved a m)) (sym (frame (frame_of octets) a.state (of c))) c
-came_closes x a (pieces.Start k) c = c
-came_closes x a (pieces.Octets os) c = c
-came_closes x a (pieces.End w) c = c
-came_closes x a pieces.Gap c = c
+came_closes x a (pieces.Start k) now c = c
+came_closes x a (pieces.Octets os) now c = c
+came_closes x a (pieces.End w) now c = c
+came_closes x a pieces.Gap now c = c
 
 timed_closes : (x : Outcome) (a : Calling) (now : ℕ) → ClosesWith x a → ClosesWith x (timed a now)
 timed_closes x a now c = by (waits a.waiting) c
@@ -86,52 +87,21 @@ ticked_closes x a writes job now c = by (timed a now) (timed_closes x a now c) (
 stays_closed : (x : Outcome) (writes : Writing) (job : JobValue) (a : Calling) (later events : List CallEvent) → ClosesWith x (after_events writes job a events)
     → ClosesWith x (after_events writes job a (later ++ events))
 stays_closed x writes job a [] events c = c
-stays_closed x writes job a (Comes piece ∷ later) events c = came_closes x (after_events writes job a (later ++ events)) piece (stays_closed x writes job a later events c)
+stays_closed x writes job a (Comes piece now ∷ later) events c = came_closes x (after_events writes job a (later ++ events)) piece now (stays_closed x writes job a later events c)
 stays_closed x writes job a (Ticks now ∷ later) events c = ticked_closes x (after_events writes job a (later ++ events)) writes job now (stays_closed x writes job a later events c)
 
 -- ---- a DIS that leaves no choice closes it
 
-refused_move : (a : Calling) (octets : List ℕ) (dis : Dis) (refusal : Refusal) → a.state ≡ AwaitDis → a.waiting ≡ [] → frame_of octets ≡ Some (frames.Dis dis)
+refused_move : (a : Calling) (octets : List ℕ) (now : ℕ) (dis : Dis) (refusal : Refusal) → a.state ≡ AwaitDis → a.waiting ≡ [] → frame_of octets ≡ Some (frames.Dis dis)
     → choice dis a.format a.counts.step ≡ Err refusal
-    → heard a (pieces.Frame octets) ≡ Closes (outcome_of refusal) (first_try a.counts)
-refused_move a octets dis refusal p w f c =
-    ap (λ (due : List Due). if waits due then Stays else on_frame a.format a.pages a.state a.counts (frame_of octets)) w
-    ∙ ap (λ (state : State). on_frame a.format a.pages state a.counts (frame_of octets)) p
-    ∙ ap (λ (o : Option Frame). on_frame a.format a.pages AwaitDis a.counts o) f
+    → heard a (pieces.Frame octets) now ≡ Closes (outcome_of refusal) (first_try a.counts)
+refused_move a octets now dis refusal p w f c =
+    ap (λ (due : List Due). if waits due then Stays else on_frame now a.format (turn_behind a.formats a.counts.page) a.pages a.state a.counts (frame_of octets)) w
+    ∙ ap (λ (state : State). on_frame now a.format (turn_behind a.formats a.counts.page) a.pages state a.counts (frame_of octets)) p
+    ∙ ap (λ (o : Option Frame). on_frame now a.format (turn_behind a.formats a.counts.page) a.pages AwaitDis a.counts o) f
     ∙ ap (λ (r : Result Dcs Refusal). by_choice dis (first_try a.counts) r) c
 
 -- ---- the format stays
-
-pub moved_format : (a : Calling) (m : Move) → (moved a m).format ≡ a.format
-moved_format a Stays = refl
-moved_format a (Trains dis dcs c) = refl
-moved_format a (Sends dis dcs c) = refl
-moved_format a (AsksAgain c) = refl
-moved_format a (Closes o c) = refl
-moved_format a HangsUp = refl
-
-came_format : (a : Calling) (piece : pieces.Piece) → (came a piece).format ≡ a.format
-came_format a piece = moved_format a (heard a piece)
-
-ticked_format : (a : Calling) (writes : Writing) (job : JobValue) (now : ℕ) → (ticked writes job a now).core.format ≡ a.format
-ticked_format a writes job now = by (timed a now) (moved_format a (if waits a.waiting then Stays else on_timers (is_due a.t1 now) (is_due a.t4 now) a.state a.counts)) (pace_allows (timed a now).last now)
-  where
-    after : (b : Calling) (rest : List Due) → (after_giving b now rest).format ≡ b.format
-    after b [] = refl
-    after b (d ∷ due) = refl
-
-    first : (b : Calling) (due : List Due) → (given_first writes job b now due).core.format ≡ b.format
-    first b [] = refl
-    first b (d ∷ due) = after b (taken writes job d due).rest
-
-    by : (b : Calling) → b.format ≡ a.format → (t : Bool) → (if◌then◌else◌ {A = Ticked} t (given_first writes job b now b.waiting) (record { core = b; given = None })).core.format ≡ a.format
-    by b e true = first b b.waiting ∙ e
-    by b e false = e
-
-pub format_in_call : (writes : Writing) (job : JobValue) (a : Calling) (events : List CallEvent) → (after_events writes job a events).format ≡ a.format
-format_in_call writes job a [] = refl
-format_in_call writes job a (Comes piece ∷ before) = came_format (after_events writes job a before) piece ∙ format_in_call writes job a before
-format_in_call writes job a (Ticks now ∷ before) = ticked_format (after_events writes job a before) writes job now ∙ format_in_call writes job a before
 
 -- ---- Await DIS has the first step of the rates
 
@@ -150,37 +120,41 @@ choice_step : (a : Calling) (dis : Dis) (c : Counts) (r : Result Dcs Refusal) �
 choice_step a dis c (Ok dcs) = tt
 choice_step a dis c (Err e) = tt
 
-frame_step : (a : Calling) (state : State) (frame : Option Frame) → a.state ≡ state → StepOf state a.counts → HasStep (moved a (on_frame a.format a.pages state a.counts frame))
-frame_step a AwaitDis (Some (frames.Dis dis)) e s = choice_step a dis (first_try a.counts) (choice dis a.format a.counts.step)
-frame_step a AwaitDis (Some frames.Dcn) e s = tt
-frame_step a (AwaitCfr dis dcs) (Some frames.Cfr) e s = tt
-frame_step a (AwaitCfr dis dcs) (Some frames.Ftt) e s = choice_step a dis (next_step a.counts) (choice dis a.format (a.counts.step + 1))
-frame_step a (AwaitCfr dis dcs) (Some (frames.Dis other)) e s = if_step a (nat_lt a.counts.tries most_tries) (Trains dis dcs (next_try a.counts)) (Closes outcomes.NoReply a.counts) tt tt
-frame_step a (AwaitCfr dis dcs) (Some frames.Dcn) e s = tt
-frame_step a (AwaitMcf dis dcs) (Some frames.Mcf) e s =
-    if_step a (is_last_page a.pages a.counts.page) (Closes outcomes.Delivered (one_delivered a.counts)) (Sends dis dcs (next_page a.counts)) tt tt
-frame_step a (AwaitMcf dis dcs) (Some frames.Rtp) e s =
-    if_step a (is_last_page a.pages a.counts.page) (Closes outcomes.Delivered (one_delivered a.counts)) (Trains dis dcs (next_page a.counts)) tt tt
-frame_step a (AwaitMcf dis dcs) (Some frames.Rtn) e s =
-    if_step a (nat_lt a.counts.refused 2) (Trains dis dcs (one_refused a.counts)) (Closes outcomes.PageRefused a.counts) tt tt
-frame_step a (AwaitMcf dis dcs) (Some frames.Dcn) e s = tt
-frame_step a state frame e s = subst (λ (p : State). StepOf p a.counts) (sym e) s
+turns_step : (a : Calling) (now : ℕ) (t : Option Format) (m : Move) → HasStep (moved a m) → HasStep (moved a (turns_or now t a.counts m))
+turns_step a now (Some format) m h = refl
+turns_step a now None m h = h
 
-came_step : (a : Calling) (piece : pieces.Piece) → HasStep a → HasStep (came a piece)
-came_step a (pieces.Frame octets) h = by (waits a.waiting)
+frame_step : (a : Calling) (now : ℕ) (state : State) (frame : Option Frame) → a.state ≡ state → StepOf state a.counts → HasStep (moved a (on_frame now a.format (turn_behind a.formats a.counts.page) a.pages state a.counts frame))
+frame_step a now AwaitDis (Some (frames.Dis dis)) e s = choice_step a dis (first_try a.counts) (choice dis a.format a.counts.step)
+frame_step a now AwaitDis (Some frames.Dcn) e s = tt
+frame_step a now (AwaitCfr dis dcs) (Some frames.Cfr) e s = tt
+frame_step a now (AwaitCfr dis dcs) (Some frames.Ftt) e s = choice_step a dis (next_step a.counts) (choice dis a.format (a.counts.step + 1))
+frame_step a now (AwaitCfr dis dcs) (Some (frames.Dis other)) e s = if_step a (nat_lt a.counts.tries most_tries) (Trains dis dcs (next_try a.counts)) (Closes outcomes.NoReply a.counts) tt tt
+frame_step a now (AwaitCfr dis dcs) (Some frames.Dcn) e s = tt
+frame_step a now (AwaitMcf dis dcs) (Some frames.Mcf) e s =
+    if_step a (is_last_page a.pages a.counts.page) (Closes outcomes.Delivered (one_delivered a.counts)) (turns_or now (turn_behind a.formats a.counts.page) a.counts (Sends dis dcs (next_page a.counts))) tt (turns_step a now (turn_behind a.formats a.counts.page) (Sends dis dcs (next_page a.counts)) tt)
+frame_step a now (AwaitMcf dis dcs) (Some frames.Rtp) e s =
+    if_step a (is_last_page a.pages a.counts.page) (Closes outcomes.Delivered (one_delivered a.counts)) (turns_or now (turn_behind a.formats a.counts.page) a.counts (Trains dis dcs (next_page a.counts))) tt (turns_step a now (turn_behind a.formats a.counts.page) (Trains dis dcs (next_page a.counts)) tt)
+frame_step a now (AwaitMcf dis dcs) (Some frames.Rtn) e s =
+    if_step a (nat_lt a.counts.refused 2) (Trains dis dcs (one_refused a.counts)) (Closes outcomes.PageRefused a.counts) tt tt
+frame_step a now (AwaitMcf dis dcs) (Some frames.Dcn) e s = tt
+frame_step a now state frame e s = subst (λ (p : State). StepOf p a.counts) (sym e) s
+
+came_step : (a : Calling) (piece : pieces.Piece) (now : ℕ) → HasStep a → HasStep (came a piece now)
+came_step a (pieces.Frame octets) now h = by (waits a.waiting)
   where
-    by : (t : Bool) → HasStep (moved a (if t then Stays else on_frame a.format a.pages a.state a.counts (frame_of octets)))
+    by : (t : Bool) → HasStep (moved a (if t then Stays else on_frame now a.format (turn_behind a.formats a.counts.page) a.pages a.state a.counts (frame_of octets)))
     by true = h
-    by false = frame_step a a.state (frame_of octets) refl h
-came_step a (pieces.Start k) h = h
-came_step a (pieces.Octets os) h = h
-came_step a (pieces.End w) h = h
-came_step a pieces.Gap h = h
+    by false = frame_step a now a.state (frame_of octets) refl h
+came_step a (pieces.Start k) now h = h
+came_step a (pieces.Octets os) now h = h
+came_step a (pieces.End w) now h = h
+came_step a pieces.Gap now h = h
 
 timer_step : (a : Calling) (now : ℕ) (state : State) → a.state ≡ state → HasStep a → HasStep (moved a (on_timers (is_due a.t1 now) (is_due a.t4 now) state a.counts))
 timer_step a now Idle e h = h
 timer_step a now (Closing x) e h = h
-timer_step a now AwaitDis e h = if_step a (is_due a.t1 now) (Closes outcomes.NoAnswer a.counts) Stays tt h
+timer_step a now AwaitDis e h = if_step a (is_due a.t1 now) (gives_up_dis a.counts) Stays tt h
 timer_step a now (AwaitCfr dis dcs) e h =
     if_step a (is_due a.t4 now) (tries_again dis dcs a.counts) Stays
     (if_step a (nat_lt a.counts.tries most_tries) (Trains dis dcs (next_try a.counts)) (Closes outcomes.NoReply a.counts) tt tt) h
@@ -214,23 +188,23 @@ ticked_step a writes job now h = by (timed a now) (in_time (waits a.waiting)) (p
     by b k true = first b k b.waiting
     by b k false = k
 
-step_in_call : (writes : Writing) (job : JobValue) (core : Calling) (start : ℕ) (events : List CallEvent) → HasStep (after_events writes job (started core job.format (length job.pages) start) events)
+step_in_call : (writes : Writing) (job : JobValue) (core : Calling) (start : ℕ) (events : List CallEvent) → HasStep (after_events writes job (started core job start) events)
 step_in_call writes job core start [] = refl
-step_in_call writes job core start (Comes piece ∷ before) =
-    came_step (after_events writes job (started core job.format (length job.pages) start) before) piece (step_in_call writes job core start before)
+step_in_call writes job core start (Comes piece now ∷ before) =
+    came_step (after_events writes job (started core job start) before) piece now (step_in_call writes job core start before)
 step_in_call writes job core start (Ticks now ∷ before) =
-    ticked_step (after_events writes job (started core job.format (length job.pages) start) before) writes job now (step_in_call writes job core start before)
+    ticked_step (after_events writes job (started core job start) before) writes job now (step_in_call writes job core start before)
 
 -- ---- a call
 
 pub ends_by_refusal : EndsByRefusal
-ends_by_refusal writes job core start later events octets dis refusal p w f c =
-    let begun : Calling = started core job.format (length job.pages) start in
+ends_by_refusal writes job core start later events now octets dis page refusal is p w f s c =
+    let begun : Calling = started core job start in
     let a : Calling = after_events writes job begun events in
     let x : Outcome = outcome_of refusal in
-    let e : a.format ≡ job.format = format_in_call writes job begun events in
+    let e : page.format ≡ a.format = page_due writes job core start events page is s in
     let z : a.counts.step ≡ 0 = subst (λ (state : State). StepOf state a.counts) p (step_in_call writes job core start events) in
-    let k : choice dis a.format a.counts.step ≡ Err refusal = ap (λ (g : Format). choice dis g a.counts.step) e ∙ ap (choice dis job.format) z ∙ c in
-    let m : heard a (pieces.Frame octets) ≡ Closes x (first_try a.counts) = refused_move a octets dis refusal p w f k in
-    let now : ClosesWith x (after_events writes job begun (Comes (pieces.Frame octets) ∷ events)) = subst (λ (y : Move). ClosesWith x (moved a y)) (sym m) (inl refl) in
-    stays_closed x writes job begun later (Comes (pieces.Frame octets) ∷ events) now
+    let k : choice dis a.format a.counts.step ≡ Err refusal = ap (λ (g : Format). choice dis g a.counts.step) (sym e) ∙ ap (choice dis page.format) z ∙ c in
+    let m : heard a (pieces.Frame octets) now ≡ Closes x (first_try a.counts) = refused_move a octets now dis refusal p w f k in
+    let closed : ClosesWith x (after_events writes job begun (Comes (pieces.Frame octets) now ∷ events)) = subst (λ (y : Move). ClosesWith x (moved a y)) (sym m) (inl refl) in
+    stays_closed x writes job begun later (Comes (pieces.Frame octets) now ∷ events) closed

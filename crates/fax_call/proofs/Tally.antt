@@ -1,5 +1,6 @@
 -- What the counts say of the job: which pages were delivered, and the outcome.
-use Rattle.std.proofs.Common.{◌≡◌, ℕ, ◌+◌, ◌<◌, ◌≤◌, Bool, true, false, List, [], ◌∷◌, Option, Some, None, Result, Ok, Err, inl, inr, refl, sym, ◌∙◌, ap, subst, nat_lt, arith, length, if◌then◌else◌}
+use Rattle.std.proofs.Common.{nat_eq, ◌≡◌, ℕ, ◌+◌, ◌<◌, ◌≤◌, Bool, true, false, List, [], ◌∷◌, Option, Some, None, Result, Ok, Err, inl, inr, refl, sym, ◌∙◌, ap, subst, nat_lt, arith, if◌then◌else◌}
+use Rattle.fax_runcodes.specs.declared.format.Format.{Format}
 use Rattle.fax_frames.specs.declared.dis.Dis.{Dis}
 use Rattle.fax_frames.specs.declared.dcs.Dcs.{Dcs}
 use Rattle.fax_frames.specs.declared.frame.Frame.{Frame}
@@ -19,8 +20,8 @@ use Rattle.fax_jobs.specs.declared.outcome.Outcome.TheVariants as outcomes
 use Rattle.fax_jobs.specs.Jobs.{JobValue, IsJob}
 use Rattle.fax_call.specs.declared.state.State.{State}
 use Rattle.fax_call.specs.declared.state.State.TheVariants.{Idle, AwaitDis, AwaitCfr, AwaitMcf, Closing}
-use Rattle.fax_call.specs.Replies.{Due, One, Text, is_last_page, command, goodbye, waits}
-use Rattle.fax_call.specs.Table.{Counts, Move, Stays, Trains, Sends, AsksAgain, Closes, HangsUp, outcome_of, first_try, next_try, next_step, next_page, one_delivered, one_refused, by_choice, tries_again, asks_again, after_refusal, on_frame, on_timers}
+use Rattle.fax_call.specs.Replies.{Due, One, Text, is_last_page, command, goodbye, waits, turn_behind, command_behind}
+use Rattle.fax_call.specs.Table.{Counts, Move, Stays, Trains, Sends, AsksAgain, Closes, HangsUp, outcome_of, first_try, next_try, next_step, next_page, one_delivered, one_refused, by_choice, tries_again, asks_again, after_refusal, on_frame, on_timers, turns_or, gives_up_dis}
 use Rattle.fax_call.specs.Calls.{Calling, started, moved, came, timed, Taken, taken, state_when_given, outcome_when_given, after_giving, given_first, paced, ticked, Ticked}
 use Rattle.fax_call.specs.Emission.{Emission, Mark, Gave, Begins, gave_all, elements_given, acknowledged_by, marks_heard, marks_given, is_preamble, Reply, Asked, Unasked, Answered, closed, reply_given, reply_or, reply_heard, replied, IsAnswered, Emits}
 use Rattle.fax_call.specs.Delivery.{IsBehind}
@@ -178,39 +179,49 @@ acknowledged_tally job a marks m u e k f = by (is_last_page a.pages a.counts.pag
         let n : (a.counts.page + 1 ≡ a.pages) → ⊥ = not_last a.pages a.counts.page h in
         f (record { delivered = ap (λ (n : ℕ). n + 1) d; within = omega (arith, n) })
 
+turns_tally : (job : JobValue) (a : Calling) (marks : List Mark) (now : ℕ) (m : Move) (t : Option Format) → Underway a.pages (next_page a.counts) → Tally job (moved a m) marks → Tally job (moved a (turns_or now t a.counts m)) marks
+turns_tally job a marks now m (Some format) u r = (record { delivered = u.delivered; within = u.within }, tt)
+turns_tally job a marks now m None u r = r
+
+never_delivered : (t : Bool) → (if t then outcomes.NoAnswer else outcomes.NoReply) ≡ outcomes.Delivered → ⊥
+never_delivered true e = cc
+never_delivered false e = cc
+
 sent_behind : (last : Option ℕ) (r : Reply) (n : ℕ) → last ≡ Some n → IsBehind last r n
 sent_behind last r n e = subst (λ (o : Option ℕ). IsBehind o r n) (sym e) (inl refl)
 
-frame_tally : (job : JobValue) (a : Calling) (marks : List Mark) (state : State) (frame : Option Frame) → Tally job a marks → Sums state a.pages a.counts a.outcome →
+frame_tally : (job : JobValue) (a : Calling) (now : ℕ) (marks : List Mark) (state : State) (frame : Option Frame) → Tally job a marks → Sums state a.pages a.counts a.outcome →
     (last : Option ℕ) → Emits job marks last → InTurn last (replied marks) a.counts.page state [] (elements_given marks) → IsSent last a.counts.page state [] →
-    Tally job (moved a (on_frame a.format a.pages state a.counts frame)) (acknowledged_by frame marks)
-frame_tally job a marks AwaitDis (Some (frames.Dis dis)) t s last e n i =
+    Tally job (moved a (on_frame now a.format (turn_behind a.formats a.counts.page) a.pages state a.counts frame)) (acknowledged_by frame marks)
+frame_tally job a now marks AwaitDis (Some (frames.Dis dis)) t s last e n i =
     choice_tally job a marks dis (first_try a.counts) (choice dis a.format a.counts.step) (record { underway = record { delivered = s.delivered; within = s.within }; acked = record { last = last; emits = e; behind = behind_of last (replied marks) a.counts.page n.0 } })
-frame_tally job a marks AwaitDis (Some frames.Dcn) t s last e n i = hangs_tally job a marks (record { underway = s; acked = record { last = last; emits = e; behind = behind_of last (replied marks) a.counts.page n.0 } })
-frame_tally job a marks (AwaitCfr dis dcs) (Some frames.Cfr) t s last e n i = (record { delivered = s.delivered; within = s.within }, tt)
-frame_tally job a marks (AwaitCfr dis dcs) (Some frames.Ftt) t s last e n i =
+frame_tally job a now marks AwaitDis (Some frames.Dcn) t s last e n i = hangs_tally job a marks (record { underway = s; acked = record { last = last; emits = e; behind = behind_of last (replied marks) a.counts.page n.0 } })
+frame_tally job a now marks (AwaitCfr dis dcs) (Some frames.Cfr) t s last e n i = (record { delivered = s.delivered; within = s.within }, tt)
+frame_tally job a now marks (AwaitCfr dis dcs) (Some frames.Ftt) t s last e n i =
     choice_tally job a marks dis (next_step a.counts) (choice dis a.format (a.counts.step + 1)) (record { underway = record { delivered = s.delivered; within = s.within }; acked = record { last = last; emits = e; behind = behind_of last (replied marks) a.counts.page n.0 } })
-frame_tally job a marks (AwaitCfr dis dcs) (Some (frames.Dis other)) t s last e n i = tries_tally job a marks dis dcs a.counts (record { underway = s; acked = record { last = last; emits = e; behind = behind_of last (replied marks) a.counts.page n.0 } })
-frame_tally job a marks (AwaitCfr dis dcs) (Some frames.Dcn) t s last e n i = hangs_tally job a marks (record { underway = s; acked = record { last = last; emits = e; behind = behind_of last (replied marks) a.counts.page n.0 } })
-frame_tally job a marks (AwaitMcf dis dcs) (Some frames.Mcf) t s last e n i =
-    acknowledged_tally job a (acknowledged_by (Some frames.Mcf) marks) (Sends dis dcs (next_page a.counts)) s (subst (Emits job marks) (i refl) e) (ap (reply_heard true) n) (λ u. (u, tt))
-frame_tally job a marks (AwaitMcf dis dcs) (Some frames.Rtp) t s last e n i =
-    acknowledged_tally job a (acknowledged_by (Some frames.Rtp) marks) (Trains dis dcs (next_page a.counts)) s (subst (Emits job marks) (i refl) e) (ap (reply_heard true) n) (λ u. (u, tt))
-frame_tally job a marks (AwaitMcf dis dcs) (Some frames.Rtn) t s last e n i =
+frame_tally job a now marks (AwaitCfr dis dcs) (Some (frames.Dis other)) t s last e n i = tries_tally job a marks dis dcs a.counts (record { underway = s; acked = record { last = last; emits = e; behind = behind_of last (replied marks) a.counts.page n.0 } })
+frame_tally job a now marks (AwaitCfr dis dcs) (Some frames.Dcn) t s last e n i = hangs_tally job a marks (record { underway = s; acked = record { last = last; emits = e; behind = behind_of last (replied marks) a.counts.page n.0 } })
+frame_tally job a now marks (AwaitMcf dis dcs) (Some frames.Mcf) t s last e n i =
+    acknowledged_tally job a (acknowledged_by (Some frames.Mcf) marks) (turns_or now (turn_behind a.formats a.counts.page) a.counts (Sends dis dcs (next_page a.counts))) s (subst (Emits job marks) (i refl) e) (ap (reply_heard true) n)
+    (λ u. turns_tally job a (acknowledged_by (Some frames.Mcf) marks) now (Sends dis dcs (next_page a.counts)) (turn_behind a.formats a.counts.page) u (u, tt))
+frame_tally job a now marks (AwaitMcf dis dcs) (Some frames.Rtp) t s last e n i =
+    acknowledged_tally job a (acknowledged_by (Some frames.Rtp) marks) (turns_or now (turn_behind a.formats a.counts.page) a.counts (Trains dis dcs (next_page a.counts))) s (subst (Emits job marks) (i refl) e) (ap (reply_heard true) n)
+    (λ u. turns_tally job a (acknowledged_by (Some frames.Rtp) marks) now (Trains dis dcs (next_page a.counts)) (turn_behind a.formats a.counts.page) u (u, tt))
+frame_tally job a now marks (AwaitMcf dis dcs) (Some frames.Rtn) t s last e n i =
     refused_tally job a (acknowledged_by (Some frames.Rtn) marks) dis dcs a.counts (record { underway = s; acked = acked_by job (Some frames.Rtn) a.counts.page marks (record { last = last; emits = e; behind = sent_behind last (replied marks) a.counts.page (i refl) }) })
-frame_tally job a marks (AwaitMcf dis dcs) (Some frames.Dcn) t s last e n i = hangs_tally job a marks (record { underway = s; acked = record { last = last; emits = e; behind = sent_behind last (replied marks) a.counts.page (i refl) } })
-frame_tally job a marks state frame t s last e n i = stays job a frame marks t
+frame_tally job a now marks (AwaitMcf dis dcs) (Some frames.Dcn) t s last e n i = hangs_tally job a marks (record { underway = s; acked = record { last = last; emits = e; behind = sent_behind last (replied marks) a.counts.page (i refl) } })
+frame_tally job a now marks state frame t s last e n i = stays job a frame marks t
 
-pub comes_tally : (texts : Texts) (job : JobValue) (a : Calling) (piece : pieces.Piece) (marks : List Mark) → Good texts job a marks → Tally job a marks → Tally job (came a piece) (marks_heard piece marks)
-comes_tally texts job a (pieces.Frame octets) marks g t = by a.waiting refl
+pub comes_tally : (texts : Texts) (job : JobValue) (a : Calling) (piece : pieces.Piece) (now : ℕ) (marks : List Mark) → Good texts job a marks → Tally job a marks → Tally job (came a piece now) (marks_heard piece marks)
+comes_tally texts job a (pieces.Frame octets) now marks g t = by a.waiting refl
   where
-    by : (w : List Due) → a.waiting ≡ w → Tally job (moved a (if waits w then Stays else on_frame a.format a.pages a.state a.counts (frame_of octets))) (acknowledged_by (frame_of octets) marks)
-    by [] e = frame_tally job a marks a.state (frame_of octets) t t.0 g.last g.kept.emits (subst (λ (w : List Due). InTurn g.last (replied marks) a.counts.page a.state w (elements_given marks)) e g.turn) (subst (λ (w : List Due). IsSent g.last a.counts.page a.state w) e g.kept.sent)
+    by : (w : List Due) → a.waiting ≡ w → Tally job (moved a (if waits w then Stays else on_frame now a.format (turn_behind a.formats a.counts.page) a.pages a.state a.counts (frame_of octets))) (acknowledged_by (frame_of octets) marks)
+    by [] e = frame_tally job a now marks a.state (frame_of octets) t t.0 g.last g.kept.emits (subst (λ (w : List Due). InTurn g.last (replied marks) a.counts.page a.state w (elements_given marks)) e g.turn) (subst (λ (w : List Due). IsSent g.last a.counts.page a.state w) e g.kept.sent)
     by (d ∷ due) e = stays job a (frame_of octets) marks t
-comes_tally texts job a (pieces.Start k) marks g t = t
-comes_tally texts job a (pieces.Octets os) marks g t = t
-comes_tally texts job a (pieces.End w) marks g t = t
-comes_tally texts job a pieces.Gap marks g t = t
+comes_tally texts job a (pieces.Start k) now marks g t = t
+comes_tally texts job a (pieces.Octets os) now marks g t = t
+comes_tally texts job a (pieces.End w) now marks g t = t
+comes_tally texts job a pieces.Gap now marks g t = t
 
 -- a tick
 timer_tally : (job : JobValue) (a : Calling) (t1_due t4_due : Bool) (marks : List Mark) (state : State) → a.state ≡ state → Tally job a marks → Sums state a.pages a.counts a.outcome →
@@ -219,15 +230,15 @@ timer_tally : (job : JobValue) (a : Calling) (t1_due t4_due : Bool) (marks : Lis
 timer_tally job a t1_due t4_due marks Idle h t s last e n i = t
 timer_tally job a t1_due t4_due marks (Closing o) h t s last e n i = t
 timer_tally job a t1_due t4_due marks AwaitDis h t s last e n i =
-    if_tally job a marks t1_due (Closes outcomes.NoAnswer a.counts) Stays
-    (closes_short job a marks outcomes.NoAnswer a.counts (λ e. cc) (record { underway = s; acked = record { last = last; emits = e; behind = behind_of last (replied marks) a.counts.page n.0 } })) t
+    if_tally job a marks t1_due (gives_up_dis a.counts) Stays
+    (closes_short job a marks (if nat_eq a.counts.delivered 0 then outcomes.NoAnswer else outcomes.NoReply) a.counts (never_delivered (nat_eq a.counts.delivered 0)) (record { underway = s; acked = record { last = last; emits = e; behind = behind_of last (replied marks) a.counts.page n.0 } })) t
 timer_tally job a t1_due t4_due marks (AwaitCfr dis dcs) h t s last e n i =
     if_tally job a marks t4_due (tries_again dis dcs a.counts) Stays
     (tries_tally job a marks dis dcs a.counts (record { underway = s; acked = record { last = last; emits = e; behind = behind_of last (replied marks) a.counts.page n.0 } })) t
 timer_tally job a t1_due t4_due marks (AwaitMcf dis dcs) h t s last e n i =
     if_tally job a marks t4_due (asks_again a.counts) Stays
     (if_tally job a marks (nat_lt a.counts.tries 3) (AsksAgain (next_try a.counts)) (Closes outcomes.NoReply a.counts)
-    (subst (λ (p : State). TallyOf job p a.pages (next_try a.counts) a.outcome (command a.pages a.counts.page) marks) (sym h) (record { delivered = s.delivered; within = s.within }, tt))
+    (subst (λ (p : State). TallyOf job p a.pages (next_try a.counts) a.outcome (command (command_behind a.formats a.pages a.counts.page)) marks) (sym h) (record { delivered = s.delivered; within = s.within }, tt))
     (closes_short job a marks outcomes.NoReply a.counts (λ e. cc) (record { underway = s; acked = record { last = last; emits = e; behind = sent_behind last (replied marks) a.counts.page (i refl) } }))) t
 
 timed_tally : (texts : Texts) (job : JobValue) (a : Calling) (now : ℕ) (marks : List Mark) → Good texts job a marks → Tally job a marks → Tally job (timed a now) marks
@@ -292,5 +303,5 @@ paced_tally texts job a now marks g t = by (pace_allows a.last now)
 pub ticked_tally : (texts : Texts) (job : JobValue) (a : Calling) (now : ℕ) (marks : List Mark) → Good texts job a marks → Tally job a marks → Tally job (ticked texts.writes job a now).core (marks_given (ticked texts.writes job a now).given marks)
 ticked_tally texts job a now marks g t = paced_tally texts job (timed a now) now marks (timed_good texts job a now marks g) (timed_tally texts job a now marks g t)
 
-pub start_tally : (job : JobValue) (old : List Mark) (core : Calling) (now : ℕ) → IsJob job → Tally job (started core job.format (length job.pages) now) (Begins ∷ old)
+pub start_tally : (job : JobValue) (old : List Mark) (core : Calling) (now : ℕ) → IsJob job → Tally job (started core job now) (Begins ∷ old)
 start_tally job old core now is = (record { delivered = refl; within = is.some }, tt)

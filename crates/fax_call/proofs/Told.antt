@@ -9,7 +9,7 @@ use Rattle.fax_jobs.specs.Jobs.{JobValue, IsJob}
 use Rattle.fax_call.specs.declared.state.State.{State}
 use Rattle.fax_call.specs.declared.state.State.TheVariants.{Idle, AwaitDis, AwaitCfr, AwaitMcf, Closing}
 use Rattle.fax_call.specs.Writings.{Writing}
-use Rattle.fax_call.specs.Replies.{Due, waits}
+use Rattle.fax_call.specs.Replies.{Due, waits, turn_behind}
 use Rattle.fax_call.specs.Table.{Stays, on_frame, on_timers}
 use Rattle.fax_call.specs.Calls.{Calling, started, moved, came, timed, given_first, paced, ticked, Ticked, CallEvent, Comes, Ticks, after_events}
 use Rattle.fax_call.specs.Emission.{Mark, Begins, elements_given, marks_heard, marks_given, marks_after}
@@ -42,14 +42,14 @@ over_is_idle (Closing x) h = cc
 nothing_waits : (L : Type 0) (a : Calling) (marks : List Mark) → a.state ≡ Idle → Counted L a marks → a.waiting ≡ []
 nothing_waits L a marks e s = (subst (λ (state : State). StateOf L state a.waiting a.counts.delivered marks a.outcome) e s).3
 
-comes_idle : (a : Calling) (piece : pieces.Piece) → a.state ≡ Idle → a.waiting ≡ [] → came a piece ≡ a
-comes_idle a (pieces.Frame octets) e w =
-    ap (λ (due : List Due). moved a (if waits due then Stays else on_frame a.format a.pages a.state a.counts (frame_of octets))) w
-    ∙ ap (λ (state : State). moved a (on_frame a.format a.pages state a.counts (frame_of octets))) e
-comes_idle a (pieces.Start k) e w = refl
-comes_idle a (pieces.Octets os) e w = refl
-comes_idle a (pieces.End whole) e w = refl
-comes_idle a pieces.Gap e w = refl
+comes_idle : (a : Calling) (piece : pieces.Piece) (now : ℕ) → a.state ≡ Idle → a.waiting ≡ [] → came a piece now ≡ a
+comes_idle a (pieces.Frame octets) now e w =
+    ap (λ (due : List Due). moved a (if waits due then Stays else on_frame now a.format (turn_behind a.formats a.counts.page) a.pages a.state a.counts (frame_of octets))) w
+    ∙ ap (λ (state : State). moved a (on_frame now a.format (turn_behind a.formats a.counts.page) a.pages state a.counts (frame_of octets))) e
+comes_idle a (pieces.Start k) now e w = refl
+comes_idle a (pieces.Octets os) now e w = refl
+comes_idle a (pieces.End whole) now e w = refl
+comes_idle a pieces.Gap now e w = refl
 
 nothing_given : Calling → Ticked
 nothing_given a = record { core = a; given = None }
@@ -72,20 +72,20 @@ elements_heard (pieces.Octets os) marks = refl
 elements_heard (pieces.End whole) marks = refl
 elements_heard pieces.Gap marks = refl
 
-sound_comes : (texts : Texts) (job : JobValue) (a : Calling) (piece : pieces.Piece) (events : List CallEvent) (marks until : List Mark) → Sound texts job a events marks until →
-    Sound texts job (came a piece) (Comes piece ∷ events) (marks_heard piece marks) (if is_over a.state then until else marks_heard piece marks)
-sound_comes texts job a piece events marks until s = by (is_over a.state) refl
+sound_comes : (texts : Texts) (job : JobValue) (a : Calling) (piece : pieces.Piece) (now : ℕ) (events : List CallEvent) (marks until : List Mark) → Sound texts job a events marks until →
+    Sound texts job (came a piece now) (Comes piece now ∷ events) (marks_heard piece marks) (if is_over a.state then until else marks_heard piece marks)
+sound_comes texts job a piece now events marks until s = by (is_over a.state) refl
   where
     L : Type 0
     L = AtTheLastMoment events
 
-    by : (over : Bool) → is_over a.state ≡ over → Sound texts job (came a piece) (Comes piece ∷ events) (marks_heard piece marks) (if over then until else marks_heard piece marks)
+    by : (over : Bool) → is_over a.state ≡ over → Sound texts job (came a piece now) (Comes piece now ∷ events) (marks_heard piece marks) (if over then until else marks_heard piece marks)
     by true h =
         let e : a.state ≡ Idle = over_is_idle a.state h in
-        let stays : a ≡ came a piece = sym (comes_idle a piece e (nothing_waits (AtTheLastMoment events) a until e s.counted)) in
+        let stays : a ≡ came a piece now = sym (comes_idle a piece now e (nothing_waits (AtTheLastMoment events) a until e s.counted)) in
         record {
-          good = comes_good texts job a piece marks s.good;
-          timed_so = comes_timed a piece s.timed_so;
+          good = comes_good texts job a piece now marks s.good;
+          timed_so = comes_timed a piece now s.timed_so;
           tally = subst (λ (c : Calling). Tally job c until) stays s.tally;
           counted = subst (λ (c : Calling). Counted (AtTheLastMoment events) c until) stays s.counted;
           asks = s.asks;
@@ -97,10 +97,10 @@ sound_comes texts job a piece events marks until s = by (is_over a.state) refl
         let c : Counted (AtTheLastMoment events) a marks = subst (λ (ms : List Mark). Counted (AtTheLastMoment events) a ms) (s.same h) s.counted in
         let k : IsAsking (AtTheLastMoment events) marks = subst (λ (ms : List Mark). IsAsking (AtTheLastMoment events) ms) (s.same h) s.asks in
         record {
-          good = comes_good texts job a piece marks s.good;
-          timed_so = comes_timed a piece s.timed_so;
-          tally = comes_tally texts job a piece marks s.good t;
-          counted = comes_counted (AtTheLastMoment events) a piece marks (is_on (AtTheLastMoment events) a marks h c);
+          good = comes_good texts job a piece now marks s.good;
+          timed_so = comes_timed a piece now s.timed_so;
+          tally = comes_tally texts job a piece now marks s.good t;
+          counted = comes_counted (AtTheLastMoment events) a piece now marks (is_on (AtTheLastMoment events) a marks h c);
           asks = comes_open (AtTheLastMoment events) piece marks k;
           same = λ o. refl;
           silent = refl;
@@ -153,7 +153,7 @@ sound_ticks texts job a now events marks until is s = by (is_over a.state) refl
           silent = refl;
         }
 
-sound_start : (texts : Texts) (job : JobValue) (old : List Mark) (core : Calling) (start : ℕ) → IsJob job → Sound texts job (started core job.format (length job.pages) start) [] (Begins ∷ old) (Begins ∷ old)
+sound_start : (texts : Texts) (job : JobValue) (old : List Mark) (core : Calling) (start : ℕ) → IsJob job → Sound texts job (started core job start) [] (Begins ∷ old) (Begins ∷ old)
 sound_start texts job old core start is =
     record {
       good = start_good texts job old core start is;
@@ -168,15 +168,15 @@ sound_start texts job old core start is =
 sound : (texts : Texts) (job : JobValue) (old : List Mark) (a : Calling) (events : List CallEvent) → IsJob job → Sound texts job a [] (Begins ∷ old) (Begins ∷ old) →
     Sound texts job (after_events texts.writes job a events) events (marks_after texts.writes job old a events) (marks_until_over texts.writes job old a events)
 sound texts job old a [] is s = s
-sound texts job old a (Comes piece ∷ before) is s =
-    sound_comes texts job (after_events texts.writes job a before) piece before (marks_after texts.writes job old a before) (marks_until_over texts.writes job old a before) (sound texts job old a before is s)
+sound texts job old a (Comes piece now ∷ before) is s =
+    sound_comes texts job (after_events texts.writes job a before) piece now before (marks_after texts.writes job old a before) (marks_until_over texts.writes job old a before) (sound texts job old a before is s)
 sound texts job old a (Ticks now ∷ before) is s =
     sound_ticks texts job (after_events texts.writes job a before) now before (marks_after texts.writes job old a before) (marks_until_over texts.writes job old a before) is (sound texts job old a before is s)
 
 pub tells_what_was_answered : TellsWhatWasAnswered
 tells_what_was_answered writes job old core start events w is e =
     let texts : Texts = record { writes = writes; are = w } in
-    let begun : Calling = started core job.format (length job.pages) start in
+    let begun : Calling = started core job start in
     let over : Calling = after_events writes job begun events in
     let marks : List Mark = marks_until_over writes job old begun events in
     let n : ℕ = over.counts.delivered in

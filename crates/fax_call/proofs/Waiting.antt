@@ -22,7 +22,6 @@ use Rattle.fax_frames.specs.declared.dcs.Dcs.{Dcs}
 use Rattle.fax_frames.specs.declared.rate.Rate.{Rate}
 use Rattle.fax_frames.specs.declared.rate.Rate.TheVariants.{V27At2400, V27At4800, V29At7200, V29At9600, V17At7200, V17At9600, V17At12000, V17At14400}
 use Rattle.fax_frames.specs.declared.frame.Frame.{Frame}
-use Rattle.fax_frames.specs.declared.writing.Plain.TheVariants as plain
 use Rattle.fax_frames.specs.Rates.{bits_a_second, kind_of, training_of}
 use Rattle.fax_frames.specs.Capabilities.{format_of, coding_of, least_bits_of}
 use Rattle.fax_frames.specs.Frames.{frame_of}
@@ -34,8 +33,9 @@ use Rattle.fax_jobs.specs.Jobs.{JobValue, IsJob}
 use Rattle.fax_call.specs.declared.state.State.{State}
 use Rattle.fax_call.specs.declared.state.State.TheVariants.{AwaitCfr, AwaitMcf}
 use Rattle.fax_call.specs.Writings.{Writing, IsWrittenAs, IsWriting}
-use Rattle.fax_call.specs.Replies.{Signals, Tells, Part, Due, One, Text, part_length, parts_of, check_length, training_check, frame_reply, training, is_last_page, command, image}
-use Rattle.fax_call.specs.Calls.{text_if, text_at}
+use Rattle.fax_call.specs.Replies.{Signals, Tells, Part, Due, One, Text, part_length, parts_of, check_length, training_check, frame_reply, training, command, image, command_by}
+use Rattle.fax_call.specs.Calls.{text_if, text_at, formats_of}
+use Rattle.fax_call.proofs.Due.{DueAt, format_at}
 use Rattle.fax_call.specs.Emission.{Emission, SinceDcs, since_dcs, dcs_by, ended_frame, frame_by_end, one_more, emitted_with, emitted_at, Mark, Gave, gave_all, elements_given, IsPageOf, frame_at, is_command, is_preamble, Reply, Asked, Unasked, Answered, closed, reply_given, reply_or, replied, IsAnswered, EmitsBy, Emits}
 use Rattle.fax_call.proofs.PacketsBack.{elements_in, signal_back, frame_back, part_back, read_dcs, dcs_back}
 
@@ -105,6 +105,10 @@ Told before read n = since_dcs before ≡ Some (record { dcs = read; signals = n
 abbrev pub signal_kind : Rate → ℕ
 signal_kind rate = pieces.kind_of_training (training_of rate false)
 
+-- the page, where the job has it, is of the format that the DCS tells
+abbrev pub IsFormatOf : JobValue → (page : ℕ) → Dcs → Type 0
+IsFormatOf job n dcs = DueAt (formats_of job) n (format_of dcs)
+
 -- within the image of a page: its octets so far are the front of the text
 pub record TextReady (texts : Texts) (job : JobValue) (page : ℕ) (dcs : Dcs) (from : ℕ) (before : List elements.Element) : Type 0 where
   pub later : List elements.Element
@@ -114,7 +118,7 @@ pub record TextReady (texts : Texts) (job : JobValue) (page : ℕ) (dcs : Dcs) (
   pub no_end : list_any (pieces.is_image_end (signal_kind dcs.rate)) later ≡ false
   pub octets : image_octets before ≡ take from (text_at texts.writes job page dcs)
   pub left : from < length (text_at texts.writes job page dcs)
-  pub format_is : format_of dcs ≡ job.format
+  pub format_is : IsFormatOf job page dcs
 
 pub record AfterText (dcs : Dcs) (before : List elements.Element) : Type 0 where
   pub n : ℕ
@@ -368,18 +372,19 @@ training_keeps dcs before =
     (parts_keep dcs.rate (training_check dcs) (elements.Signal (training_of dcs.rate true) ∷ front) (check_parts dcs)))
 
 -- the command, where the DCS was told
-pub passes_on : (end : Bool) (o : Option SinceDcs) → dcs_by (frame_of (written_plain (if end then plain.Eop else plain.Mps) true)) o ≡ o
-passes_on true o = refl
-passes_on false o = refl
+pub passes_on : (end : Bool) (turn : Option Format) (o : Option SinceDcs) → dcs_by (frame_of (written_plain (command_by end turn) true)) o ≡ o
+passes_on true turn o = refl
+passes_on false (Some format) o = refl
+passes_on false None o = refl
 
-pub command_safe : (texts : Texts) (job : JobValue) (page pages : ℕ) (dcs : Dcs) (before : List elements.Element) → AfterText dcs before → SafeTo texts job page (AfterText dcs) (command pages page) before
-command_safe texts job page pages dcs before a = by (is_last_page pages page)
-  where
-    by : (end : Bool) → SafeTo texts job page (AfterText dcs) (frame_reply (written_plain (if end then plain.Eop else plain.Mps) true)) before
-    by true = frame_safe texts job page (AfterText dcs) (written_plain plain.Eop true) [] before (omega arith) (omega arith)
-        (record { n = a.n; told = after_frame (written_plain plain.Eop true) before ∙ passes_on true (since_dcs before) ∙ a.told })
-    by false = frame_safe texts job page (AfterText dcs) (written_plain plain.Mps true) [] before (omega arith) (omega arith)
-        (record { n = a.n; told = after_frame (written_plain plain.Mps true) before ∙ passes_on false (since_dcs before) ∙ a.told })
+command_told : (end : Bool) (turn : Option Format) (dcs : Dcs) (before : List elements.Element) → AfterText dcs before →
+    AfterText dcs (elements.Field 0 4 [] ∷ elements.Field 0 0 (written_plain (command_by end turn) true) ∷ elements.Signal 3 ∷ before)
+command_told end turn dcs before a =
+    record { n = a.n; told = after_frame (written_plain (command_by end turn) true) before ∙ passes_on end turn (since_dcs before) ∙ a.told }
+
+pub command_safe : (texts : Texts) (job : JobValue) (page : ℕ) (end : Bool) (turn : Option Format) (dcs : Dcs) (before : List elements.Element) → AfterText dcs before → SafeTo texts job page (AfterText dcs) (command (command_by end turn)) before
+command_safe texts job page end turn dcs before a =
+    frame_safe texts job page (AfterText dcs) (written_plain (command_by end turn) true) [] before (omega arith) (omega arith) (command_told end turn dcs before a)
 
 abbrev pub no_text : List Due → Bool
 no_text [] = true
@@ -401,16 +406,17 @@ frame_asks f before h k c =
           (ap (λ (t : Bool). reply_given t true (after_one (elements.Signal 3 ∷ before) (elements.Field 0 0 f) r)) (ap is_command (frame_ends f before) ∙ c)),
     )
 
-pub command_asks : (pages page : ℕ) (before : List elements.Element) → Asks (command pages page) before
-command_asks pages page before = by (is_last_page pages page)
-  where
-    by : (end : Bool) → Asks (frame_reply (written_plain (if end then plain.Eop else plain.Mps) true)) before
-    by true = frame_asks (written_plain plain.Eop true) before (omega arith) (omega arith) refl
-    by false = frame_asks (written_plain plain.Mps true) before (omega arith) (omega arith) refl
+is_asked : (end : Bool) (turn : Option Format) → is_command (frame_of (written_plain (command_by end turn) true)) ≡ true
+is_asked true turn = refl
+is_asked false (Some format) = refl
+is_asked false None = refl
 
-pub image_asks : (pages page : ℕ) (dcs : Dcs) (before : List elements.Element) → Asks (image pages page dcs) before
-image_asks pages page dcs before =
-    (signal_asks_nothing (training_of dcs.rate false) before (code_fits dcs.rate false), (refl, λ after. command_asks pages page after))
+pub command_asks : (end : Bool) (turn : Option Format) (before : List elements.Element) → Asks (command (command_by end turn)) before
+command_asks end turn before = frame_asks (written_plain (command_by end turn) true) before (omega arith) (omega arith) (is_asked end turn)
+
+pub image_asks : (end : Bool) (turn : Option Format) (page : ℕ) (dcs : Dcs) (before : List elements.Element) → Asks (image (command_by end turn) page dcs) before
+image_asks end turn page dcs before =
+    (signal_asks_nothing (training_of dcs.rate false) before (code_fits dcs.rate false), (refl, λ after. command_asks end turn after))
 
 -- the image of a page that the job has, where the DCS was told
 pub page_at : (pages : List PageValue) (n : ℕ) → n < length pages → (page : PageValue) × (slice_get pages n ≡ Some page)
@@ -426,11 +432,6 @@ all_at P (p ∷ pages) (suc n) page a h = all_at P pages n page a.1 h
 
 pub page_is : (job : JobValue) (n : ℕ) (page : PageValue) → IsJob job → slice_get job.pages n ≡ Some page → IsPage page
 page_is job n page is h = all_at IsPage job.pages n page (recursion_from_All IsPage job.pages is.are_pages) h
-
-pub format_at : (job : JobValue) (n : ℕ) (page : PageValue) → IsJob job → slice_get job.pages n ≡ Some page → page.format ≡ job.format
-format_at job n page is h =
-    let P : PageValue → Type 0 = λ p. p.format ≡ job.format in
-    all_at P job.pages n page (recursion_from_All P job.pages is.one_format) h
 
 -- a text begins with an EOL, so it has an octet
 begins_so : (more : List Bool) → bits_of [] ≡ end_of_line ++ more → ⊥
@@ -459,10 +460,10 @@ text_left texts job n dcs is h =
 pub suc_one : (n : ℕ) → n + 1 ≡ suc n
 suc_one n = omega arith
 
-pub image_safe : (texts : Texts) (job : JobValue) (page pages : ℕ) (dcs : Dcs) (before : List elements.Element) → IsJob job → AfterText dcs before → page < length job.pages → format_of dcs ≡ job.format →
-    SafeTo texts job page (AfterText dcs) (image pages page dcs) before
-image_safe texts job page pages dcs before is a h f =
-    signal_safe texts job page (AfterText dcs) (training_of dcs.rate false) (Text page dcs 0 ∷ command pages page) before (code_fits dcs.rate false) (
+pub image_safe : (texts : Texts) (job : JobValue) (page : ℕ) (end : Bool) (turn : Option Format) (dcs : Dcs) (before : List elements.Element) → IsJob job → AfterText dcs before → page < length job.pages → IsFormatOf job page dcs →
+    SafeTo texts job page (AfterText dcs) (image (command_by end turn) page dcs) before
+image_safe texts job page end turn dcs before is a h f =
+    signal_safe texts job page (AfterText dcs) (training_of dcs.rate false) (Text page dcs 0 ∷ command (command_by end turn)) before (code_fits dcs.rate false) (
       refl,
       record {
         later = [];
@@ -474,7 +475,7 @@ image_safe texts job page pages dcs before is a h f =
         left = text_left texts job page dcs is h;
         format_is = f;
       },
-      λ after t. command_safe texts job page pages dcs after t,
+      λ after t. command_safe texts job page end turn dcs after t,
     )
 
 -- one more part of the text
@@ -548,7 +549,7 @@ width_is W2048 = inr (inl refl)
 width_is W2432 = inr (inr refl)
 
 -- the image means the page
-pub means_page : (texts : Texts) (job : JobValue) (n : ℕ) (dcs : Dcs) → IsJob job → n < length job.pages → format_of dcs ≡ job.format →
+pub means_page : (texts : Texts) (job : JobValue) (n : ℕ) (dcs : Dcs) → IsJob job → n < length job.pages → IsFormatOf job n dcs →
     IsPageOf job n (record { octets = text_at texts.writes job n dcs; dcs = read_dcs dcs })
 means_page texts job n dcs is h f =
     let p = page_at job.pages n h in
@@ -558,7 +559,7 @@ means_page texts job n dcs is h f =
     let octets : List ℕ = texts.writes page coding least in
     let is_page : IsPage page = page_is job n page is p.1 in
     let w : IsWrittenAs page coding least octets = texts.are page coding least is_page in
-    let same : page.format ≡ format_of dcs = format_at job n page is p.1 ∙ sym f in
+    let same : page.format ≡ format_of dcs = f page.format (format_at job.pages n page p.1) in
     let means : MeansRows (elements_of page.format.width) coding octets page.rows =
     written_pages_mean (elements_of page.format.width) coding page.format.fine least page.rows w.text octets (width_is page.format.width) is_page w.writes w.padded in
     record {

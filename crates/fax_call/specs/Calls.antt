@@ -1,6 +1,6 @@
 -- The calling side over a call: what waits, timers, the pace, ticks. (ITU-T T.30, 5.4.3 for T1 and T4; that timers act in
 -- ticks alone, and the pace, are this project's profile.)
-use Rattle.std.specs.Prelude.{ℕ, ◌+◌, nat_le, true, false, List, [], ◌∷◌, length, take, drop, Option, Some, None, slice_get, if◌then◌else◌}
+use Rattle.std.specs.Prelude.{ℕ, ◌+◌, nat_le, true, false, List, [], ◌∷◌, length, map, take, drop, Option, Some, None, slice_get, if◌then◌else◌}
 use Rattle.fax_runcodes.specs.declared.format.Format.{Format}
 use Rattle.fax_frames.specs.declared.dcs.Dcs.{Dcs}
 use Rattle.fax_frames.specs.Capabilities.{coding_of, least_bits_of}
@@ -17,14 +17,15 @@ use Rattle.fax_jobs.specs.Jobs.{JobValue}
 use Rattle.fax_call.specs.declared.state.State.{State}
 use Rattle.fax_call.specs.declared.state.State.TheVariants.{Idle, AwaitDis, AwaitCfr, AwaitMcf, Closing}
 use Rattle.fax_call.specs.Writings.{Writing}
-use Rattle.fax_call.specs.Replies.{Packet, Part, Due, One, Text, waits, part_length, calling_tone, training, command, image, goodbye}
-use Rattle.fax_call.specs.Table.{Counts, no_counts, Move, Stays, Trains, Sends, AsksAgain, Closes, HangsUp, on_frame, on_timers}
+use Rattle.fax_call.specs.Replies.{Packet, Part, Due, One, Text, waits, part_length, calling_tone, training, command_behind, turn_behind, command, image, goodbye}
+use Rattle.fax_call.specs.Table.{Counts, no_counts, Move, Stays, Trains, Sends, AsksAgain, Turns, Closes, HangsUp, on_frame, on_timers}
 
--- the calling side: its state, the job's format and number of pages, its counts, what waits, the first of it first, T1 and
--- T4, the moment of the last packet given on its leg, and the outcome of a call that has ended
+-- the calling side: its state, the format of the page due, those of all pages, the number of pages, its counts, what waits,
+-- the first of it first, T1 and T4, the moment of the last packet given on its leg, and the outcome of a call that has ended
 pub record Calling : Type 0 where
   pub state : State
   pub format : Format
+  pub formats : List Format
   pub pages : ℕ
   pub counts : Counts
   pub waiting : List Due
@@ -36,15 +37,20 @@ pub record Calling : Type 0 where
 -- no call was on the leg
 abbrev pub new_calling : Format → Calling
 new_calling format =
-    record { state = Idle; format = format; pages = 1; counts = no_counts; waiting = []; t1 = None; t4 = None; last = None; outcome = None }
+    record { state = Idle; format = format; formats = format ∷ []; pages = 1; counts = no_counts; waiting = []; t1 = None; t4 = None; last = None; outcome = None }
 
--- IDLE, start: CNG; T1 is set
-abbrev pub started : Calling → Format → ℕ → ℕ → Calling
-started a format pages now =
+-- the formats of the pages of a job
+abbrev pub formats_of : JobValue → List Format
+formats_of job = map (λ page. page.format) job.pages
+
+-- IDLE, the call of a job is started: CNG; T1 is set
+abbrev pub started : Calling → JobValue → ℕ → Calling
+started a job now =
     record {
       state = AwaitDis;
-      format = format;
-      pages = pages;
+      format = job.format;
+      formats = formats_of job;
+      pages = length job.pages;
       counts = no_counts;
       waiting = calling_tone;
       t1 = Some (moment_after now spans.t1);
@@ -56,29 +62,31 @@ started a format pages now =
 -- behind a move; T1 and T4 are clear while packets wait
 abbrev pub replied_with : Calling → State → Counts → List Due → Calling
 replied_with a state c due =
-    record { state = state; format = a.format; pages = a.pages; counts = c; waiting = due; t1 = None; t4 = None; last = a.last; outcome = a.outcome }
+    record { state = state; format = a.format; formats = a.formats; pages = a.pages; counts = c; waiting = due; t1 = None; t4 = None; last = a.last; outcome = a.outcome }
 
 abbrev pub moved : Calling → Move → Calling
 moved a Stays = a
 moved a (Trains dis dcs c) = replied_with a (AwaitCfr dis dcs) c (training dcs)
-moved a (Sends dis dcs c) = replied_with a (AwaitMcf dis dcs) c (image a.pages c.page dcs)
-moved a (AsksAgain c) = replied_with a a.state c (command a.pages c.page)
+moved a (Sends dis dcs c) = replied_with a (AwaitMcf dis dcs) c (image (command_behind a.formats a.pages c.page) c.page dcs)
+moved a (AsksAgain c) = replied_with a a.state c (command (command_behind a.formats a.pages c.page))
+moved a (Turns format t1 c) =
+    record { state = AwaitDis; format = format; formats = a.formats; pages = a.pages; counts = c; waiting = []; t1 = Some t1; t4 = None; last = a.last; outcome = a.outcome }
 moved a (Closes outcome c) = replied_with a (Closing outcome) c goodbye
 moved a HangsUp =
-    record { state = Idle; format = a.format; pages = a.pages; counts = a.counts; waiting = []; t1 = None; t4 = None; last = a.last; outcome = Some outcomes.HungUp }
+    record { state = Idle; format = a.format; formats = a.formats; pages = a.pages; counts = a.counts; waiting = []; t1 = None; t4 = None; last = a.last; outcome = Some outcomes.HungUp }
 
 -- A PIECE comes: frames alone matter, and none while packets wait
-abbrev pub heard : Calling → pieces.Piece → Move
-heard a (pieces.Frame octets) = if waits a.waiting then Stays else on_frame a.format a.pages a.state a.counts (frame_of octets)
-heard a piece = Stays
+abbrev pub heard : Calling → pieces.Piece → ℕ → Move
+heard a (pieces.Frame octets) now = if waits a.waiting then Stays else on_frame now a.format (turn_behind a.formats a.counts.page) a.pages a.state a.counts (frame_of octets)
+heard a piece now = Stays
 
-abbrev pub came : Calling → pieces.Piece → Calling
-came a piece = moved a (heard a piece)
+abbrev pub came : Calling → pieces.Piece → ℕ → Calling
+came a piece now = moved a (heard a piece now)
 
 -- the pieces of a datagram, in the order of time
-abbrev pub came_all : Calling → List pieces.Piece → Calling
-came_all a [] = a
-came_all a (piece ∷ more) = came_all (came a piece) more
+abbrev pub came_all : Calling → List pieces.Piece → ℕ → Calling
+came_all a [] now = a
+came_all a (piece ∷ more) now = came_all (came a piece now) more now
 
 -- A TICK. Timers act where no packet waits.
 abbrev pub timed : Calling → ℕ → Calling
@@ -129,6 +137,7 @@ after_giving a now [] =
     record {
       state = state_when_given a.state;
       format = a.format;
+      formats = a.formats;
       pages = a.pages;
       counts = a.counts;
       waiting = [];
@@ -158,13 +167,13 @@ paced writes job a now =
 abbrev pub ticked : Writing → JobValue → Calling → ℕ → Ticked
 ticked writes job a now = paced writes job (timed a now) now
 
--- A CALL over one unchanged job: what comes and the ticks, the newest first
+-- A CALL over one unchanged job: what comes, with its moment, and the ticks, the newest first
 pub data CallEvent : Type 0 where
-  Comes : (piece : pieces.Piece) → CallEvent
+  Comes : (piece : pieces.Piece) → (now : ℕ) → CallEvent
   Ticks : (now : ℕ) → CallEvent
 
 abbrev pub after_event : Writing → JobValue → Calling → CallEvent → Calling
-after_event writes job a (Comes piece) = came a piece
+after_event writes job a (Comes piece now) = came a piece now
 after_event writes job a (Ticks now) = (ticked writes job a now).core
 
 abbrev pub after_events : Writing → JobValue → Calling → List CallEvent → Calling

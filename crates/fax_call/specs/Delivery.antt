@@ -36,7 +36,7 @@ answered_images marks = good_one (replied marks) + answered_before marks
 -- command not yet over.
 abbrev pub AtTheLastMoment : List CallEvent → Type 0
 AtTheLastMoment [] = ⊥
-AtTheLastMoment (Comes piece ∷ before) = AtTheLastMoment before
+AtTheLastMoment (Comes piece now ∷ before) = AtTheLastMoment before
 AtTheLastMoment (Ticks now ∷ before) = (2 ^ 64 ≤ now + pace) ⊎ AtTheLastMoment before
 
 -- There alone a call that gives its last image up may have to wait with the DCN, and an answer that comes in that while is
@@ -126,7 +126,7 @@ marks_until_over writes job old a (e ∷ before) =
 abbrev pub TellsWhatWasAnswered : Type 0
 TellsWhatWasAnswered =
     (writes : Writing) (job : JobValue) (old : List Mark) (core : Calling) (start : ℕ) (events : List CallEvent) →
-    let begun : Calling = started core job.format (length job.pages) start in
+    let begun : Calling = started core job start in
     let over : Calling = after_events writes job begun events in
     let marks : List Mark = marks_until_over writes job old begun events in
     IsWriting writes → IsJob job → over.state ≡ Idle

@@ -1,5 +1,5 @@
 -- Emitted images: what the called leg was given, read by the grammars of packets, frames and images, and what it heard.
-use Rattle.std.specs.Prelude.{◌≡◌, ℕ, ◌+◌, Bool, true, false, ◌&&◌, nat_eq, nat_lt, List, [], ◌∷◌, ◌++◌, length, slice_get, Option, Some, None, option_map, if◌then◌else◌}
+use Rattle.std.specs.Prelude.{◌≡◌, ℕ, ◌+◌, Bool, true, false, ◌&&◌, nat_eq, nat_lt, List, [], ◌∷◌, ◌++◌, slice_get, Option, Some, None, option_map, if◌then◌else◌}
 use Rattle.fax_frames.specs.declared.dcs.Dcs.{Dcs}
 use Rattle.fax_frames.specs.declared.frame.Frame.{Frame}
 use Rattle.fax_frames.specs.declared.frame.Frame.TheVariants as frames
@@ -96,7 +96,7 @@ marks_given (Some packet) marks = gave_all (elements.elements_in (packet_of (wri
 -- over a call; `old` stood before it
 abbrev pub marks_after : Writing → JobValue → List Mark → Calling → List CallEvent → List Mark
 marks_after writes job old a [] = Begins ∷ old
-marks_after writes job old a (Comes piece ∷ before) = marks_heard piece (marks_after writes job old a before)
+marks_after writes job old a (Comes piece now ∷ before) = marks_heard piece (marks_after writes job old a before)
 marks_after writes job old a (Ticks now ∷ before) =
     marks_given (ticked writes job (after_events writes job a before) now).given (marks_after writes job old a before)
 
@@ -112,6 +112,7 @@ frame_at before (elements.Field kind what octets) = ended_frame kind what before
 frame_at before e = None
 
 abbrev pub is_command : Option Frame → Bool
+is_command (Some frames.Eom) = true
 is_command (Some frames.Mps) = true
 is_command (Some frames.Eop) = true
 is_command frame = false
@@ -121,7 +122,7 @@ abbrev pub is_preamble : Option pieces.Since → Bool
 is_preamble None = false
 is_preamble (Some s) = nat_eq s.code 3
 
--- Whether the image emitted last was asked about and answered: a command (MPS or EOP) was given since, behind its preamble,
+-- Whether the image emitted last was asked about and answered: a command (EOM, MPS or EOP) was given since, behind its preamble,
 -- and the first frame MCF, RTP or RTN that came behind the last command says so. Whatever is given next closes the
 -- question, and a frame that comes then answers nothing.
 pub data Reply : Type 0 where
@@ -186,4 +187,4 @@ abbrev pub EmitsThePages : Type 0
 EmitsThePages =
     (writes : Writing) (job : JobValue) (old : List Mark) (core : Calling) (start : ℕ) (events : List CallEvent)
     → IsWriting writes → IsJob job
-    → (last : Option ℕ) × Emits job (marks_after writes job old (started core job.format (length job.pages) start) events) last
+    → (last : Option ℕ) × Emits job (marks_after writes job old (started core job start) events) last

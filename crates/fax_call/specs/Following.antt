@@ -1,14 +1,17 @@
 -- What a procedure is in place of the core that it stands for. No law speaks of this module.
-use Rattle.std.specs.Prelude.{◌≡◌, ℕ, ◌<◌, Bool, ◌&&◌, List, length, drop, Some}
+use Rattle.std.specs.Prelude.{◌≡◌, ℕ, ◌<◌, Bool, ◌&&◌, List, length, drop, slice_get, Option, Some}
+use Rattle.fax_runcodes.specs.declared.format.Format.{Format}
+use Rattle.fax_frames.specs.declared.writing.Plain.{Plain}
 use Rattle.fax_timers.specs.Paces.{pace_allows}
 use Rattle.fax_jobs.specs.Jobs.{JobValue}
 use Rattle.fax_call.specs.declared.pending.Pending.{Pending}
 use Rattle.fax_call.specs.declared.pending.Pending.TheVariants as pendings
 use Rattle.fax_call.specs.declared.procedure.Procedure.{Procedure}
-use Rattle.fax_call.specs.declared.state.State.TheVariants.{Idle}
+use Rattle.fax_call.specs.declared.state.State.{State}
+use Rattle.fax_call.specs.declared.state.State.TheVariants.{Idle, AwaitMcf}
 use Rattle.fax_call.specs.Writings.{Writing}
-use Rattle.fax_call.specs.Replies.{Packet, waits, part_length}
-use Rattle.fax_call.specs.Calls.{Calling, text_at, given_first, state_when_given, outcome_when_given, t4_when_given}
+use Rattle.fax_call.specs.Replies.{Packet, waits, part_length, is_last_page, turn_behind, command_by, command_behind}
+use Rattle.fax_call.specs.Calls.{Calling, formats_of, text_at, given_first, state_when_given, outcome_when_given, t4_when_given}
 use Rattle.fax_call.specs.Kept.{counts_shown, waiting_of, pending_behind, FitsState, FitsPending}
 
 -- what is known of every procedure
@@ -23,14 +26,22 @@ abbrev pub IsLeft : Writing → JobValue → (page : ℕ) → (from : ℕ) → P
 IsLeft writes job page from (pendings.Text dcs plain) text = text ≡ drop from (text_at writes job page dcs)
 IsLeft writes job page from pending text = Unit {0}
 
+-- from the short training indicator of a page on, the format of the next page is kept, where it is another
+abbrev pub KeepsTurn : State → Pending → List Format → (page : ℕ) → (turn : Option Format) → Type 0
+KeepsTurn (AwaitMcf dis dcs) (pendings.Image d) formats page turn = Unit {0}
+KeepsTurn (AwaitMcf dis dcs) pending formats page turn = turn ≡ turn_behind formats page
+KeepsTurn state pending formats page turn = Unit {0}
+
 -- a procedure that stands for a core in the call of a job; what is left of the text that is given is kept beside it
 pub record Follows (writes : Writing) (job : JobValue) (core : Calling) (text : List ℕ) (p : Procedure) : Type 0 where
   pub state : p.state ≡ core.state
   pub format : p.format ≡ core.format
+  pub formats : (core.state ≡ Idle → ⊥) → core.formats ≡ formats_of job
+  pub turn : KeepsTurn p.state p.pending core.formats p.counts.page p.turn
   pub pages : p.pages ≡ core.pages
   pub counts : counts_shown p.counts ≡ core.counts
   pub from : ℕ
-  pub waiting : waiting_of p.pending p.counts.page from ≡ core.waiting
+  pub waiting : waiting_of p.pending (command_behind core.formats core.pages p.counts.page) p.counts.page from ≡ core.waiting
   pub left : IsLeft writes job p.counts.page from p.pending text
   pub t1 : p.t1 ≡ core.t1
   pub t4 : p.t4 ≡ core.t4
@@ -46,9 +57,16 @@ abbrev pub HasText : Pending → List ℕ → Type 0
 HasText (pendings.Text dcs plain) text = 0 < length text
 HasText pending text = Unit {0}
 
+-- the job has as many pages, and those formats that are kept: that of the page due, and that of the next page, where it is
+-- another
+pub record HasFormats (p : Procedure) (job : JobValue) : Type 0 where
+  pub pages : length job.pages ≡ p.pages
+  pub due : slice_get (formats_of job) p.counts.page ≡ Some p.format
+  pub turn : KeepsTurn p.state p.pending (formats_of job) p.counts.page p.turn
+
 -- the job is the one of the call that is on, if one is
 abbrev pub IsJobOfCall : Procedure → JobValue → Type 0
-IsJobOfCall p job = (p.state ≡ Idle → ⊥) → (job.format ≡ p.format) × (length job.pages ≡ p.pages)
+IsJobOfCall p job = (p.state ≡ Idle → ⊥) → HasFormats p job
 
 -- how many octets of a text the next packet has at most
 abbrev pub text_octets : Pending → ℕ
@@ -57,14 +75,9 @@ text_octets pending = 0
 
 -- what is left of the text behind the next packet, where this text is made with it
 abbrev pub text_behind : Pending → (made : List ℕ) → List ℕ → List ℕ
-text_behind (pendings.Image dcs plain) made text = made
+text_behind (pendings.Image dcs) made text = made
 text_behind (pendings.Text dcs plain) made text = drop (part_length dcs) text
 text_behind pending made text = text
-
--- a text is made where the short training indicator is given
-abbrev pub IsMade : Writing → JobValue → (page : ℕ) → Pending → List ℕ → Type 0
-IsMade writes job page (pendings.Image dcs plain) made = made ≡ text_at writes job page dcs
-IsMade writes job page pending made = Unit {0}
 
 -- the procedure behind the next packet, where so many octets were left of a text
 abbrev pub behind_packet : Pending → Procedure → ℕ → Procedure
@@ -78,8 +91,16 @@ behind_packet pendings.Nothing p now =
     }
 behind_packet pending p now = record p { pending = pending; pace = Some now }
 
+-- the command behind the page due, by the next page's format that is kept
+abbrev pub command_kept : Procedure → Plain
+command_kept p = command_by (is_last_page p.pages p.counts.page) p.turn
+
 abbrev pub given_by : Procedure → (left : ℕ) → ℕ → Procedure
-given_by p left now = behind_packet (pending_behind p.pending left) p now
+given_by p left now = behind_packet (pending_behind p.pending (command_kept p) left) p now
+
+-- the job tells the next page's format
+abbrev pub with_turn : Procedure → JobValue → Procedure
+with_turn p job = record p { turn = turn_behind (formats_of job) p.counts.page }
 
 -- the next packet is given, behind which this is left of the text
 pub record GivesNext (writes : Writing) (job : JobValue) (core : Calling) (now : ℕ) (packet : Packet) (left : List ℕ) (new : Procedure) : Type 0 where

@@ -1,5 +1,5 @@
 -- The packets that the calling side gives, each by itself. (ITU-T T.38.)
-use Rattle.std.specs.Prelude.{◌≡◌, ℕ, true, List, length, Some}
+use Rattle.std.specs.Prelude.{◌≡◌, ℕ, true, List, Some}
 use Rattle.fax_ifp.specs.Packets.{packet_of}
 use Rattle.fax_ifp.specs.Schedules.{is_closed}
 use Rattle.fax_jobs.specs.Jobs.{JobValue, IsJob}
@@ -12,5 +12,5 @@ use Rattle.fax_call.specs.Calls.{Calling, started, ticked, CallEvent, after_even
 abbrev pub GivesClosedPackets : Type 0
 GivesClosedPackets =
     (writes : Writing) (job : JobValue) (core : Calling) (start now : ℕ) (events : List CallEvent) (packet : Packet) → IsWriting writes → IsJob job
-    → (ticked writes job (after_events writes job (started core job.format (length job.pages) start) events) now).given ≡ Some packet
+    → (ticked writes job (after_events writes job (started core job start) events) now).given ≡ Some packet
     → is_closed (packet_of (written packet)) ≡ true

@@ -10,3 +10,4 @@ pub mod Replies
 pub mod Table
 pub mod Writings
 pub mod Given
+pub mod GivingUp

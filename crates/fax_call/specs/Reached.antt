@@ -24,10 +24,10 @@ pub record IsReached (writes : Writing) (job : JobValue) (heard : List Slot) (co
   pub follows : Follows writes job core kept.text kept.procedure
 
 -- More slots, in the order of time, led on, whatever came before: their pieces came.
-pub record Hears (writes : Writing) (job : JobValue) (slots : List Slot) (heard : List Slot) (core : Calling) (new : Kept) : Type 0 where
+pub record Hears (writes : Writing) (job : JobValue) (slots : List Slot) (now : ℕ) (heard : List Slot) (core : Calling) (new : Kept) : Type 0 where
   pub given : List Piece
   pub pieces : pieces (reverse slots ++ heard) ≡ pieces heard ++ given
-  pub reached : IsReached writes job (reverse slots ++ heard) (came_all core given) new
+  pub reached : IsReached writes job (reverse slots ++ heard) (came_all core given now) new
 
 -- a tick gives the octets of its packet, where it gives one
 abbrev pub IsGiven : Ticked → Option (List ℕ) → Type 0

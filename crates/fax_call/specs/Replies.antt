@@ -1,7 +1,11 @@
 -- The packets that the calling side gives (ITU-T T.30, 5.3 and 5.2, as packets of T.38).
-use Rattle.std.specs.Prelude.{ℕ, zero, suc, ◌+◌, ◌*◌, ◌/◌, nat_eq, nat_le, Bool, true, false, List, [], ◌∷◌, length, take, drop, replicate, if◌then◌else◌}
+use Rattle.std.specs.Prelude.{ℕ, zero, suc, ◌+◌, ◌*◌, ◌/◌, nat_eq, nat_le, Bool, true, false, not, ◌&&◌, List, [], ◌∷◌, length, take, drop, replicate, slice_get, Option, Some, None, if◌then◌else◌}
+use Rattle.fax_runcodes.specs.declared.format.Format.{Format}
+use Rattle.fax_runcodes.specs.declared.Width.{Width}
+use Rattle.fax_runcodes.specs.declared.Width.TheVariants.{W1728, W2048, W2432}
 use Rattle.fax_frames.specs.declared.dcs.Dcs.{Dcs}
-use Rattle.fax_frames.specs.declared.writing.Plain.TheVariants.{Mps, Eop, Dcn}
+use Rattle.fax_frames.specs.declared.writing.Plain.{Plain}
+use Rattle.fax_frames.specs.declared.writing.Plain.TheVariants.{Eom, Mps, Eop, Dcn}
 use Rattle.fax_frames.specs.Rates.{bits_a_second, kind_of, training_of}
 use Rattle.fax_frames.specs.Written.{written_plain, written_dcs}
 use Rattle.fax_ifp.specs.declared.codes.Indicator.TheVariants.{Cng, V21Preamble}
@@ -63,13 +67,44 @@ training dcs =
 abbrev pub is_last_page : (pages : ℕ) → (page : ℕ) → Bool
 is_last_page pages page = nat_eq (page + 1) pages
 
--- the command behind a page: EOP behind the last one, else MPS
-abbrev pub command : (pages : ℕ) → (page : ℕ) → List Due
-command pages page = frame_reply (written_plain (if is_last_page pages page then Eop else Mps) true)
+-- whether two formats are one
+abbrev pub same_width : Width → Width → Bool
+same_width W1728 W1728 = true
+same_width W2048 W2048 = true
+same_width W2432 W2432 = true
+same_width v w = false
+
+abbrev pub same_bool : Bool → Bool → Bool
+same_bool true b = b
+same_bool false b = not b
+
+abbrev pub same_format : Format → Format → Bool
+same_format f g = same_width f.width g.width && same_bool f.fine g.fine
+
+-- the format of the page behind one, where there is such a page and its format is another
+abbrev pub turn_if : Option Format → Option Format → Option Format
+turn_if (Some format) (Some next) = if same_format format next then None else Some next
+turn_if format next = None
+
+abbrev pub turn_behind : List Format → (page : ℕ) → Option Format
+turn_behind formats page = turn_if (slice_get formats page) (slice_get formats (page + 1))
+
+-- the command behind a page (ITU-T T.30, 5.3.6.1.5): EOP behind the last one, EOM where the next one is of another format,
+-- else MPS
+abbrev pub command_by : (is_last : Bool) → (turn : Option Format) → Plain
+command_by true turn = Eop
+command_by false (Some format) = Eom
+command_by false None = Mps
+
+abbrev pub command_behind : List Format → (pages : ℕ) → (page : ℕ) → Plain
+command_behind formats pages page = command_by (is_last_page pages page) (turn_behind formats page)
+
+abbrev pub command : Plain → List Due
+command plain = frame_reply (written_plain plain true)
 
 -- an image: the short training indicator, the text of the page, and the command
-abbrev pub image : (pages : ℕ) → (page : ℕ) → Dcs → List Due
-image pages page dcs = One (Signals (training_of dcs.rate false)) ∷ Text page dcs 0 ∷ command pages page
+abbrev pub image : Plain → (page : ℕ) → Dcs → List Due
+image plain page dcs = One (Signals (training_of dcs.rate false)) ∷ Text page dcs 0 ∷ command plain
 
 abbrev pub goodbye : List Due
 goodbye = frame_reply (written_plain Dcn true)

@@ -2,14 +2,13 @@
 ghost use Rattle.std.specs.Prelude.{◌≡◌, ◌≢◌, ◌<◌, ◌≤◌, List, [], Ok, Some, None, IsSome, IfSome, IfOk, OnOk, OnErr, length, drop};
 ghost use Rattle.fax_bits.specs.Laws.{AreOctets};
 ghost use Rattle.fax_ifp.specs.Elements.{Slot as SlotShown};
-ghost use Rattle.fax_jobs.specs.Jobs.{JobValue};
+ghost use Rattle.fax_jobs.specs.Jobs.{JobValue, IsJob};
 ghost use Rattle.fax_call.specs.Writings.{Writing, IsWriting};
 ghost use Rattle.fax_call.specs.Calls.{Calling, new_calling, started, text_at, ticked};
-ghost use Rattle.fax_call.specs.Following.{IsFit, HasText, IsJobOfCall, given_by, text_octets};
+ghost use Rattle.fax_call.specs.Following.{IsFit, HasText, IsJobOfCall, given_by, with_turn, text_octets};
 ghost use Rattle.fax_call.specs.Kept.{packet_of};
 ghost use Rattle.fax_call.specs.Replies.{written};
 ghost use Rattle.fax_frames.specs.declared.dcs.Dcs.{Dcs as DcsShown};
-ghost use Rattle.fax_frames.specs.declared.writing.Plain.{Plain};
 ghost use Rattle.fax_call.specs.Reached.{IsReached, IsGiven};
 
 use crate::State;
@@ -77,13 +76,14 @@ impl Caller {
         self.room.reserve(self.alloc, INDICATOR_OCTETS)
     }
 
-    /// The call of a job begins, of at least one page, where no call is on: CNG waits, and T1 is set. It takes no memory.
+    /// The call of a job begins, of at least one page, the first of this format, where no call is on: CNG waits, and T1 is
+    /// set. It takes no memory.
     pub fn start(&mut self, format: Format, pages: u32, now: u64)
         requires idle { self.old.procedure.state ≡ State.Idle }
         requires some { 1 ≤ pages }
         ensures started { (writes others : Writing) (job other : JobValue) (heard : List SlotShown) (core : Calling) → IsReached others other heard core self.old
-            → IsReached writes job [] (started core format pages now) self.new }
-        ensures job { (job : JobValue) → job.format ≡ format → length job.pages ≡ pages → IsJobOfCall self.new.procedure job }
+            → job.format ≡ format → length job.pages ≡ pages → IsReached writes job [] (started core job now) self.new }
+        ensures job { (job : JobValue) → IsJob job → job.format ≡ format → length job.pages ≡ pages → IsJobOfCall self.new.procedure job }
         ensures tone { self.new.procedure.pending ≡ Pending.Tone }
         ensures spare { self.new.spare ≡ self.old.spare }
     {
@@ -114,9 +114,11 @@ impl Caller {
     }
 
     /// Time goes on: where no packet waits a timer that is due acts, and then at most one packet is given, where one waits
-    /// and the pace allows. The job is the one of the call, the same at each tick. It takes memory for the packet, and for
-    /// the text of a page where its short training indicator is given; none for CNG where it was reserved; where no call is
-    /// on it takes none and gives nothing. A packet has at most 100 octets. An `Err` changes nothing.
+    /// and the pace allows. The job is the one of the call, the same at each tick: it has as many pages, and those formats
+    /// that are kept of them. Where its next page is of another format, the command is EOM, and that format is kept. It
+    /// takes memory for the packet, and for the text of a page where its short training indicator is given; none for CNG
+    /// where it was reserved; where no call is on it takes none and gives nothing. A packet has at most 100 octets. An
+    /// `Err` changes nothing.
     pub fn tick<S: RowStore>(&mut self, job: &Job<S>, now: u64) -> Result<Option<Octets>, NoMemory>
         requires { IsJobOfCall self.old.procedure job.now }
         ensures ticked { IfOk result (λ given. (writes : Writing) (heard : List SlotShown) (core : Calling) → IsWriting writes
@@ -137,12 +139,13 @@ impl Caller {
             return Ok(None);
         }
         match procedure.pending {
-            Pending::Image(dcs, _) => self.begin_text(job, procedure, dcs, now),
+            Pending::Image(dcs) => self.begin_text(job, procedure, dcs, now),
             _ => self.give_packet(procedure, now),
         }
     }
 
-    /// The short training indicator is given, and the text of the page is made. An `Err` changes nothing.
+    /// The short training indicator is given, the text of the page is made, and the next page's format is kept, where it
+    /// is another. An `Err` changes nothing.
     fn begin_text<S: RowStore>(
         &mut self,
         job: &Job<S>,
@@ -152,19 +155,20 @@ impl Caller {
     ) -> Result<Option<Octets>, NoMemory>
         requires fit { IsFit procedure }
         requires page { procedure.counts.page < length job.now.pages }
-        requires pending { (plain : Plain) × (procedure.pending ≡ Pending.Image dcs plain) }
+        requires pending { procedure.pending ≡ Pending.Image dcs }
         ensures packet { IfOk result (λ given. given ≡ Some (written (packet_of procedure.pending []))) }
         ensures given { OnOk result ((writes : Writing) → IsWriting writes → self.new ≡ record {
           tracked = self.old.tracked;
-          procedure = given_by procedure 0 now;
+          procedure = given_by (with_turn procedure job.now) 0 now;
           text = text_at writes job.now procedure.counts.page dcs;
           spare = self.new.spare;
         }) }
-        ensures same { OnOk result (self.new.procedure ≡ given_by procedure 0 now) }
+        ensures same { OnOk result (self.new.procedure ≡ given_by (with_turn procedure job.now) 0 now) }
         ensures err { OnErr result (self.new ≡ self.old) }
     {
         let octets = write_text(self.alloc, job, procedure.counts.page, dcs)?;
         let packet = procedure.pending.packet(self.alloc, &mut self.room, &[])?;
+        procedure.keep_turn(job);
         procedure.give(0, now);
         self.procedure = procedure;
         self.text = TextLeft::all(octets);
@@ -180,7 +184,7 @@ impl Caller {
         requires fit { IsFit procedure }
         requires some { procedure.pending ≢ Pending.Nothing }
         requires text { HasText procedure.pending self.old.text }
-        requires other { (dcs : DcsShown) (plain : Plain) → procedure.pending ≢ Pending.Image dcs plain }
+        requires other { (dcs : DcsShown) → procedure.pending ≢ Pending.Image dcs }
         ensures packet { IfOk result (λ given. given ≡ Some (written (packet_of procedure.pending self.old.text))) }
         ensures given { OnOk result (self.new ≡ record {
           tracked = self.old.tracked;

@@ -1,7 +1,7 @@
 //! What is counted of a call.
 ghost use Rattle.std.specs.Prelude.{◌≡◌, ◌+◌, ◌<◌, ◌^◌};
 ghost use Rattle.fax_call.specs.Kept.{counts_shown};
-ghost use Rattle.fax_call.specs.Table.{no_counts, first_try, next_try, next_step, next_page, one_delivered, one_refused};
+ghost use Rattle.fax_call.specs.Table.{no_counts, first_try, next_try, next_step, next_page, next_exchange, one_delivered, one_refused};
 
 /// What is counted of a call.
 #[derive(Clone, Copy)]
@@ -74,6 +74,18 @@ impl Counts {
             tries: 1,
             refused: 0,
             delivered: self.page + 1,
+        }
+    }
+
+    /// The next page, for which the rates of a DIS begin anew.
+    pub fn next_exchange(self) -> Self
+        requires page { self.page + 1 < 2 ^ 32 }
+        requires delivered { self.delivered ≡ self.page }
+        ensures { counts_shown result ≡ next_exchange (counts_shown self) }
+    {
+        Counts {
+            step: 0,
+            ..self.next_page()
         }
     }
 

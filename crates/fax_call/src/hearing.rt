@@ -1,5 +1,5 @@
 //! What the calling side makes of the slots that come.
-ghost use Rattle.std.specs.Prelude.{◌≡◌, List, [], IsOk, OnOk, OnErr};
+ghost use Rattle.std.specs.Prelude.{◌≡◌, ℕ, List, [], IsOk, OnOk, OnErr};
 ghost use Rattle.fax_ifp.specs.Elements.{Slot as SlotShown};
 ghost use Rattle.fax_ifp.specs.Shown.{pieces_shown};
 ghost use Rattle.fax_ifp.specs.Tracked.{lost_slots};
@@ -16,18 +16,19 @@ use fax_ifp::{Piece, Pieces, Slot};
 use fax_udptl::Decided;
 
 impl Caller {
-    /// Takes the slots that a datagram decides, all of them or none: frames are answered, where no packet waits. It takes
-    /// memory for packets of more than four fields, and none where no packet is decided. An `Err` changes nothing.
-    pub fn slots(&mut self, decided: &Decided<'_>, _now: u64) -> Result<(), NoMemory>
+    /// Takes the slots that a datagram decides, all of them or none: frames are answered, where no packet waits. Where
+    /// MCF or RTP answers an EOM, T1 is set from this moment. It takes memory for packets of more than four fields, and
+    /// none where no packet is decided. An `Err` changes nothing.
+    pub fn slots(&mut self, decided: &Decided<'_>, now: u64) -> Result<(), NoMemory>
         ensures heard { OnOk result ((writes : Writing) (job : JobValue) (heard : List SlotShown) (core : Calling)
-            → IsReached writes job heard core self.old → Hears writes job (slots_in decided.now) heard core self.new) }
+            → IsReached writes job heard core self.old → Hears writes job (slots_in decided.now) now heard core self.new) }
         ensures job { (job : JobValue) → IsJobOfCall self.old.procedure job → IsJobOfCall self.new.procedure job }
         ensures err { OnErr result (self.new ≡ self.old) }
         ensures no_packet { decided.now.packets ≡ [] → IsOk result }
     {
         let signals = self.signals.copy();
         let procedure = self.procedure;
-        if self.hear_slots(decided).is_err() {
+        if self.hear_slots(decided, now).is_err() {
             self.signals = signals;
             self.procedure = procedure;
             return Err(NoMemory);
@@ -36,9 +37,9 @@ impl Caller {
     }
 
     /// Hears the slots. An `Err` leaves what is left of the text, and the room.
-    fn hear_slots(&mut self, decided: &Decided<'_>) -> Result<(), NoMemory>
+    fn hear_slots(&mut self, decided: &Decided<'_>, now: u64) -> Result<(), NoMemory>
         ensures heard { OnOk result ((writes : Writing) (job : JobValue) (heard : List SlotShown) (core : Calling)
-            → IsReached writes job heard core self.old → Hears writes job (slots_in decided.now) heard core self.new) }
+            → IsReached writes job heard core self.old → Hears writes job (slots_in decided.now) now heard core self.new) }
         ensures job { (job : JobValue) → IsJobOfCall self.old.procedure job → IsJobOfCall self.new.procedure job }
         ensures text { self.new.text ≡ self.old.text }
         ensures spare { self.new.spare ≡ self.old.spare }
@@ -48,27 +49,27 @@ impl Caller {
         let mut pieces = Pieces::new(self.alloc);
         for packet in decided.packets() {
             self.signals.slot_into(Slot::Packet(packet), &mut pieces)?;
-            self.hear_all(pieces.as_slice());
+            self.hear_all(pieces.as_slice(), now);
         }
         Ok(())
     }
 
     /// Hears pieces, in the order of time.
-    fn hear_all(&mut self, pieces: &[Piece<'_>])
+    fn hear_all(&mut self, pieces: &[Piece<'_>], now: u64)
         ensures heard { (writes : Writing) (job : JobValue) (core : Calling) → Follows writes job core self.old.text self.old.procedure
-            → Follows writes job (came_all core (pieces_shown pieces.now)) self.new.text self.new.procedure }
+            → Follows writes job (came_all core (pieces_shown pieces.now) now) self.new.text self.new.procedure }
         ensures tracked { self.new.tracked ≡ self.old.tracked }
         ensures text { self.new.text ≡ self.old.text }
         ensures spare { self.new.spare ≡ self.old.spare }
         ensures job { (job : JobValue) → IsJobOfCall self.old.procedure job → IsJobOfCall self.new.procedure job }
     {
-        self.procedure.hear_all(pieces);
+        self.procedure.hear_all(pieces, now);
     }
 
     /// So many slots are missing.
     fn lose(&mut self, count: u16)
-        ensures heard { (writes : Writing) (job : JobValue) (heard : List SlotShown) (core : Calling)
-            → IsReached writes job heard core self.old → Hears writes job (lost_slots count) heard core self.new }
+        ensures heard { (writes : Writing) (job : JobValue) (now : ℕ) (heard : List SlotShown) (core : Calling)
+            → IsReached writes job heard core self.old → Hears writes job (lost_slots count) now heard core self.new }
         ensures procedure { self.new.procedure ≡ self.old.procedure }
         ensures text { self.new.text ≡ self.old.text }
         ensures spare { self.new.spare ≡ self.old.spare }

@@ -3,6 +3,7 @@
 ghost use Rattle.fax_call.specs.Delivery.{TellsWhatWasAnswered};
 ghost use Rattle.fax_call.specs.Emission.{EmitsThePages};
 ghost use Rattle.fax_call.specs.Given.{GivesClosedPackets};
+ghost use Rattle.fax_call.specs.GivingUp.{TellsWhyItGaveUp};
 ghost use Rattle.fax_call.specs.Numbers.{NumbersAreFixed};
 ghost use Rattle.fax_call.specs.Refusals.{EndsByRefusal, NoneIsLacking};
 ghost use Rattle.fax_call.specs.Writings.{PagesHaveTexts, TextsAreOne};
@@ -30,6 +31,11 @@ pub fn tells_what_was_answered()
 /// A job for which a DIS that is taken leaves no choice ends with that refusal, whatever comes.
 pub fn ends_by_refusal()
     ensures { EndsByRefusal }
+{}
+
+/// Where a DIS is awaited in vain, the call ends with NoReply where one was accepted before in it, else with NoAnswer.
+pub fn tells_why_it_gave_up()
+    ensures { TellsWhyItGaveUp }
 {}
 
 /// No image is emitted of a page whose width or resolution the called machine lacks.

@@ -59,8 +59,8 @@ pub(crate) enum Pending {
     Training(Dcs),
     /// The training check, of which so many octets were given.
     Check(Dcs, u16),
-    /// The short training indicator, and behind it the text of the page and this command.
-    Image(Dcs, Plain),
+    /// The short training indicator, and behind it the text of the page and its command.
+    Image(Dcs),
     /// What is left of the text of the page, and behind it this command.
     Text(Dcs, Plain),
 }
@@ -83,7 +83,7 @@ impl Pending {
             Pending::Frame(message) => write_frame(alloc, message.frame().as_slice()),
             Pending::Training(dcs) => indicator(alloc, room, dcs.rate.training(true)),
             Pending::Check(dcs, given) => check_packet(alloc, dcs, given),
-            Pending::Image(dcs, _) => indicator(alloc, room, dcs.rate.training(false)),
+            Pending::Image(dcs) => indicator(alloc, room, dcs.rate.training(false)),
             Pending::Text(dcs, _) => text_packet(alloc, dcs, text),
         }
     }
@@ -98,10 +98,10 @@ impl Pending {
         }
     }
 
-    /// What waits behind it, where so many octets were left of the text.
-    pub fn behind(self, left: usize) -> Pending
+    /// What waits behind it, where so many octets were left of the text, and this is the command behind the page due.
+    pub fn behind(self, left: usize, command: Plain) -> Pending
         requires { FitsPending self }
-        ensures behind { result ≡ pending_behind self left }
+        ensures behind { result ≡ pending_behind self command left }
         ensures fits { FitsPending result }
     {
         match self {
@@ -117,10 +117,10 @@ impl Pending {
                     Pending::Check(dcs, given + part)
                 }
             }
-            Pending::Image(dcs, command) => Pending::Text(dcs, command),
-            Pending::Text(dcs, command) => {
+            Pending::Image(dcs) => Pending::Text(dcs, command),
+            Pending::Text(dcs, asks) => {
                 if left <= usize::from(part_length(dcs)) {
-                    Pending::Preamble(Message::Plain(command))
+                    Pending::Preamble(Message::Plain(asks))
                 } else {
                     self
                 }

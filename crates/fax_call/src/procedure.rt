@@ -1,11 +1,13 @@
 //! The procedure of a call (ITU-T T.30): its state, what is counted of it, what waits, timers and pace. It is plain data
 //! and takes no memory.
-ghost use Rattle.std.specs.Prelude.{◌≡◌, ◌≢◌, ◌↔◌, ◌≤◌, ◌<◌, IsTrue, List, ℕ, Option, None, Some, if◌then◌else◌, false};
-ghost use Rattle.fax_jobs.specs.Jobs.{JobValue};
+ghost use Rattle.std.specs.Prelude.{◌≡◌, ◌≢◌, ◌↔◌, ◌≤◌, ◌<◌, IsTrue, List, ℕ, length, Option, None, Some, if◌then◌else◌, false};
+ghost use Rattle.fax_jobs.specs.Jobs.{JobValue, IsJob};
 ghost use Rattle.fax_call.specs.Writings.{Writing};
+ghost use Rattle.fax_call.specs.Replies.{turn_behind};
+ghost use Rattle.fax_call.specs.Calls.{formats_of};
 ghost use Rattle.fax_call.specs.Calls.{Calling, new_calling, started, moved, timed, came, came_all, state_when_given, outcome_when_given, t4_when_given};
-ghost use Rattle.fax_call.specs.Kept.{move_shown, pending_of, command_of, FitsMove};
-ghost use Rattle.fax_call.specs.Following.{IsFit, Follows, HasText, given_by, gives_now};
+ghost use Rattle.fax_call.specs.Kept.{move_shown, pending_of, FitsMove};
+ghost use Rattle.fax_call.specs.Following.{IsFit, Follows, HasText, IsJobOfCall, command_kept, with_turn, given_by, gives_now};
 ghost use Rattle.fax_ifp.specs.Shown.{piece_of, pieces_shown};
 
 use crate::State;
@@ -14,8 +16,8 @@ use crate::pending::{Message, Pending};
 use crate::table::Move;
 use fax_frames::{Frame, Plain};
 use fax_ifp::Piece;
-use fax_jobs::Outcome;
-use fax_pagestore::Format;
+use fax_jobs::{Job, Outcome};
+use fax_pagestore::{Format, RowStore};
 use fax_runcodes::Width;
 use fax_timers::{Pace, T1_MS, T4_MS, Timer};
 
@@ -23,8 +25,11 @@ use fax_timers::{Pace, T1_MS, T4_MS, Timer};
 #[derive(Clone, Copy)]
 pub(crate) struct Procedure {
     pub state: State,
-    /// The format of the job's pages, and how many there are.
+    /// The format of the page due.
     pub format: Format,
+    /// The format of the page behind the one whose image goes out, where it is another: its command is EOM then.
+    pub turn: Option<Format>,
+    /// How many pages the job has.
     pub pages: u32,
     pub counts: Counts,
     pub pending: Pending,
@@ -52,6 +57,7 @@ impl Procedure {
         Procedure {
             state: State::Idle,
             format: NO_FORMAT,
+            turn: None,
             pages: 1,
             counts: Counts::new(),
             pending: Pending::Nothing,
@@ -62,20 +68,21 @@ impl Procedure {
         }
     }
 
-    /// The call of a job begins: CNG waits, and T1 is set.
+    /// The call of a job begins, whose first page has this format: CNG waits, and T1 is set.
     pub fn start(&mut self, format: Format, pages: u32, now: u64)
         requires { 1 ≤ pages }
         ensures fit { IsFit self.new }
         ensures pending { self.new.pending ≡ Pending.Tone }
-        ensures job { (self.new.format ≡ format) × (self.new.pages ≡ pages) }
+        ensures job { (job : JobValue) → IsJob job → job.format ≡ format → length job.pages ≡ pages → IsJobOfCall self.new job }
         ensures started { (writes others : Writing) (job other : JobValue) (core : Calling) (text left : List ℕ) → Follows others other core text self.old
-            → Follows writes job (started core format pages now) left self.new }
+            → job.format ≡ format → length job.pages ≡ pages → Follows writes job (started core job now) left self.new }
     {
         let mut t1 = Timer::new();
         t1.set(now, T1_MS);
         *self = Procedure {
             state: State::AwaitDis,
             format,
+            turn: None,
             pages,
             counts: Counts::new(),
             pending: Pending::Tone,
@@ -94,30 +101,39 @@ impl Procedure {
         self.pending != Pending::Nothing
     }
 
-    /// The command behind a page: EOP behind the last one, else MPS.
-    fn command(&self, page: u32) -> Plain
-        requires { page < self.now.pages }
-        ensures { result ≡ command_of self.now.pages page }
+    /// The command behind the page due, by the next page's format that is kept: EOP behind the last page, EOM where the
+    /// next one is of another format, else MPS.
+    fn command(&self) -> Plain
+        requires { self.now.counts.page < self.now.pages }
+        ensures { result ≡ command_kept self.now }
     {
         let pages = self.pages;
-        if page + 1 == pages {
-            Plain::Eop
-        } else {
-            Plain::Mps
+        match self.turn {
+            _ if self.counts.page + 1 == pages => Plain::Eop,
+            Some(_) => Plain::Eom,
+            None => Plain::Mps,
         }
     }
 
+    /// The job tells the next page's format, where it is another.
+    pub fn keep_turn<S: RowStore>(&mut self, job: &Job<S>)
+        requires { self.old.counts.page < length job.now.pages }
+        ensures { self.new ≡ with_turn self.old job.now }
+    {
+        self.turn = turn_behind(job, self.counts.page);
+    }
+
     /// What is decided is done, where nothing waits.
-    pub fn make(&mut self, decided: Move)
+    pub fn make(&mut self, decided: Move, now: u64)
         requires fit { IsFit self.old }
-        requires fits { FitsMove self.old.pages self.old.state decided }
+        requires fits { FitsMove self.old.pages self.old.counts.page self.old.state decided }
         requires free { self.old.pending ≡ Pending.Nothing }
+        requires idle { self.old.state ≡ State.Idle → decided ≡ Move.Stay }
         ensures fit { IsFit self.new }
-        ensures pending { self.new.pending ≡ pending_of self.old.pages self.old.counts.page decided }
-        ensures same { (self.new.format ≡ self.old.format) × (self.new.pages ≡ self.old.pages) }
+        ensures pending { self.new.pending ≡ pending_of (command_kept self.old) decided }
         ensures stays { decided ≡ Move.Stay → self.new ≡ self.old }
         ensures made { (writes : Writing) (job : JobValue) (core : Calling) (text left : List ℕ) → Follows writes job core text self.old
-            → Follows writes job (moved core (move_shown decided)) left self.new }
+            → Follows writes job (moved core (move_shown now decided)) left self.new }
     {
         match decided {
             Move::Stay => {}
@@ -129,12 +145,17 @@ impl Procedure {
                 );
             }
             Move::Send(dis, dcs, counts) => {
-                let pending = Pending::Image(dcs, self.command(counts.page));
-                self.reply(State::AwaitMcf(dis, dcs), counts, pending);
+                self.reply(State::AwaitMcf(dis, dcs), counts, Pending::Image(dcs));
             }
             Move::AskAgain(counts) => {
-                let pending = Pending::Preamble(Message::Plain(self.command(counts.page)));
+                let pending = Pending::Preamble(Message::Plain(self.command()));
                 self.reply(self.state, counts, pending);
+            }
+            Move::Turn(format, counts) => {
+                self.reply(State::AwaitDis, counts, Pending::Nothing);
+                self.format = format;
+                self.turn = None;
+                self.t1.set(now, T1_MS);
             }
             Move::Close(outcome, counts) => {
                 self.reply(
@@ -162,29 +183,28 @@ impl Procedure {
     }
 
     /// Hears pieces, in the order of time.
-    pub fn hear_all(&mut self, pieces: &[Piece<'_>])
+    pub fn hear_all(&mut self, pieces: &[Piece<'_>], now: u64)
         requires { IsFit self.old }
         ensures fit { IsFit self.new }
         ensures idle { self.old.state ≡ State.Idle → self.new ≡ self.old }
-        ensures same { (self.new.format ≡ self.old.format) × (self.new.pages ≡ self.old.pages) }
+        ensures job { (job : JobValue) → IsJobOfCall self.old job → IsJobOfCall self.new job }
         ensures text { (text : List ℕ) → HasText self.old.pending text → HasText self.new.pending text }
         ensures heard { (writes : Writing) (job : JobValue) (core : Calling) (text : List ℕ) → Follows writes job core text self.old
-            → Follows writes job (came_all core (pieces_shown pieces.now)) text self.new }
+            → Follows writes job (came_all core (pieces_shown pieces.now) now) text self.new }
     {
         for piece in pieces {
-            self.hear(piece);
+            self.hear(piece, now);
         }
     }
 
     /// Hears a piece: frames alone matter, and none while packets wait.
-    fn hear(&mut self, piece: &Piece<'_>)
+    fn hear(&mut self, piece: &Piece<'_>, now: u64)
         requires { IsFit self.old }
         ensures fit { IsFit self.new }
         ensures text { (text : List ℕ) → HasText self.old.pending text → HasText self.new.pending text }
         ensures idle { self.old.state ≡ State.Idle → self.new ≡ self.old }
-        ensures same { (self.new.format ≡ self.old.format) × (self.new.pages ≡ self.old.pages) }
         ensures heard { (writes : Writing) (job : JobValue) (core : Calling) (text : List ℕ) → Follows writes job core text self.old
-            → Follows writes job (came core (piece_of piece.now)) text self.new }
+            → Follows writes job (came core (piece_of piece.now) now) text self.new }
     {
         let Piece::Frame(octets) = piece else {
             return;
@@ -194,7 +214,7 @@ impl Procedure {
         }
         if let Some(frame) = Frame::read(octets.as_slice()) {
             let decided = self.on_frame(&frame);
-            self.make(decided);
+            self.make(decided, now);
         }
     }
 
@@ -214,7 +234,7 @@ impl Procedure {
         ensures fit { IsFit self.new }
         ensures waiting { self.old.pending ≢ Pending.Nothing → self.new ≡ self.old }
         ensures idle { self.old.state ≡ State.Idle → self.new ≡ self.old }
-        ensures same { (self.new.format ≡ self.old.format) × (self.new.pages ≡ self.old.pages) }
+        ensures job { (job : JobValue) → IsJobOfCall self.old job → IsJobOfCall self.new job }
         ensures text { (text : List ℕ) → HasText self.old.pending text → HasText self.new.pending text }
         ensures acted { (writes : Writing) (job : JobValue) (core : Calling) (text : List ℕ) → Follows writes job core text self.old
             → Follows writes job (timed core now) text self.new }
@@ -223,7 +243,7 @@ impl Procedure {
             return;
         }
         let decided = self.on_timers(self.t1.due(now), self.t4.due(now));
-        self.make(decided);
+        self.make(decided, now);
     }
 
     /// The next packet is given, and what waits behind it is due, where this many octets were left of a text.
@@ -233,7 +253,7 @@ impl Procedure {
         ensures given { self.new ≡ given_by self.old left now }
     {
         self.pace.given(now);
-        self.pending = self.pending.behind(left);
+        self.pending = self.pending.behind(left, self.command());
         if self.pending == Pending::Nothing {
             self.finish_reply(now);
         }
@@ -255,5 +275,19 @@ impl Procedure {
                 self.outcome = Some(outcome);
             }
         }
+    }
+}
+
+/// The format of the page behind one of a job, counted from 0, where there is one and its format is another.
+pub(crate) fn turn_behind<S: RowStore>(job: &Job<S>, page: u32) -> Option<Format>
+    requires { page < length job.now.pages }
+    ensures { result ≡ turn_behind (formats_of job.now) page }
+{
+    let pages = job.pages().as_slice();
+    let format = pages[page as usize].format();
+    match pages.get(page as usize + 1) {
+        None => None,
+        Some(next) if next.format() == format => None,
+        Some(next) => Some(next.format()),
     }
 }

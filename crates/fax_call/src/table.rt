@@ -1,7 +1,7 @@
 //! The calling table (ITU-T T.30, figure 5-1): what a frame or a timer brings about.
-ghost use Rattle.std.specs.Prelude.{◌≡◌, ◌≢◌, ◌<◌, Some, None};
-ghost use Rattle.fax_call.specs.Table.{on_frame, on_timers, by_choice, tries_again, asks_again, after_refusal};
-ghost use Rattle.fax_call.specs.Kept.{counts_shown, move_shown, FitsMove, HasTerms};
+ghost use Rattle.std.specs.Prelude.{◌≡◌, ◌≢◌, ◌<◌, ℕ, Some, None};
+ghost use Rattle.fax_call.specs.Table.{on_frame, on_timers, by_choice, tries_again, asks_again, after_refusal, gives_up_dis};
+ghost use Rattle.fax_call.specs.Kept.{counts_shown, move_shown, AwaitsMcf, FitsMove, HasTerms};
 ghost use Rattle.fax_call.specs.Following.{IsFit};
 ghost use Rattle.fax_frames.specs.Choice.{choice};
 
@@ -10,6 +10,7 @@ use crate::counts::Counts;
 use crate::procedure::Procedure;
 use fax_frames::{Dcs, Dis, Frame, Refusal, choose};
 use fax_jobs::Outcome;
+use fax_pagestore::Format;
 
 /// What is done.
 #[derive(Clone, Copy)]
@@ -21,6 +22,8 @@ pub(crate) enum Move {
     Send(Dis, Dcs, Counts),
     /// The command goes out again.
     AskAgain(Counts),
+    /// A DIS is awaited for the next page, of this format.
+    Turn(Format, Counts),
     /// DCN goes out, and the call ends so.
     Close(Outcome, Counts),
     /// The call is over.
@@ -37,8 +40,8 @@ impl Procedure {
     /// What is decided at a frame, where no packet waits.
     pub fn on_frame(&self, frame: &Frame) -> Move
         requires { IsFit self.now }
-        ensures decided { move_shown result ≡ on_frame self.now.format self.now.pages self.now.state (counts_shown self.now.counts) (Some frame.now) }
-        ensures fits { FitsMove self.now.pages self.now.state result }
+        ensures decided { (now : ℕ) → move_shown now result ≡ on_frame now self.now.format self.now.turn self.now.pages self.now.state (counts_shown self.now.counts) (Some frame.now) }
+        ensures fits { FitsMove self.now.pages self.now.counts.page self.now.state result }
         ensures idle { self.now.state ≡ State.Idle → result ≡ Move.Stay }
     {
         match self.state {
@@ -53,8 +56,8 @@ impl Procedure {
     fn on_identification(&self, frame: &Frame) -> Move
         requires fit { IsFit self.now }
         requires state { self.now.state ≡ State.AwaitDis }
-        ensures decided { move_shown result ≡ on_frame self.now.format self.now.pages State.AwaitDis (counts_shown self.now.counts) (Some frame.now) }
-        ensures fits { FitsMove self.now.pages self.now.state result }
+        ensures decided { (now : ℕ) → move_shown now result ≡ on_frame now self.now.format self.now.turn self.now.pages State.AwaitDis (counts_shown self.now.counts) (Some frame.now) }
+        ensures fits { FitsMove self.now.pages self.now.counts.page self.now.state result }
     {
         match *frame {
             Frame::Dis(dis) => self.by_choice(dis, self.counts.first_try()),
@@ -67,8 +70,8 @@ impl Procedure {
     fn on_training_answer(&self, dis: Dis, dcs: Dcs, frame: &Frame) -> Move
         requires fit { IsFit self.now }
         requires state { self.now.state ≡ State.AwaitCfr dis dcs }
-        ensures decided { move_shown result ≡ on_frame self.now.format self.now.pages (State.AwaitCfr dis dcs) (counts_shown self.now.counts) (Some frame.now) }
-        ensures fits { FitsMove self.now.pages self.now.state result }
+        ensures decided { (now : ℕ) → move_shown now result ≡ on_frame now self.now.format self.now.turn self.now.pages (State.AwaitCfr dis dcs) (counts_shown self.now.counts) (Some frame.now) }
+        ensures fits { FitsMove self.now.pages self.now.counts.page self.now.state result }
     {
         match *frame {
             Frame::Cfr => Move::Send(dis, dcs, self.counts.first_try()),
@@ -83,8 +86,8 @@ impl Procedure {
     fn on_page_answer(&self, dis: Dis, dcs: Dcs, frame: &Frame) -> Move
         requires fit { IsFit self.now }
         requires state { self.now.state ≡ State.AwaitMcf dis dcs }
-        ensures decided { move_shown result ≡ on_frame self.now.format self.now.pages (State.AwaitMcf dis dcs) (counts_shown self.now.counts) (Some frame.now) }
-        ensures fits { FitsMove self.now.pages self.now.state result }
+        ensures decided { (now : ℕ) → move_shown now result ≡ on_frame now self.now.format self.now.turn self.now.pages (State.AwaitMcf dis dcs) (counts_shown self.now.counts) (Some frame.now) }
+        ensures fits { FitsMove self.now.pages self.now.counts.page self.now.state result }
     {
         let pages = self.pages;
         let is_last = self.counts.page + 1 == pages;
@@ -92,8 +95,14 @@ impl Procedure {
             Frame::Mcf | Frame::Rtp if is_last => {
                 Move::Close(Outcome::Delivered, self.counts.one_delivered())
             }
-            Frame::Mcf => Move::Send(dis, dcs, self.counts.next_page()),
-            Frame::Rtp => Move::Train(dis, dcs, self.counts.next_page()),
+            Frame::Mcf => match self.turn {
+                Some(format) => Move::Turn(format, self.counts.next_exchange()),
+                None => Move::Send(dis, dcs, self.counts.next_page()),
+            },
+            Frame::Rtp => match self.turn {
+                Some(format) => Move::Turn(format, self.counts.next_exchange()),
+                None => Move::Train(dis, dcs, self.counts.next_page()),
+            },
             Frame::Rtn if self.counts.refused < MOST_REFUSALS => {
                 Move::Train(dis, dcs, self.counts.one_refused())
             }
@@ -107,8 +116,8 @@ impl Procedure {
     fn by_choice(&self, dis: Dis, counts: Counts) -> Move
         requires page { counts.page < self.now.pages }
         requires delivered { counts.delivered ≡ counts.page }
-        ensures decided { move_shown result ≡ by_choice dis (counts_shown counts) (choice dis self.now.format counts.step) }
-        ensures fits { FitsMove self.now.pages self.now.state result }
+        ensures decided { (now : ℕ) → move_shown now result ≡ by_choice dis (counts_shown counts) (choice dis self.now.format counts.step) }
+        ensures fits { FitsMove self.now.pages self.now.counts.page self.now.state result }
     {
         match choose(&dis, self.format, counts.step) {
             Ok(dcs) => Move::Train(dis, dcs, counts),
@@ -120,8 +129,8 @@ impl Procedure {
     fn try_again(&self, dis: Dis, dcs: Dcs) -> Move
         requires fit { IsFit self.now }
         requires terms { HasTerms dcs self.now.counts }
-        ensures decided { move_shown result ≡ tries_again dis dcs (counts_shown self.now.counts) }
-        ensures fits { FitsMove self.now.pages self.now.state result }
+        ensures decided { (now : ℕ) → move_shown now result ≡ tries_again dis dcs (counts_shown self.now.counts) }
+        ensures fits { FitsMove self.now.pages self.now.counts.page self.now.state result }
     {
         if self.counts.tries < MOST_TRIES {
             Move::Train(dis, dcs, self.counts.next_try())
@@ -133,24 +142,37 @@ impl Procedure {
     /// What is decided where timers are due, while no packet waits.
     pub fn on_timers(&self, t1_due: bool, t4_due: bool) -> Move
         requires { IsFit self.now }
-        ensures decided { move_shown result ≡ on_timers t1_due t4_due self.now.state (counts_shown self.now.counts) }
-        ensures fits { FitsMove self.now.pages self.now.state result }
+        ensures decided { (now : ℕ) → move_shown now result ≡ on_timers t1_due t4_due self.now.state (counts_shown self.now.counts) }
+        ensures fits { FitsMove self.now.pages self.now.counts.page self.now.state result }
         ensures idle { self.now.state ≡ State.Idle → result ≡ Move.Stay }
     {
         match self.state {
-            State::AwaitDis if t1_due => Move::Close(Outcome::NoAnswer, self.counts),
+            State::AwaitDis if t1_due => self.give_up_dis(),
             State::AwaitCfr(dis, dcs) if t4_due => self.try_again(dis, dcs),
             State::AwaitMcf(..) if t4_due => self.ask_again(),
             _ => Move::Stay,
         }
     }
 
+    /// The end where no DIS came in time: nobody answered, or, where a DIS was accepted before, no reply came.
+    fn give_up_dis(&self) -> Move
+        requires { IsFit self.now }
+        ensures decided { (now : ℕ) → move_shown now result ≡ gives_up_dis (counts_shown self.now.counts) }
+        ensures fits { FitsMove self.now.pages self.now.counts.page self.now.state result }
+    {
+        if self.counts.delivered == 0 {
+            Move::Close(Outcome::NoAnswer, self.counts)
+        } else {
+            Move::Close(Outcome::NoReply, self.counts)
+        }
+    }
+
     /// The command again, three times in all.
     fn ask_again(&self) -> Move
         requires fit { IsFit self.now }
-        requires call { self.now.state ≢ State.Idle }
-        ensures decided { move_shown result ≡ asks_again (counts_shown self.now.counts) }
-        ensures fits { FitsMove self.now.pages self.now.state result }
+        requires state { AwaitsMcf self.now.state }
+        ensures decided { (now : ℕ) → move_shown now result ≡ asks_again (counts_shown self.now.counts) }
+        ensures fits { FitsMove self.now.pages self.now.counts.page self.now.state result }
     {
         if self.counts.tries < MOST_TRIES {
             Move::AskAgain(self.counts.next_try())

@@ -1,10 +1,18 @@
 //! Calls that are played: what comes, and what each tick gives.
+ghost use Rattle.std.specs.Prelude.{IsTrue, ◌≡◌, ◌<◌, length};
+ghost use Rattle.fax_call.specs.Calls.{formats_of};
+ghost use Rattle.fax_call.specs.Following.{KeepsTurn, HasFormats};
+ghost use Rattle.fax_frames.specs.declared.dcs.Dcs.{Dcs as DcsShown};
+
 mod calls;
+mod formats;
 mod hostile;
 mod memory;
 mod reserve;
 mod timing;
 
+use crate::pending::Pending;
+use crate::procedure::{Procedure, turn_behind};
 use crate::{Caller, Outcome, State};
 use fax_bits::{NoMemory, Octets};
 use fax_jobs::Job;
@@ -18,6 +26,8 @@ use std::process::Abort;
 const CNG: &str = "02";
 
 const PREAMBLE: &str = "06";
+
+const EOM: &str = "c002800002ffc8f140";
 
 const MPS: &str = "c002800002ffc8f240";
 
@@ -154,16 +164,31 @@ const ONE_PAGE: &[&[Event]] = &[STARTED, TRAINED, WHITE_PAGE, EOP_GIVEN, CONFIRM
 #[derive(Clone, Copy)]
 struct Call {
     name: &'static str,
-    format: Format,
-    /// The texts of its pages.
-    pages: &'static [&'static str],
+    pages: &'static [PageText],
     scripts: &'static [&'static [Event]],
 }
 
-/// The pages of jobs of the standard format.
-const ONE: &[&str] = &[WHITE];
+/// A page of a job: its format, and its text in one dimension.
+#[derive(Clone, Copy)]
+struct PageText {
+    format: Format,
+    text: &'static str,
+}
 
-const TWO: &[&str] = &[WHITE, BLACK];
+const STANDARD_WHITE: PageText = PageText {
+    format: STANDARD,
+    text: WHITE,
+};
+
+const STANDARD_BLACK: PageText = PageText {
+    format: STANDARD,
+    text: BLACK,
+};
+
+/// The pages of jobs of the standard format.
+const ONE: &[PageText] = &[STANDARD_WHITE];
+
+const TWO: &[PageText] = &[STANDARD_WHITE, STANDARD_BLACK];
 
 /// Plays the calls of a table, each on a new leg. It fails unless all comes as they tell.
 fn play(rt: &impl Abort, alloc: Global, calls: &[Call]) -> Result<(), NoMemory> {
@@ -175,7 +200,7 @@ fn play(rt: &impl Abort, alloc: Global, calls: &[Call]) -> Result<(), NoMemory> 
 
 /// Plays a call on a new leg.
 fn play_call(rt: &impl Abort, alloc: Global, call: Call) -> Result<(), NoMemory> {
-    let mut leg = Leg::new(rt, alloc, call.format, call.pages)?;
+    let mut leg = Leg::new(rt, alloc, call.pages)?;
     leg.name = call.name;
     leg.play(rt, call.scripts)
 }
@@ -205,13 +230,8 @@ struct Leg {
 
 impl Leg {
     /// A leg on which no call was, and a job of the pages of these texts.
-    fn new(
-        rt: &impl Abort,
-        alloc: Global,
-        format: Format,
-        pages: &[&str],
-    ) -> Result<Self, NoMemory> {
-        let job = job_of(rt, alloc, format, pages)?;
+    fn new(rt: &impl Abort, alloc: Global, pages: &[PageText]) -> Result<Self, NoMemory> {
+        let job = job_of(rt, alloc, pages)?;
         Ok(Leg {
             name: "a call",
             alloc,
@@ -321,10 +341,7 @@ impl Leg {
     /// The calling side is told the moment. It fails where the call on it is not of the job.
     fn tick_caller(&mut self, rt: &impl Abort, now: u64) -> Result<Option<Octets>, NoMemory> {
         let procedure = self.caller.procedure;
-        if procedure.format != self.job.format() {
-            rt.abort()
-        }
-        if procedure.pages != self.job.page_count() {
+        if procedure.state != State::Idle && !has_formats(&self.job, &procedure) {
             rt.abort()
         }
         self.caller.tick(&self.job, now)
@@ -461,21 +478,51 @@ impl Leg {
     }
 }
 
-/// A job of the pages of these texts, the first of which is there.
-fn job_of(
-    rt: &impl Abort,
-    alloc: Global,
-    format: Format,
-    pages: &[&str],
-) -> Result<Job<PlainRows>, NoMemory> {
+/// Whether a job has as many pages, and those formats that are kept of it.
+fn has_formats(job: &Job<PlainRows>, procedure: &Procedure) -> bool
+    ensures { IsTrue result → HasFormats procedure.now job.now }
+{
+    let pages = job.pages().as_slice();
+    let page = procedure.counts.page as usize;
+    if pages.len() != procedure.pages as usize || page >= pages.len() {
+        return false;
+    }
+    if pages[page].format() != procedure.format {
+        return false;
+    }
+    keeps_turn(job, procedure)
+}
+
+/// Whether the next page's format is kept, where it is.
+fn keeps_turn(job: &Job<PlainRows>, procedure: &Procedure) -> bool
+    requires { procedure.now.counts.page < length job.now.pages }
+    ensures { IsTrue result → KeepsTurn procedure.now.state procedure.now.pending (formats_of job.now) procedure.now.counts.page procedure.now.turn }
+{
+    if procedure.turn == turn_behind(job, procedure.counts.page) {
+        return true;
+    }
+    match procedure.state {
+        State::AwaitMcf(..) => is_image(procedure.pending),
+        _ => true,
+    }
+}
+
+/// Whether a short training indicator is next.
+fn is_image(pending: Pending) -> bool
+    ensures { IsTrue result → (dcs : DcsShown) × (pending ≡ Pending.Image dcs) }
+{
+    matches!(pending, Pending::Image(_))
+}
+
+/// A job of these pages, the first of which is there.
+fn job_of(rt: &impl Abort, alloc: Global, pages: &[PageText]) -> Result<Job<PlainRows>, NoMemory> {
     let [first, others @ ..] = pages else {
         rt.abort()
     };
-    let page = page_of(rt, alloc, format, first)?;
+    let page = page_of(rt, alloc, first.format, first.text)?;
     let mut job = Job::of_page(alloc, 0, page).map_err(|_| NoMemory)?;
-    for text in others {
-        let page = page_of(rt, alloc, format, text)?;
-        assert!(rt; page.format() == job.format());
+    for other in others {
+        let page = page_of(rt, alloc, other.format, other.text)?;
         assert!(rt; job.page_count() < 999);
         job.add_page(page).map_err(|_| NoMemory)?;
     }

@@ -1,7 +1,7 @@
 //! Calls in which pages go out.
 use super::{
     BLACK_PAGE, CFR, CNG, CONFIRMED, Call, DCN_CAME, DIS, EOP, EOP_GIVEN, Event, FINE, FTT, MCF,
-    MPS_GIVEN, ONE, PREAMBLE, RTN, RTP, SLOW, STANDARD, STARTED, TRAINED, TWO, Training,
+    MPS_GIVEN, ONE, PREAMBLE, PageText, RTN, RTP, SLOW, STARTED, TRAINED, TWO, Training, WHITE,
     WHITE_PAGE, play,
 };
 use crate::Outcome;
@@ -11,10 +11,10 @@ use std::process::Abort;
 use std::test::Fail;
 
 /// A DIS of V.27 ter, V.29 and V.17, with two-dimensional coding and no time for a line.
-const FAST_DIS: &str = "c002800005ffc80100775e40";
+pub(super) const FAST_DIS: &str = "c002800005ffc80100775e40";
 
 /// The trainings that it leads to, one behind another.
-const FAST: Training = Training {
+pub(super) const FAST: Training = Training {
     dcs: "c002800005ffc8c100451e40",
     indicator: "1e",
     part: "d001e00047",
@@ -22,7 +22,7 @@ const FAST: Training = Training {
     last: "d001f00023",
 };
 
-const SECOND: Training = Training {
+pub(super) const SECOND: Training = Training {
     dcs: "c002800005ffc8c100551e40",
     indicator: "1a",
     part: "ce01e0003b",
@@ -65,19 +65,30 @@ const LAST: Training = Training {
 /// A DIS of a machine that takes no pages.
 const DEAF: &str = "c002800005ffc80100000040";
 
-/// Wide pages.
-const WIDE: Format = Format {
-    width: Width::W2048,
-    fine: false,
-};
+/// A fine page.
+const ONE_FINE: &[PageText] = &[PageText {
+    format: FINE,
+    text: WHITE,
+}];
 
-const WIDE_AND_FINE: Format = Format {
-    width: Width::W2048,
-    fine: true,
-};
+/// The text of a page of a white row of 2048 elements, and such pages.
+const WIDE_WHITE: &str = "00101335001001001001001001";
 
-/// A white row of 2048 elements.
-const WIDE_ROW: &[&str] = &["00101335001001001001001001"];
+const ONE_WIDE: &[PageText] = &[PageText {
+    format: Format {
+        width: Width::W2048,
+        fine: false,
+    },
+    text: WIDE_WHITE,
+}];
+
+const ONE_WIDE_AND_FINE: &[PageText] = &[PageText {
+    format: Format {
+        width: Width::W2048,
+        fine: true,
+    },
+    text: WIDE_WHITE,
+}];
 
 /// Wide pages are not taken.
 const WIDTH_LACKING: &[Event] = &[
@@ -117,7 +128,7 @@ const FAILING: &[Event] = &[
 ];
 
 /// The page is refused, and is sent again behind a training.
-const AGAIN: &[Event] = &[
+pub(super) const AGAIN: &[Event] = &[
     Event::Comes(RTN),
     Event::Trains(40, SLOW),
     Event::Comes(CFR),
@@ -161,7 +172,6 @@ const TWICE: &str = "000309c002800002ffc83140000109c002800002ffc83140";
 static CALLS: [Call; 13] = [
     Call {
         name: "a call with one page",
-        format: STANDARD,
         pages: ONE,
         scripts: &[
             STARTED,
@@ -179,7 +189,6 @@ static CALLS: [Call; 13] = [
     },
     Call {
         name: "a call whose first packet has its memory before",
-        format: STANDARD,
         pages: ONE,
         scripts: &[
             &[Event::Reserves],
@@ -193,7 +202,6 @@ static CALLS: [Call; 13] = [
     },
     Call {
         name: "a call in two dimensions",
-        format: STANDARD,
         pages: ONE,
         scripts: &[
             STARTED,
@@ -204,8 +212,7 @@ static CALLS: [Call; 13] = [
     },
     Call {
         name: "a called machine that lacks fine pages",
-        format: FINE,
-        pages: ONE,
+        pages: ONE_FINE,
         scripts: &[
             STARTED,
             &[
@@ -218,19 +225,16 @@ static CALLS: [Call; 13] = [
     },
     Call {
         name: "a called machine that lacks wide pages",
-        format: WIDE,
-        pages: WIDE_ROW,
+        pages: ONE_WIDE,
         scripts: &[STARTED, WIDTH_LACKING],
     },
     Call {
         name: "a called machine that lacks wide and fine pages",
-        format: WIDE_AND_FINE,
-        pages: WIDE_ROW,
+        pages: ONE_WIDE_AND_FINE,
         scripts: &[STARTED, WIDTH_LACKING],
     },
     Call {
         name: "a called machine that takes no pages",
-        format: STANDARD,
         pages: ONE,
         scripts: &[
             STARTED,
@@ -244,13 +248,11 @@ static CALLS: [Call; 13] = [
     },
     Call {
         name: "a training that fails at each rate",
-        format: STANDARD,
         pages: ONE,
         scripts: &[STARTED, FAILING],
     },
     Call {
         name: "a page that is refused",
-        format: STANDARD,
         pages: ONE,
         scripts: &[
             STARTED, TRAINED, WHITE_PAGE, EOP_GIVEN, AGAIN, WHITE_PAGE, EOP_GIVEN, AGAIN,
@@ -259,7 +261,6 @@ static CALLS: [Call; 13] = [
     },
     Call {
         name: "a call with two pages",
-        format: STANDARD,
         pages: TWO,
         scripts: &[
             STARTED,
@@ -276,7 +277,6 @@ static CALLS: [Call; 13] = [
     },
     Call {
         name: "a call that trains again",
-        format: STANDARD,
         pages: TWO,
         scripts: &[
             STARTED,
@@ -300,13 +300,11 @@ static CALLS: [Call; 13] = [
     },
     Call {
         name: "answers that come while packets wait",
-        format: STANDARD,
         pages: ONE,
         scripts: &[EARLY, CONFIRMED, &[Event::Delivered(1)]],
     },
     Call {
         name: "a page that is confirmed twice",
-        format: STANDARD,
         pages: TWO,
         scripts: &[
             STARTED,

@@ -1,7 +1,7 @@
 //! What makes no sense, or comes where no call is on.
 use super::{
-    CONFIRMED, Call, DCN_CAME, DIS, EOP_GIVEN, Event, MCF, ONE, PREAMBLE, SLOW, STANDARD, STARTED,
-    TRAINED, WHITE_PAGE, play,
+    CONFIRMED, Call, DCN_CAME, DIS, EOP_GIVEN, Event, MCF, ONE, PREAMBLE, SLOW, STARTED, TRAINED,
+    WHITE_PAGE, play,
 };
 use crate::{Outcome, State};
 use std::process::Abort;
@@ -80,20 +80,17 @@ const NO_CALL: &[Event] = &[
 static CALLS: [Call; 3] = [
     Call {
         name: "packets that are no DIS",
-        format: STANDARD,
         pages: ONE,
         scripts: &[STARTED, NO_DIS, NO_DATAGRAMS, HEARD],
     },
     Call {
         name: "many missing slots",
-        format: STANDARD,
         pages: ONE,
         scripts: &[STARTED, TRAINED, WHITE_PAGE, EOP_GIVEN, MISSING],
     },
     Call {
         // a call goes on as if none of it had come, and what comes behind it changes nothing
         name: "what comes where no call is on",
-        format: STANDARD,
         pages: ONE,
         scripts: &[
             NO_CALL,

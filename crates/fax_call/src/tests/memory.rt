@@ -1,6 +1,6 @@
 //! A call that is refused memory. Nothing in a test can refuse it: `tools/refuse-test-memory` does, from outside, each
 //! allocation in turn, and reads what the test prints.
-use super::{CONFIRMED, DIS, EOP_GIVEN, Event, Leg, ONE, SLOW, STANDARD, STARTED, WHITE_PAGE};
+use super::{CONFIRMED, DIS, EOP_GIVEN, Event, Leg, ONE, SLOW, STARTED, WHITE_PAGE};
 use fax_bits::NoMemory;
 use std::alloc::Global;
 use std::process::Abort;
@@ -24,10 +24,10 @@ const CALL: &[&[Event]] = &[
 
 /// A leg. Where memory is refused it is asked for again once.
 fn leg_of(rt: &impl Abort, alloc: Global) -> Result<Leg, NoMemory> {
-    if let Ok(leg) = Leg::new(rt, alloc, STANDARD, ONE) {
+    if let Ok(leg) = Leg::new(rt, alloc, ONE) {
         return Ok(leg);
     }
-    let mut leg = Leg::new(rt, alloc, STANDARD, ONE)?;
+    let mut leg = Leg::new(rt, alloc, ONE)?;
     leg.refused_texts = 1;
     Ok(leg)
 }

@@ -1,7 +1,7 @@
 //! Calls whose first packet has its memory before they begin.
 ghost use Rattle.std.specs.Prelude.{◌≡◌, ◌≤◌, length};
 
-use super::{STANDARD, WHITE, job_of};
+use super::{ONE, job_of};
 use crate::{Caller, State};
 use fax_bits::{NoMemory, Octets};
 use fax_jobs::Job;
@@ -19,6 +19,8 @@ fn first_packet(
     requires some { 1 ≤ length job.now.pages }
 {
     caller.reserve()?;
+    // what it ensures makes this a job
+    let _ = job.pages();
     caller.start(job.format(), job.page_count(), now);
     match caller.tick(job, now) {
         Ok(given) => Ok(given),
@@ -28,7 +30,7 @@ fn first_packet(
 
 #[test]
 fn a_call_that_begins_with_a_reservation(rt: HostRuntime) -> Result<(), Fail> {
-    let job = job_of(&rt, rt.alloc(), STANDARD, &[WHITE])?;
+    let job = job_of(&rt, rt.alloc(), ONE)?;
     if job.page_count() == 0 {
         rt.abort()
     }

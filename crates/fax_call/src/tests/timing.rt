@@ -1,7 +1,7 @@
 //! Timers, the pace of the packets, and calls that the other side ends.
 use super::{
     BLACK_PAGE, CNG, CONFIRMED, Call, DIS, EOP, EOP_GIVEN, Event, MCF, MPS_GIVEN, ONE, PREAMBLE,
-    SLOW, STANDARD, STARTED, TRAINED, TWO, WHITE_PAGE, play,
+    SLOW, STARTED, TRAINED, TWO, WHITE_PAGE, play,
 };
 use crate::{Outcome, State};
 use std::process::Abort;
@@ -66,37 +66,31 @@ const STANDSTILL: &[Event] = &[
 static CALLS: [Call; 10] = [
     Call {
         name: "nobody answers",
-        format: STANDARD,
         pages: ONE,
         scripts: &[STARTED, NOBODY],
     },
     Call {
         name: "nothing comes behind a training",
-        format: STANDARD,
         pages: ONE,
         scripts: &[STARTED, UNANSWERED],
     },
     Call {
         name: "nothing but the DIS comes behind a training",
-        format: STANDARD,
         pages: ONE,
         scripts: &[STARTED, CALLED_AGAIN],
     },
     Call {
         name: "nothing comes behind a page",
-        format: STANDARD,
         pages: ONE,
         scripts: &[STARTED, TRAINED, WHITE_PAGE, EOP_GIVEN, UNCONFIRMED],
     },
     Call {
         name: "the other side hangs up before the DIS",
-        format: STANDARD,
         pages: TWO,
         scripts: &[STARTED, NONE_DELIVERED],
     },
     Call {
         name: "the other side hangs up behind the training",
-        format: STANDARD,
         pages: TWO,
         scripts: &[
             STARTED,
@@ -106,7 +100,6 @@ static CALLS: [Call; 10] = [
     },
     Call {
         name: "the other side hangs up behind the last page",
-        format: STANDARD,
         pages: TWO,
         scripts: &[
             STARTED,
@@ -122,7 +115,6 @@ static CALLS: [Call; 10] = [
     Call {
         // the first packet of a call comes 40 ms behind the last one of the call before
         name: "the pace goes on behind a call",
-        format: STANDARD,
         pages: ONE,
         scripts: &[
             STARTED,
@@ -135,13 +127,11 @@ static CALLS: [Call; 10] = [
     },
     Call {
         name: "T1 is due at the end of time",
-        format: STANDARD,
         pages: ONE,
         scripts: &[STARTED, &[Event::Overdue(u64::MAX, PREAMBLE)], STANDSTILL],
     },
     Call {
         name: "a call that begins at the end of time",
-        format: STANDARD,
         pages: ONE,
         scripts: &[&[Event::Start(u64::MAX), Event::Gives(0, CNG)], STANDSTILL],
     },

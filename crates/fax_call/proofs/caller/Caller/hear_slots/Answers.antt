@@ -19,15 +19,18 @@ loop-packet-preserved c =
     let told = c.as_slice.ensures in
     record {
       heard = λ writes job heard core r.
-          subst (λ (s : List Slot). Hears writes job s heard core c.hear_all.new.self) (slots_more c.args.decided.now.lost c.loop-packet.yielded c.in-Some.packet)
-          (hears_more writes job (lost_slots c.args.decided.now.lost ++ map (λ (x : List ℕ). Some x) (texts c.loop-packet.yielded)) c.in-Some.packet.now heard core mid c.hear_all.new.self c.slot_into.new.self given (before.heard writes job heard core r)
+          subst (λ (s : List Slot). Hears writes job s c.args.now heard core c.hear_all.new.self) (slots_more c.args.decided.now.lost c.loop-packet.yielded c.in-Some.packet)
+          (hears_more writes job (lost_slots c.args.decided.now.lost ++ map (λ (x : List ℕ). Some x) (texts c.loop-packet.yielded)) c.args.now c.in-Some.packet.now heard core mid c.hear_all.new.self c.slot_into.new.self given (before.heard writes job heard core r)
           (subst (λ (t : Tracked). Tracks (Some c.in-Some.packet.now) t c.slot_into.new.self) tracked c.in_ok-slot_into.ensures.tracked)
           (subst (λ (t : Tracked). Gives (Some c.in-Some.packet.now) t given) tracked c.in_ok-slot_into.ensures.pieces)
           c.hear_all.ensures.tracked
           (λ a f.
-          subst (λ (ps : List Piece). Follows writes job (came_all a ps) c.hear_all.new.self.text c.hear_all.new.self.procedure) told
+          subst (λ (ps : List Piece). Follows writes job (came_all a ps c.args.now) c.hear_all.new.self.text c.hear_all.new.self.procedure) told
           (c.hear_all.ensures.heard writes job a (subst (λ (k : Kept). Follows writes job a k.text k.procedure) (sym c.self-in-loop-packet.view_is) f))));
       job = λ job h. c.hear_all.ensures.job job (subst (λ (k : Kept). IsJobOfCall k.procedure job) (sym c.self-in-loop-packet.view_is) (before.job job h));
       text = c.hear_all.ensures.text ∙ ap (λ (k : Kept). k.text) c.self-in-loop-packet.view_is ∙ before.text;
       spare = c.hear_all.ensures.spare ∙ ap (λ (k : Kept). k.spare) c.self-in-loop-packet.view_is ∙ before.spare;
     }
+
+pub returns-in_err-slot_into-clause-job : goal.returns-in_err-slot_into-clause-job
+returns-in_err-slot_into-clause-job c job h = subst (λ (k : Kept). IsJobOfCall k.procedure job) (sym c.self-in-loop-packet.view_is) (c.loop-packet.invariant.job job h)

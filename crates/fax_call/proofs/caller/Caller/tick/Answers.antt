@@ -1,7 +1,6 @@
 use Rattle.std.proofs.Common.{◌≡◌, ℕ, true, false, List, [], length, sym, ◌∙◌, ap, subst, rules}
 use Rattle.std.proofs.lemmas.Result.{IfOk-weaker}
 use Rattle.fax_frames.specs.declared.dcs.Dcs.{Dcs}
-use Rattle.fax_frames.specs.declared.writing.Plain.{Plain}
 use Rattle.fax_ifp.specs.Tracked.{Tracked, IsTracked}
 use Rattle.fax_call.specs.declared.pending.Pending.TheVariants.{Nothing, Tone, Image}
 use Rattle.fax_call.specs.declared.procedure.Procedure.{Procedure}
@@ -9,10 +8,9 @@ use Rattle.fax_call.specs.declared.state.State.TheVariants.{Idle}
 use Rattle.fax_ifp.specs.Elements.{Slot}
 use Rattle.fax_call.specs.Writings.{Writing}
 use Rattle.fax_call.specs.Calls.{Calling, timed}
-use Rattle.fax_call.specs.Kept.{pending_behind}
-use Rattle.fax_call.specs.Following.{Follows, gives_now, IsJobOfCall}
+use Rattle.fax_call.specs.Following.{Follows, HasFormats, gives_now, IsJobOfCall}
 use Rattle.fax_call.specs.Reached.{Kept, IsReached}
-use Rattle.fax_call.proofs.GivingLemmas.{given_gives, on_err, reached_rests, reached_gives, image_next, packet_next, if_given, on_given, job_kept}
+use Rattle.fax_call.proofs.GivingLemmas.{given_gives, on_err, reached_rests, reached_gives, image_next, packet_next, if_given, on_given, packet_job}
 use Rattle.fax_call.proofs.PacketLemmas.{short_as}
 use Rattle.fax_call.proofs.caller.Caller.tick.Goals as goal
 
@@ -37,7 +35,7 @@ returns-in-Image-clause-ticked g c =
     let new = given writes writing in
     reached_gives writes job heard core now _ _ _ c.begin_text.new.self
     (subst (λ (t : Tracked). IsTracked heard t) (sym (ap (λ (k : Kept). k.tracked) new)) r.tracked) on
-    (image_next writes job (timed core now) _ c.act.new.self now c.in-Image.dcs c.in-Image.field-1 acted c.in-Image.is)
+    (image_next writes job (timed core now) _ c.act.new.self now c.in-Image.dcs c.act.ensures.fit acted c.in-Image.is)
     (ap (λ (k : Kept). k.procedure) new) (ap (λ (k : Kept). k.text) new))
 
 pub returns-in_default : goal.returns-in_default
@@ -47,11 +45,13 @@ returns-in_default g c =
     let p : Procedure = c.act.new.self in
     let text : List ℕ = c.args.self.now.text in
     let some : p.pending ≡ Nothing → ⊥ = search rules in
-    let other : (dcs : Dcs) (plain : Plain) → p.pending ≡ Image dcs plain → ⊥ = c.in_default.not-Image in
+    let other : (dcs : Dcs) → p.pending ≡ Image dcs → ⊥ = c.in_default.not-Image in
     let on_call : c.self.inside.procedure.state ≡ Idle → ⊥ =
     λ e. some (ap (λ (x : Procedure). x.pending) (c.act.ensures.idle e) ∙ c.self.invariant.0.rests e) in
     let on_now : c.args.self.now.procedure.state ≡ Idle → ⊥ =
     λ e. on_call (ap (λ (k : Kept). k.procedure.state) c.self.view_is ∙ e) in
+    let job_inside : IsJobOfCall c.self.inside.procedure job = subst (λ (k : Kept). IsJobOfCall k.procedure job) (sym c.self.view_is) c.requires in
+    let acted_of : (p.state ≡ Idle → ⊥) → HasFormats p job = c.act.ensures.job job job_inside in
     record {
       ticked =
           if_given c.give_packet.result _ _ _ c.give_packet.ensures.packet c.give_packet.ensures.given
@@ -67,9 +67,7 @@ returns-in_default g c =
       job =
           on_given c.give_packet.result _ _ c.give_packet.ensures.given
           (λ new. subst (λ (k : Kept). IsJobOfCall k.procedure job) (sym new)
-          (job_kept c.args.self.now.procedure p (pending_behind p.pending (length text)) now job
-          (c.act.ensures.same.0 ∙ ap (λ (k : Kept). k.procedure.format) c.self.view_is)
-          (c.act.ensures.same.1 ∙ ap (λ (k : Kept). k.procedure.pages) c.self.view_is) on_now c.requires));
+          (λ n. packet_job p (length text) now job other (acted_of (λ e. some (c.act.ensures.fit.rests e)))));
       idle = λ e. absurd (on_now e);
       err = c.give_packet.ensures.err;
       memory =

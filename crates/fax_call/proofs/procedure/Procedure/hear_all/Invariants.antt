@@ -12,7 +12,6 @@ abbrev pub invariant-loop-piece : goal.invariant-loop-piece
 invariant-loop-piece l = record {
   fit : IsFit l.self;
   idle : l.fn.self.state ≡ Idle → l.self ≡ l.fn.self;
-  same : (l.self.format ≡ l.fn.self.format) × (l.self.pages ≡ l.fn.self.pages);
   text : (text : List ℕ) → HasText l.fn.self.pending text → HasText l.self.pending text;
-  heard : (writes : Writing) (job : JobValue) (core : Calling) (text : List ℕ) → Follows writes job core text l.fn.self → Follows writes job (came_all core (pieces_shown (take l.piece-index l.pieces))) text l.self;
+  heard : (writes : Writing) (job : JobValue) (core : Calling) (text : List ℕ) → Follows writes job core text l.fn.self → Follows writes job (came_all core (pieces_shown (take l.piece-index l.pieces)) l.now) text l.self;
 }
