@@ -14,7 +14,7 @@ use Rattle.fax_call.specs.Writings.{Writing}
 use Rattle.fax_gateway.specs.Events.{Event, Ring, FromCalling, FromCalled, Tick, Given, clock, rings}
 use Rattle.fax_gateway.specs.CallingLegs.{CallingLeg, core_of, is_idle, idle_after, leg_with, calling_after, calling_leg, answers, confirmed_by}
 use Rattle.fax_gateway.specs.CalledLegs.{is_free, outcome_told, delivered_told}
-use Rattle.fax_gateway.specs.Sides.{Sides, past_of, closes, confirms_if, ends_if, heard_in_tick, sends, sends_if, enters, sides, in_tick}
+use Rattle.fax_gateway.specs.Sides.{Sides, past_of, confirms_if, ends_if, heard_in_tick, sends, sends_if, enters, sides, in_tick}
 use Rattle.fax_gateway.specs.Traces.{IsTrace}
 use Rattle.fax_gateway.specs.Cuts.{confirmed_at, with_confirmed, calls_of, AreCutsOf, IsBookOf, JobsAreCut}
 use Rattle.fax_gateway.proofs.IdleLegs.{IfRests, rests_of, idle_tick, busy_tick}
@@ -71,13 +71,13 @@ confirms_so : (o : Option ConfirmedPage) (calls : List (List Confirmation)) (ste
 confirms_so None calls steps number s = s
 confirms_so (Some c) [] steps number s = s
 confirms_so (Some c) (cs ∷ calls) steps number s =
-    let step : Step = Confirms number c.page (closes c.command) in
+    let step : Step = Confirms number c.page c.closes in
     record {
       old = s.old;
       since = step ∷ s.since;
       past_is = ap (λ (p : Past). after_step p step) s.past_is;
       in_call = (refl, s.in_call);
-      same = ap (λ (xs : List Confirmation). xs ++ record { page = c.page; closes = closes c.command } ∷ []) s.same;
+      same = ap (λ (xs : List Confirmation). xs ++ record { page = c.page; closes = c.closes } ∷ []) s.same;
       none_open = s.none_open;
       before = s.before;
       number_is = s.number_is;

@@ -4,6 +4,7 @@ use Rattle.std.proofs.lemmas.List.{append-nil}
 use Rattle.fax_frames.specs.declared.dcs.Dcs.{Dcs}
 use Rattle.fax_frames.specs.declared.rate.Rate.{Rate}
 use Rattle.fax_frames.specs.declared.rate.Rate.TheVariants.{V27At2400, V27At4800, V29At7200, V29At9600, V17At7200, V17At9600, V17At12000, V17At14400}
+use Rattle.fax_frames.specs.declared.writing.Plain.{Plain}
 use Rattle.fax_frames.specs.Rates.{bits_a_second, kind_of}
 use Rattle.fax_timers.specs.Paces.{pace_allows}
 use Rattle.fax_udptl.specs.Sending.{AreShort, datagram_for}
@@ -13,8 +14,8 @@ use Rattle.fax_ifp.specs.Packets.{packet_of}
 use Rattle.fax_ifp.specs.WrittenPackets.{written_behind}
 use Rattle.fax_jobs.specs.Jobs.{JobValue}
 use Rattle.fax_call.specs.Writings.{Writing}
-use Rattle.fax_call.specs.Replies.{Packet, Part, written, Due, One, Text, parts_of, part_length, training_check, command}
-use Rattle.fax_call.specs.Table.{Move, Stays, Trains, Sends, AsksAgain, Closes, HangsUp}
+use Rattle.fax_call.specs.Replies.{Packet, Part, written, Due, One, Text, parts_of, part_length, training_check, command_behind, command}
+use Rattle.fax_call.specs.Table.{Move, Stays, Trains, Sends, AsksAgain, Turns, Closes, HangsUp}
 use Rattle.fax_call.specs.Calls.{Calling, moved, Taken, taken, taken_text, text_at, after_giving, given_first, paced, timed, Ticked, ticked}
 use Rattle.fax_call.specs.Emission.{Mark, marks_given, gave_all}
 use Rattle.fax_gateway.specs.Legs.{sent}
@@ -78,16 +79,17 @@ check_fits : (dcs : Dcs) → AllFit (training_check dcs)
 unfolding training_check
 check_fits dcs = parts_fit _ (kind_of dcs.rate) (part_length dcs) _ (small dcs.rate)
 
-command_fits : (pages page : ℕ) → AllFit (command pages page)
+command_fits : (plain : Plain) → AllFit (command plain)
 unfolding written_behind
-command_fits pages page = (omega arith, (omega arith, tt))
+command_fits plain = (omega arith, (omega arith, tt))
 
 pub moved_fits : (a : Calling) (m : Move) → AllFit a.waiting → AllFit (moved a m).waiting
 unfolding written_behind
 moved_fits a Stays h = h
 moved_fits a (Trains dis dcs c) h = (omega arith, (omega arith, (omega arith, check_fits dcs)))
-moved_fits a (Sends dis dcs c) h = (omega arith, (tt, command_fits a.pages c.page))
-moved_fits a (AsksAgain c) h = command_fits a.pages c.page
+moved_fits a (Sends dis dcs c) h = (omega arith, (tt, command_fits (command_behind a.formats a.pages c.page)))
+moved_fits a (AsksAgain c) h = command_fits (command_behind a.formats a.pages c.page)
+moved_fits a (Turns format t1 c) h = tt
 moved_fits a (Closes outcome c) h = (omega arith, (omega arith, tt))
 moved_fits a HangsUp h = tt
 

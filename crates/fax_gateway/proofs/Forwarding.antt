@@ -110,7 +110,7 @@ begins_none : (P : List Mark → Emission → Type 0) (writes : Writing) (job : 
 begins_none P writes job before now marks = by (pace_allows before.last now)
   where
     core : Calling
-    core = started before job.format (length job.pages) now
+    core = started before job now
 
     by : (t : Bool) → EachEmission P marks (elements_told (told_by [] (if◌then◌else◌ {A = Ticked} t (given_first writes job core now calling_tone) (record { core = core; given = None })).given))
     by true = subst (EachEmission P marks) (sym tone_back) (tt, tt)

@@ -134,12 +134,12 @@ hears_calling (Some l) now octets x old new off r t number sender f =
     }
 
 -- THE CALLED SIDE
-came_core : (writes : Writing) (job : JobValue) (a : Calling) (ps : List Piece) (events : List call_calls.CallEvent) → call_calls.after_events writes job a (comes_to ps events) ≡ call_calls.came_all (call_calls.after_events writes job a events) ps
-came_core writes job a [] events = refl
-came_core writes job a (p ∷ ps) events = came_core writes job a ps (call_calls.Comes p ∷ events)
+came_core : (writes : Writing) (job : JobValue) (a : Calling) (ps : List Piece) (now : ℕ) (events : List call_calls.CallEvent) → call_calls.after_events writes job a (comes_to ps now events) ≡ call_calls.came_all (call_calls.after_events writes job a events) ps now
+came_core writes job a [] now events = refl
+came_core writes job a (p ∷ ps) now events = came_core writes job a ps now (call_calls.Comes p now ∷ events)
 
-abbrev hears_by : Bool → CalledLeg → Result DatagramValue UdptlFault → CalledLeg
-hears_by b l r = if b then l else called_legs.leg_with r l
+abbrev hears_by : Bool → CalledLeg → ℕ → Result DatagramValue UdptlFault → CalledLeg
+hears_by b l now r = if b then l else called_legs.leg_with r now l
 
 on_call : (s : State) → (s ≡ Idle → ⊥) → is_over s ≡ false
 on_call Idle h = absurd (h refl)
@@ -164,27 +164,27 @@ decided_on_called writes (Some l) octets x old receiver b off r t e =
     e ∙ sym (some_slots l.arrived t.datagram x (t.decides l.arrived r.on_leg.receiver))
     ∙ sym (ap (λ (b : Bool). decided_by b l.arrived (datagram_of octets)) (on_called writes (Some l) old r off) ∙ ap (λ (r : Result DatagramValue UdptlFault). decided_by false l.arrived r) t.is)
 
-leg_hears_called : (writes : Writing) (l : CalledLeg) (d : DatagramValue) (x : DecidedValue) (old new : CalledSide) → IsCalled writes (Some l) old → Decides l.arrived d x → IsAfter (d ∷ l.arrived) new.leg.receiver
-    → new.leg.sender ≡ old.leg.sender → call.Hears writes l.job (slots_in x) (newest_slots l.arrived) (called_legs.core_of writes l) new.caller
-    → IsCalled writes (Some (called_legs.leg_with (Ok d) l)) new
-leg_hears_called writes l d x old new r n after sender h =
+leg_hears_called : (writes : Writing) (l : CalledLeg) (now : ℕ) (d : DatagramValue) (x : DecidedValue) (old new : CalledSide) → IsCalled writes (Some l) old → Decides l.arrived d x → IsAfter (d ∷ l.arrived) new.leg.receiver
+    → new.leg.sender ≡ old.leg.sender → call.Hears writes l.job (slots_in x) now (newest_slots l.arrived) (called_legs.core_of writes l) new.caller
+    → IsCalled writes (Some (called_legs.leg_with (Ok d) now l)) new
+leg_hears_called writes l now d x old new r n after sender h =
     let given : new_pieces l.arrived d ≡ h.given = pieces_new l.arrived d x h.given n h.pieces in
-    let core : called_legs.core_of writes (called_legs.leg_with (Ok d) l) ≡ call_calls.came_all (called_legs.core_of writes l) h.given =
-    came_core writes l.job (begun_core l) (new_pieces l.arrived d) l.events ∙ ap (λ (ps : List Piece). call_calls.came_all (called_legs.core_of writes l) ps) given in
+    let core : called_legs.core_of writes (called_legs.leg_with (Ok d) now l) ≡ call_calls.came_all (called_legs.core_of writes l) h.given now =
+    came_core writes l.job (begun_core l) (new_pieces l.arrived d) now l.events ∙ ap (λ (ps : List Piece). call_calls.came_all (called_legs.core_of writes l) ps now) given in
     record {
       core =
           subst (λ (a : Calling). call.IsReached writes l.job (newest_slots (d ∷ l.arrived)) a new.caller) (sym core)
-          (subst (λ (ss : List Slot). call.IsReached writes l.job ss (call_calls.came_all (called_legs.core_of writes l) h.given) new.caller) (sym (newest_more l.arrived d x n)) h.reached);
+          (subst (λ (ss : List Slot). call.IsReached writes l.job ss (call_calls.came_all (called_legs.core_of writes l) h.given now) new.caller) (sym (newest_more l.arrived d x n)) h.reached);
       on_leg = record { receiver = after; sender = subst (λ (s : SenderValue). HasSent l.given s) (sym sender) r.on_leg.sender };
     }
 
-pub hears_called : (writes : Writing) (leg : Option CalledLeg) (octets : List ℕ) (x : DecidedValue) (old new : CalledSide) → (old.caller.procedure.state ≡ Idle → ⊥) → IsCalled writes leg old → Takes octets old.leg.receiver new.leg.receiver x
-    → new.leg.sender ≡ old.leg.sender → ((writes : Writing) (job : JobValue) (heard : List Slot) (core : Calling) → call.IsReached writes job heard core old.caller → call.Hears writes job (slots_in x) heard core new.caller)
-    → IsCalled writes (option_map (hears writes octets) leg) new
-hears_called writes None octets x old new off r t sender f = absurd (on_called writes None old r off)
-hears_called writes (Some l) octets x old new off r t sender f =
+pub hears_called : (writes : Writing) (leg : Option CalledLeg) (now : ℕ) (octets : List ℕ) (x : DecidedValue) (old new : CalledSide) → (old.caller.procedure.state ≡ Idle → ⊥) → IsCalled writes leg old → Takes octets old.leg.receiver new.leg.receiver x
+    → new.leg.sender ≡ old.leg.sender → ((writes : Writing) (job : JobValue) (heard : List Slot) (core : Calling) → call.IsReached writes job heard core old.caller → call.Hears writes job (slots_in x) now heard core new.caller)
+    → IsCalled writes (option_map (hears writes octets now) leg) new
+hears_called writes None now octets x old new off r t sender f = absurd (on_called writes None old r off)
+hears_called writes (Some l) now octets x old new off r t sender f =
     let h = f writes l.job (newest_slots l.arrived) (called_legs.core_of writes l) r.core in
     let n : Decides l.arrived t.datagram x = t.decides l.arrived r.on_leg.receiver in
-    let brings : hears_by (is_over (called_legs.core_of writes l).state) l (datagram_of octets) ≡ called_legs.leg_with (Ok t.datagram) l =
-    ap (λ (b : Bool). hears_by b l (datagram_of octets)) (on_called writes (Some l) old r off) ∙ ap (λ (r : Result DatagramValue UdptlFault). hears_by false l r) t.is in
-    subst (λ (k : CalledLeg). IsCalled writes (Some k) new) (sym brings) (leg_hears_called writes l t.datagram x old new r n (t.after l.arrived r.on_leg.receiver) sender h)
+    let brings : hears_by (is_over (called_legs.core_of writes l).state) l now (datagram_of octets) ≡ called_legs.leg_with (Ok t.datagram) now l =
+    ap (λ (b : Bool). hears_by b l now (datagram_of octets)) (on_called writes (Some l) old r off) ∙ ap (λ (r : Result DatagramValue UdptlFault). hears_by false l now r) t.is in
+    subst (λ (k : CalledLeg). IsCalled writes (Some k) new) (sym brings) (leg_hears_called writes l now t.datagram x old new r n (t.after l.arrived r.on_leg.receiver) sender h)

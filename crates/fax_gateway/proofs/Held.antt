@@ -1,11 +1,12 @@
 -- What holds of each page that a book's steps confirm holds of each page of its jobs.
 use Rattle.std.proofs.Common.{◌≡◌, ℕ, zero, suc, ◌+◌, ◌<◌, ◌≤◌, Bool, true, false, ◌&&◌, nat_eq, nat_lt, List, [], ◌∷◌, ◌++◌, length, slice_get, drop, Option, Some, None, refl, subst, arith, length-append, if◌then◌else◌}
-use Rattle.std.proofs.lemmas.List.Elements.{All-nil, All-cons, All-push}
+use Rattle.std.proofs.lemmas.List.Elements.{All-nil, All-cons}
 use Rattle.fax_pagestore.specs.Pages.{PageValue, IsPage}
 use Rattle.fax_jobs.specs.declared.outcome.Outcome.{Outcome}
 use Rattle.fax_jobs.specs.Jobs.{JobValue, IsJob, most_pages}
-use Rattle.fax_jobs.specs.Books.{Book, job_of, longer, takes_page, same_format, joins, joined, added, opened, closed, behind, first_of, with_page}
+use Rattle.fax_jobs.specs.Books.{Book, job_of, longer, takes_page, joins, joined, added, opened, closed, behind, first_of, with_page}
 use Rattle.fax_jobs.specs.Pasts.{Step, Confirms, CallEnds, Sends, Ends, Past, new_past, sent_if, ended_if, after_steps}
+use Rattle.fax_jobs.proofs.FirstFormat.{grown}
 use Rattle.fax_jobs.proofs.TakenPages.{taken_page}
 
 abbrev pub EachPage : (PageValue → Type 0) → List PageValue → Type 0
@@ -42,9 +43,8 @@ pub record BookHolds (P : ℕ → PageValue → Type 0) (book : Book) : Type 0 w
 -- a job is opened, and grows
 opens : (P : ℕ → PageValue → Type 0) (call : ℕ) (page : PageValue) → P call page → IsPage page → Holds P (job_of call page)
 opens P call page h is =
-    let F : PageValue → Type 0 = λ p. p.format ≡ page.format in
     record {
-      is_job = record { some = omega arith; few = omega arith; one_format = All-cons F page [] refl (All-nil F); are_pages = All-cons IsPage page [] is (All-nil IsPage) };
+      is_job = record { some = omega arith; few = omega arith; of_first = refl; are_pages = All-cons IsPage page [] is (All-nil IsPage) };
       pages = (h, tt);
     }
 
@@ -55,28 +55,15 @@ both false b h = cc
 same_call : (m n : ℕ) → nat_eq m n ≡ true → n ≡ m
 same_call m n h = grind (arith)
 
-some_more : (pages : List PageValue) (page : PageValue) → 0 < length (pages ++ page ∷ [])
-some_more pages page = let e : length (pages ++ page ∷ []) ≡ length pages + 1 = length-append pages (page ∷ []) in omega arith
-
-few_more : (pages : List PageValue) (page : PageValue) → length pages < most_pages → length (pages ++ page ∷ []) ≤ most_pages
-few_more pages page h = let e : length (pages ++ page ∷ []) ≡ length pages + 1 = length-append pages (page ∷ []) in omega arith
-
-grows : (P : ℕ → PageValue → Type 0) (job : JobValue) (call : ℕ) (page : PageValue) → takes_page job call page ≡ true → P call page → IsPage page → Holds P job → Holds P (longer job page)
+grows : (P : ℕ → PageValue → Type 0) (job : JobValue) (call : ℕ) (page : PageValue) → takes_page job call ≡ true → P call page → IsPage page → Holds P job → Holds P (longer job page)
 grows P job call page t h is k =
-    let b = taken_page job call page t in
-    let e : call ≡ job.call = same_call job.call call (both (nat_eq job.call call) (same_format job.format page.format && nat_lt (length job.pages) most_pages) t) in
-    let F : PageValue → Type 0 = λ p. p.format ≡ job.format in
+    let e : call ≡ job.call = same_call job.call call (both (nat_eq job.call call) (nat_lt (length job.pages) most_pages) t) in
     record {
-      is_job = record {
-        some = some_more job.pages page;
-        few = few_more job.pages page b.1;
-        one_format = All-push F job.pages page k.is_job.one_format b.0;
-        are_pages = All-push IsPage job.pages page k.is_job.are_pages is;
-      };
+      is_job = grown job.call job.format job.pages page k.is_job (taken_page job call t) is;
       pages = page_more (P job.call) job.pages page k.pages (subst (λ (n : ℕ). P n page) e h);
     }
 
-joined_holds : (P : ℕ → PageValue → Type 0) (o : Option JobValue) (call : ℕ) (page : PageValue) → joins o call page ≡ true → P call page → IsPage page → IfHolds P o → IfHolds P (joined o page)
+joined_holds : (P : ℕ → PageValue → Type 0) (o : Option JobValue) (call : ℕ) (page : PageValue) → joins o call ≡ true → P call page → IsPage page → IfHolds P o → IfHolds P (joined o page)
 joined_holds P None call page t h is k = tt
 joined_holds P (Some job) call page t h is k = grows P job call page t h is k
 
@@ -89,9 +76,9 @@ closed_holds : (P : ℕ → PageValue → Type 0) (book : Book) → BookHolds P 
 closed_holds P book b = record { open_job = tt; waiting = behind_holds P book.waiting book.open_job b.waiting b.open_job; sending = b.sending }
 
 page_holds : (P : ℕ → PageValue → Type 0) (book : Book) (call : ℕ) (page : PageValue) → P call page → IsPage page → BookHolds P book → BookHolds P (with_page book call page)
-page_holds P book call page h is b = by (joins book.open_job call page) refl
+page_holds P book call page h is b = by (joins book.open_job call) refl
   where
-    by : (t : Bool) → joins book.open_job call page ≡ t → BookHolds P (if◌then◌else◌ {A = Book} t (added book page) (opened (closed book) call page))
+    by : (t : Bool) → joins book.open_job call ≡ t → BookHolds P (if◌then◌else◌ {A = Book} t (added book page) (opened (closed book) call page))
     by true e = record { open_job = joined_holds P book.open_job call page e h is b.open_job; waiting = b.waiting; sending = b.sending }
     by false e = record { open_job = opens P call page h is; waiting = (closed_holds P book b).waiting; sending = b.sending }
 

@@ -7,10 +7,10 @@ use Rattle.fax_udptl.specs.declared.fault.UdptlFault.{UdptlFault}
 use Rattle.fax_udptl.specs.Datagrams.{DatagramValue, datagram_of}
 use Rattle.fax_ifp.specs.Pieces.{Piece}
 use Rattle.fax_answer.specs.declared.state.State.{State}
-use Rattle.fax_answer.specs.declared.state.State.TheVariants.{Idle, Identify, Listen, Train, Page, Closing}
+use Rattle.fax_answer.specs.declared.state.State.TheVariants.{Idle, Identify, Listen, Train, Page, Again, Closing}
 use Rattle.fax_answer.specs.Table.{Reading}
 use Rattle.fax_answer.specs.Replies.{Waiting, is_waiting}
-use Rattle.fax_answer.specs.Calls.{Answering, rung, says_goodbye, identifies_again, timed_in, timed, state_when_given, is_closing, Ticked, given_first, paced, ticked, CallEvent, Comes, after_events}
+use Rattle.fax_answer.specs.Calls.{Answering, rung, says_goodbye, identifies_again, identifies_anew, timed_in, timed, state_when_given, is_closing, Ticked, given_first, paced, ticked, CallEvent, Comes, after_events}
 use Rattle.fax_answer.specs.Readings.{comes_all}
 use Rattle.fax_answer.specs.Following.{Rests}
 use Rattle.fax_answer.proofs.Rests.{rests_after, ticked_rests}
@@ -57,6 +57,7 @@ idle_is Identify h = cc
 idle_is Listen h = cc
 idle_is (Train d) h = cc
 idle_is (Page d) h = cc
+idle_is Again h = cc
 idle_is Closing h = cc
 
 idle_timed : (a : Answering) (now : ℕ) → a.state ≡ Idle → timed a now ≡ a
@@ -89,6 +90,7 @@ timed_in_busy Identify a now h =
 timed_in_busy Listen a now h = goodbye_if (is_due a.timers.t2 now) (says_goodbye a) a refl h
 timed_in_busy (Train d) a now h = goodbye_if (is_due a.timers.t2 now) (says_goodbye a) a refl h
 timed_in_busy (Page d) a now h = goodbye_if (is_due a.timers.t2 now) (says_goodbye a) a refl h
+timed_in_busy Again a now h = goodbye_if (is_due a.timers.t2 now) (identifies_anew a now) a refl h
 
 sent_end : (s : State) → is_idle s ≡ false → is_idle (state_when_given s) ≡ is_closing s
 sent_end Idle h = cc
@@ -96,6 +98,7 @@ sent_end Identify h = refl
 sent_end Listen h = refl
 sent_end (Train d) h = refl
 sent_end (Page d) h = refl
+sent_end Again h = refl
 sent_end Closing h = refl
 
 first_end : (a : Answering) (now : ℕ) (ws : List Waiting) → is_idle a.state ≡ false → is_idle (given_first a now ws).core.state ≡ (given_first a now ws).ended

@@ -18,7 +18,7 @@ use Rattle.fax_gateway.specs.Events.{Event, Ring, FromCalling, FromCalled, Tick,
 use Rattle.fax_gateway.specs.Legs.{new_pieces}
 use Rattle.fax_gateway.specs.CallingLegs.{CallingLeg, calling_leg, idle_after, answers, confirmed_by}
 use Rattle.fax_gateway.specs.CalledLegs.{CalledLeg, begun_core, core_of, is_free, core_left, calls, outcome_of, with_tick, leg_ticked, comes_to, leg_with, hears, told_by, told_called, outcome_told, delivered_told}
-use Rattle.fax_gateway.specs.Sides.{Sides, book_of, closes, confirms_if, ends_if, heard_in_tick, leg_of, sends, sends_if, enters, serves, sides, in_tick}
+use Rattle.fax_gateway.specs.Sides.{Sides, book_of, confirms_if, ends_if, heard_in_tick, leg_of, sends, sends_if, enters, serves, sides, in_tick}
 use Rattle.fax_gateway.specs.Traces.{IsTrace}
 use Rattle.fax_gateway.specs.Told.{elements_told, heard_all, heard_with, heard_by, begun_if, marks_before, leg_marks}
 use Rattle.fax_gateway.proofs.Fitting.{AllFit, FitTick, ticked_fits, moved_fits, short_given, marks_back}
@@ -40,7 +40,7 @@ IfInCall writes (Some l) sending marks = InCall writes l sending marks
 
 -- what the book hears of the calling leg sends and ends no job
 page_sends : (book : Book) (call : ℕ) (page : PageValue) → (with_page book call page).sending ≡ book.sending
-page_sends book call page = by (joins book.open_job call page)
+page_sends book call page = by (joins book.open_job call)
   where
     by : (t : Bool) → (if◌then◌else◌ {A = Book} t (added book page) (opened (closed book) call page)).sending ≡ book.sending
     by true = refl
@@ -57,7 +57,7 @@ confirms_sends : (number : ℕ) (o : Option ConfirmedPage) (steps : List Step) �
 confirms_sends number None steps = refl
 confirms_sends number (Some c) steps =
     let book : Book = (after_steps new_past steps).book in
-    command_sends (closes c.command) (with_page book number c.page) ∙ page_sends book number c.page
+    command_sends c.closes (with_page book number c.page) ∙ page_sends book number c.page
 
 ends_sends : (b : Bool) (steps : List Step) → sending_of (ends_if b steps) ≡ sending_of steps
 ends_sends true steps = refl
@@ -133,30 +133,30 @@ record Hears (writes : Writing) (job : JobValue) (old : List Mark) (a : Calling)
   marks_are : marks ≡ marks_after writes job old a events
   fits : AllFit (after_events writes job a events).waiting
 
-pieces_call : (writes : Writing) (job : JobValue) (old : List Mark) (a : Calling) (ps : List Piece) (events : List CallEvent) (marks : List Mark) →
-    Hears writes job old a events marks → Hears writes job old a (comes_to ps events) (heard_all ps marks)
-pieces_call writes job old a [] events marks h = h
-pieces_call writes job old a (p ∷ ps) events marks h =
+pieces_call : (writes : Writing) (job : JobValue) (old : List Mark) (a : Calling) (ps : List Piece) (now : ℕ) (events : List CallEvent) (marks : List Mark) →
+    Hears writes job old a events marks → Hears writes job old a (comes_to ps now events) (heard_all ps marks)
+pieces_call writes job old a [] now events marks h = h
+pieces_call writes job old a (p ∷ ps) now events marks h =
     let c : Calling = after_events writes job a events in
-    pieces_call writes job old a ps (Comes p ∷ events) (marks_heard p marks)
-    (record { marks_are = ap (marks_heard p) h.marks_are; fits = moved_fits c (heard c p) h.fits })
+    pieces_call writes job old a ps now (Comes p now ∷ events) (marks_heard p marks)
+    (record { marks_are = ap (marks_heard p) h.marks_are; fits = moved_fits c (heard c p now) h.fits })
 
-with_call : (writes : Writing) (l : CalledLeg) (r : Result DatagramValue UdptlFault) (sending : Option JobValue) (marks : List Mark) → InCall writes l sending marks →
-    InCall writes (leg_with r l) sending (heard_with l r marks)
-with_call writes l (Err f) sending marks i = i
-with_call writes l (Ok d) sending marks i =
-    let h : Hears writes l.job i.old (begun_core l) (comes_to (new_pieces l.arrived d) l.events) (heard_all (new_pieces l.arrived d) marks) =
-    pieces_call writes l.job i.old (begun_core l) (new_pieces l.arrived d) l.events marks (record { marks_are = i.marks_are; fits = i.fits }) in
+with_call : (writes : Writing) (l : CalledLeg) (now : ℕ) (r : Result DatagramValue UdptlFault) (sending : Option JobValue) (marks : List Mark) → InCall writes l sending marks →
+    InCall writes (leg_with r now l) sending (heard_with l r marks)
+with_call writes l now (Err f) sending marks i = i
+with_call writes l now (Ok d) sending marks i =
+    let h : Hears writes l.job i.old (begun_core l) (comes_to (new_pieces l.arrived d) now l.events) (heard_all (new_pieces l.arrived d) marks) =
+    pieces_call writes l.job i.old (begun_core l) (new_pieces l.arrived d) now l.events marks (record { marks_are = i.marks_are; fits = i.fits }) in
     record { sends = i.sends; old = i.old; marks_are = h.marks_are; fits = h.fits; short = i.short }
 
-hears_call : (writes : Writing) (leg : Option CalledLeg) (octets : List ℕ) (sending : Option JobValue) (marks : List Mark) → IfInCall writes leg sending marks →
-    IfInCall writes (option_map (hears writes octets) leg) sending (heard_by writes leg octets marks)
-hears_call writes None octets sending marks i = i
-hears_call writes (Some l) octets sending marks i = by (is_over (core_of writes l).state)
+hears_call : (writes : Writing) (leg : Option CalledLeg) (now : ℕ) (octets : List ℕ) (sending : Option JobValue) (marks : List Mark) → IfInCall writes leg sending marks →
+    IfInCall writes (option_map (hears writes octets now) leg) sending (heard_by writes leg octets marks)
+hears_call writes None now octets sending marks i = i
+hears_call writes (Some l) now octets sending marks i = by (is_over (core_of writes l).state)
   where
-    by : (b : Bool) → InCall writes (if◌then◌else◌ {A = CalledLeg} b l (leg_with (datagram_of octets) l)) sending (if◌then◌else◌ {A = List Mark} b marks (heard_with l (datagram_of octets) marks))
+    by : (b : Bool) → InCall writes (if◌then◌else◌ {A = CalledLeg} b l (leg_with (datagram_of octets) now l)) sending (if◌then◌else◌ {A = List Mark} b marks (heard_with l (datagram_of octets) marks))
     by true = i
-    by false = with_call writes l (datagram_of octets) sending marks i
+    by false = with_call writes l now (datagram_of octets) sending marks i
 
 -- over a trace
 pub before_call : (writes : Writing) (earlier : List Event) (at : ℕ) (marks : List Mark) → IfInCall writes (sides writes earlier).leg (book_of (sides writes earlier)).sending marks →
@@ -175,7 +175,7 @@ in_call writes (FromCalling octets at decided read ∷ earlier) t =
     same_sending writes s.leg _ (book_of s).sending (leg_marks writes earlier)
     (ends_sends (not (idle_after (calling_leg earlier)) && idle_after (calling_leg (FromCalling octets at decided read ∷ earlier))) s.steps) (in_call writes earlier t.1)
 in_call writes (FromCalled octets at decided ∷ earlier) t =
-    let s : Sides = sides writes earlier in hears_call writes s.leg octets (book_of s).sending (leg_marks writes earlier) (in_call writes earlier t.1)
+    let s : Sides = sides writes earlier in hears_call writes s.leg (clock (FromCalled octets at decided ∷ earlier)) octets (book_of s).sending (leg_marks writes earlier) (in_call writes earlier t.1)
 in_call writes (Tick at given ∷ earlier) t =
     let now : ℕ = max at (clock earlier) in
     let z : Sides = in_tick writes earlier at in

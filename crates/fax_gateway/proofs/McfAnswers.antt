@@ -11,7 +11,7 @@ use Rattle.fax_call.specs.Writings.{Writing}
 use Rattle.fax_gateway.specs.Events.{Event, Given, clock}
 use Rattle.fax_gateway.specs.CallingLegs.{CallingLeg, core_of, calling_leg, answers, told_calling, confirmed_by}
 use Rattle.fax_gateway.specs.CalledLegs.{is_free, outcome_told, delivered_told}
-use Rattle.fax_gateway.specs.Sides.{Sides, closes, confirms_if, ends_if, heard_in_tick, sends, sends_if, enters, serves, before_serving, sides}
+use Rattle.fax_gateway.specs.Sides.{Sides, confirms_if, ends_if, heard_in_tick, sends, sends_if, enters, serves, before_serving, sides}
 use Rattle.fax_gateway.specs.Traces.{IsTrace}
 use Rattle.fax_gateway.specs.Told.{gives_mcf}
 use Rattle.fax_gateway.specs.Answers.{AddsNoPage, ConfirmsNow, GivesAgain, EachMcfAnswers}
@@ -71,7 +71,7 @@ mcf_with writes l now s w right is mcf = by w.confirmed refl
         inl (record {
           confirmed = c;
           confirmation = r.1;
-          one_page = behind_heard writes (Some l) now s (Confirms l.number c.page (closes c.command) ∷ s.steps) (heard_as l now s.steps (Some c) (confirmed_of (answers l now).given w (Some c) is e));
+          one_page = behind_heard writes (Some l) now s (Confirms l.number c.page c.closes ∷ s.steps) (heard_as l now s.steps (Some c) (confirmed_of (answers l now).given w (Some c) is e));
         })
     by None e = by_law e (each_mcf l.before l.begun now l.events w right is mcf)
 

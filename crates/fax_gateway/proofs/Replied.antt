@@ -15,11 +15,11 @@ use Rattle.fax_ifp.specs.Packets.{packet_of, fields_at}
 use Rattle.fax_ifp.specs.Pieces as pieces
 use Rattle.fax_ifp.specs.WrittenPackets.{written_behind}
 use Rattle.fax_answer.specs.declared.state.State.{State}
-use Rattle.fax_answer.specs.declared.state.State.TheVariants.{Idle, Identify, Listen, Train, Page, Closing}
+use Rattle.fax_answer.specs.declared.state.State.TheVariants.{Idle, Identify, Listen, Train, Page, Again, Closing}
 use Rattle.fax_answer.specs.History.{Decision, PassesOver, Trains, HangsUp, GivesCfr, GivesFtt, GivesMcf, GivesRtn}
 use Rattle.fax_answer.specs.Table.{Reading, decision}
 use Rattle.fax_answer.specs.Replies.{ConfirmedPage, Waiting, silent, called_tone, preamble, frame_packet, mcf_packet, reply_to, plain_reply, is_waiting}
-use Rattle.fax_answer.specs.Calls.{Answering, rung, dis_reply, says_goodbye, identifies_again, timed_in, timed, Ticked, given_first, ticked, CallEvent, Comes, after_events}
+use Rattle.fax_answer.specs.Calls.{Answering, rung, dis_reply, says_goodbye, identifies_again, identifies_anew, timed_in, timed, Ticked, given_first, ticked, CallEvent, Comes, after_events}
 use Rattle.fax_answer.specs.Readings.{comes_all}
 use Rattle.fax_call.specs.Emission.{ended_frame}
 use Rattle.fax_gateway.specs.Events.{Event, Ring, FromCalling, FromCalled, Tick, clock}
@@ -59,6 +59,7 @@ plain_only : (p : Plain) → (mcf_in (frame_packet (written_plain p false)) ≡ 
 unfolding written_behind fields_at ended_frame packet_of bits.bit packets.fields_behind packets.field_at packets.octets_at
 plain_only plain.Cfr = inl refl
 plain_only plain.Ftt = inl refl
+plain_only plain.Eom = inl refl
 plain_only plain.Mps = inl refl
 plain_only plain.Eop = inl refl
 plain_only plain.Mcf = inr refl
@@ -96,6 +97,7 @@ timed_in_neat Identify a now i =
 timed_in_neat Listen a now i = either (is_due a.timers.t2 now) _ _ (goodbye_neat a) i
 timed_in_neat (Train d) a now i = either (is_due a.timers.t2 now) _ _ (goodbye_neat a) i
 timed_in_neat (Page d) a now i = either (is_due a.timers.t2 now) _ _ (goodbye_neat a) i
+timed_in_neat Again a now i = either (is_due a.timers.t2 now) (identifies_anew a now) a dis_neat i
 
 abbrev pub NeatGiven : Option Waiting → Type 0
 NeatGiven None = Unit {0}

@@ -69,7 +69,7 @@ behind_given until None all b = b
 behind_given until (Some packet) all b = behind_all until (elements.elements_in (packet_of (written packet))) all b
 
 behind_event : (writes : Writing) (job : JobValue) (old until : List Mark) (a : Calling) (e : CallEvent) (before : List CallEvent) → Behind until (marks_after writes job old a before) → Behind until (marks_after writes job old a (e ∷ before))
-behind_event writes job old until a (Comes piece) before b = behind_piece until piece (marks_after writes job old a before) b
+behind_event writes job old until a (Comes piece now) before b = behind_piece until piece (marks_after writes job old a before) b
 behind_event writes job old until a (Ticks now) before b = behind_given until (ticked writes job (after_events writes job a before) now).given (marks_after writes job old a before) b
 
 behind_end : (writes : Writing) (job : JobValue) (old : List Mark) (a : Calling) (events : List CallEvent) → Behind (marks_until_over writes job old a events) (marks_after writes job old a events)

@@ -103,24 +103,18 @@ pub side_keeps : (writes : Writing) (leg : Option CalledLeg) (old new : CalledSi
 side_keeps writes leg old new f same g r = record { core = caller_keeps writes leg old.caller new.caller f same r.core; on_leg = leg_keeps leg old.leg new.leg g r.on_leg }
 
 -- a call begins
-caller_starts : (writes : Writing) (leg : Option CalledLeg) (old new : call.Kept) (job : JobValue) (format : Format) (pages now : ℕ) →
-    ((writes others : Writing) (job other : JobValue) (heard : List Slot) (core : Calling) → call.IsReached others other heard core old → call.IsReached writes job [] (started core format pages now) new)
-    → IsCaller writes leg old → call.IsReached writes job [] (started (core_left writes leg) format pages now) new
-caller_starts writes None old new job format pages now f r = f writes writes job job [] (new_calling old.procedure.format) (r job)
-caller_starts writes (Some l) old new job format pages now f r = f writes writes job l.job (newest_slots l.arrived) (core_of writes l) r
+caller_starts : (writes : Writing) (leg : Option CalledLeg) (old new : call.Kept) (job : JobValue) (format : Format) (pages now : ℕ) → format ≡ job.format → pages ≡ length job.pages →
+    ((writes others : Writing) (job other : JobValue) (heard : List Slot) (core : Calling) → call.IsReached others other heard core old → job.format ≡ format → length job.pages ≡ pages → call.IsReached writes job [] (started core job now) new)
+    → IsCaller writes leg old → call.IsReached writes job [] (started (core_left writes leg) job now) new
+caller_starts writes None old new job format pages now same count f r = f writes writes job job [] (new_calling old.procedure.format) (r job) (sym same) (sym count)
+caller_starts writes (Some l) old new job format pages now same count f r = f writes writes job l.job (newest_slots l.arrived) (core_of writes l) r (sym same) (sym count)
 
 pub side_starts : (writes : Writing) (leg : Option CalledLeg) (old new : CalledSide) (job : JobValue) (format : Format) (pages now : ℕ) → format ≡ job.format → pages ≡ length job.pages →
-    ((writes others : Writing) (job other : JobValue) (heard : List Slot) (core : Calling) → call.IsReached others other heard core old.caller → call.IsReached writes job [] (started core format pages now) new.caller)
+    ((writes others : Writing) (job other : JobValue) (heard : List Slot) (core : Calling) → call.IsReached others other heard core old.caller → job.format ≡ format → length job.pages ≡ pages → call.IsReached writes job [] (started core job now) new.caller)
     → IsLeg [] [] new.leg → IsCalled writes leg old → IsCalled writes (Some (begun_leg job (core_left writes leg) now)) new
 unfolding newest_slots slots
 side_starts writes leg old new job format pages now same count f fresh r =
-    let k = caller_starts writes leg old.caller new.caller job format pages now f r.core in
-    record {
-      core =
-          subst (λ (x : Format). call.IsReached writes job [] (started (core_left writes leg) x (length job.pages) now) new.caller) same
-          (subst (λ (n : ℕ). call.IsReached writes job [] (started (core_left writes leg) format n now) new.caller) count k);
-      on_leg = fresh;
-    }
+    record { core = caller_starts writes leg old.caller new.caller job format pages now same count f r.core; on_leg = fresh }
 
 -- time goes on in a call
 pub side_ticks_on : (writes : Writing) (l : CalledLeg) (now : ℕ) (job : JobValue) (old new : CalledSide) (packet datagram : Option (List ℕ)) → l.job ≡ job →

@@ -7,7 +7,7 @@ use Rattle.fax_answer.specs.Confirmation.{IsConfirmedIn, IsRepeatedIn}
 use Rattle.fax_call.specs.Writings.{Writing}
 use Rattle.fax_gateway.specs.Events.{Event, Tick, Given}
 use Rattle.fax_gateway.specs.CallingLegs.{CallingLeg, core_of, calling_leg}
-use Rattle.fax_gateway.specs.Sides.{closes, sides}
+use Rattle.fax_gateway.specs.Sides.{sides}
 use Rattle.fax_gateway.specs.Traces.{IsTrace}
 use Rattle.fax_gateway.specs.Told.{gives_mcf}
 
@@ -21,7 +21,7 @@ pub record AddsNoPage (old new : List Step) : Type 0 where
 pub record ConfirmsNow (leg : CallingLeg) (old new : List Step) : Type 0 where
   pub confirmed : ConfirmedPage
   pub confirmation : IsConfirmedIn (core_of leg).history confirmed
-  pub one_page : AddsNoPage (Confirms leg.number confirmed.page (closes confirmed.command) ∷ old) new
+  pub one_page : AddsNoPage (Confirms leg.number confirmed.page confirmed.closes ∷ old) new
 
 -- or the last answer is given again, to a command that repeats the one answered, with no image, nothing missing and no signal
 -- since; and the book gets no page

@@ -1,6 +1,6 @@
 -- The called leg of a gateway: a job is sent there in a call of our own. What is sent is told over the function that gives
 -- the texts of pages.
-use Rattle.std.specs.Prelude.{ℕ, Bool, true, false, is_some, List, [], ◌∷◌, length, Option, Some, None, Result, Ok, Err, if◌then◌else◌}
+use Rattle.std.specs.Prelude.{ℕ, Bool, true, false, is_some, List, [], ◌∷◌, Option, Some, None, Result, Ok, Err, if◌then◌else◌}
 use Rattle.fax_runcodes.specs.declared.Width.TheVariants.{W1728}
 use Rattle.fax_udptl.specs.declared.fault.UdptlFault.{UdptlFault}
 use Rattle.fax_udptl.specs.Datagrams.{DatagramValue, datagram_of}
@@ -27,7 +27,7 @@ pub record CalledLeg : Type 0 where
   pub entered : Bool
 
 abbrev pub begun_core : CalledLeg → Calling
-begun_core l = started l.before l.job.format (length l.job.pages) l.begun
+begun_core l = started l.before l.job l.begun
 
 abbrev pub core_of : Writing → CalledLeg → Calling
 core_of writes l = after_events writes l.job (begun_core l) l.events
@@ -67,16 +67,16 @@ abbrev pub leg_ticked : Writing → ℕ → CalledLeg → CalledLeg
 leg_ticked writes now l = if l.entered then l else with_tick (calls writes l now) now l
 
 -- a datagram comes; one that cannot be read, or that comes when the call is over, brings nothing
-abbrev pub comes_to : List Piece → List CallEvent → List CallEvent
-comes_to [] events = events
-comes_to (piece ∷ more) events = comes_to more (Comes piece ∷ events)
+abbrev pub comes_to : List Piece → ℕ → List CallEvent → List CallEvent
+comes_to [] now events = events
+comes_to (piece ∷ more) now events = comes_to more now (Comes piece now ∷ events)
 
-abbrev pub leg_with : Result DatagramValue UdptlFault → CalledLeg → CalledLeg
-leg_with (Ok d) l = record l { events = comes_to (new_pieces l.arrived d) l.events; arrived = d ∷ l.arrived }
-leg_with (Err fault) l = l
+abbrev pub leg_with : Result DatagramValue UdptlFault → ℕ → CalledLeg → CalledLeg
+leg_with (Ok d) now l = record l { events = comes_to (new_pieces l.arrived d) now l.events; arrived = d ∷ l.arrived }
+leg_with (Err fault) now l = l
 
-abbrev pub hears : Writing → List ℕ → CalledLeg → CalledLeg
-hears writes octets l = if is_over (core_of writes l).state then l else leg_with (datagram_of octets) l
+abbrev pub hears : Writing → List ℕ → ℕ → CalledLeg → CalledLeg
+hears writes octets now l = if is_over (core_of writes l).state then l else leg_with (datagram_of octets) now l
 
 -- THE ANSWERS. Whether a datagram decides a slot
 abbrev pub decided_called : Writing → Option CalledLeg → List ℕ → Bool

@@ -7,7 +7,7 @@ use Rattle.fax_answer.specs.Replies.{ConfirmedPage}
 use Rattle.fax_call.specs.Writings.{Writing}
 use Rattle.fax_gateway.specs.Events.{Event, Ring, FromCalling, FromCalled, Tick, clock}
 use Rattle.fax_gateway.specs.CallingLegs.{CallingLeg, calling_leg, idle_after, answers, confirmed_by}
-use Rattle.fax_gateway.specs.Sides.{closes, past_of, sides}
+use Rattle.fax_gateway.specs.Sides.{past_of, sides}
 use Rattle.fax_gateway.specs.Traces.{IsTrace}
 
 -- what a tick confirms
@@ -20,7 +20,7 @@ confirmed_at (Some l) now = confirmed_by (answers l now).given
 abbrev pub with_confirmed : Option ConfirmedPage → List (List Confirmation) → List (List Confirmation)
 with_confirmed None calls = calls
 with_confirmed (Some c) [] = []
-with_confirmed (Some c) (cs ∷ calls) = (cs ++ record { page = c.page; closes = closes c.command } ∷ []) ∷ calls
+with_confirmed (Some c) (cs ∷ calls) = (cs ++ record { page = c.page; closes = c.closes } ∷ []) ∷ calls
 
 abbrev pub calls_of : List Event → List (List Confirmation)
 calls_of [] = []

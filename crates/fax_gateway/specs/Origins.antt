@@ -13,7 +13,7 @@ abbrev pub AreConfirmedIn : List Event → ℕ → List PageValue → Type 0
 AreConfirmedIn trace call [] = Unit {0}
 AreConfirmedIn trace call (page ∷ pages) = WasConfirmedIn trace call page × AreConfirmedIn trace call pages
 
--- 1 to 999 pages of one format, each confirmed in the call that the job names
+-- 1 to 999 pages, the first of the job's format, each confirmed in the call that the job names
 pub record IsOfItsCall (trace : List Event) (job : JobValue) : Type 0 where
   pub is_job : IsJob job
   pub confirmed : AreConfirmedIn trace job.call job.pages

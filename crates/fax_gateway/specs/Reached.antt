@@ -31,7 +31,7 @@ use Rattle.fax_gateway.specs.CallingLegs as calling_legs
 use Rattle.fax_gateway.specs.CallingLegs.{CallingLeg, calling_leg, calling_after, question, told_calling}
 use Rattle.fax_gateway.specs.CalledLegs as called_legs
 use Rattle.fax_gateway.specs.CalledLegs.{CalledLeg}
-use Rattle.fax_gateway.specs.Sides.{book_of, closes, sides}
+use Rattle.fax_gateway.specs.Sides.{book_of, sides}
 use Rattle.fax_gateway.specs.Traces.{IsTrace}
 
 -- what a tick gives
@@ -158,7 +158,7 @@ ended_if (Some job) outcome delivered book = ended_with outcome delivered book
 -- THE BOOK in a tick, as it hears of the calling leg
 abbrev pub confirmed_if : ℕ → Option ConfirmedPage → Book → Book
 confirmed_if number None book = book
-confirmed_if number (Some c) book = confirmed book number c.page (closes c.command)
+confirmed_if number (Some c) book = confirmed book number c.page c.closes
 
 abbrev pub closed_if : Bool → Book → Book
 closed_if true book = closed book

@@ -6,8 +6,6 @@ use Rattle.fax_jobs.specs.declared.outcome.Outcome.{Outcome}
 use Rattle.fax_jobs.specs.Jobs.{JobValue}
 use Rattle.fax_jobs.specs.Books.{Book}
 use Rattle.fax_jobs.specs.Pasts.{Step, Confirms, CallEnds, Sends, Ends, Past, new_past, after_steps}
-use Rattle.fax_answer.specs.declared.command.Command.{Command}
-use Rattle.fax_answer.specs.declared.command.Command.TheVariants.{Mps, Eop}
 use Rattle.fax_answer.specs.Replies.{ConfirmedPage}
 use Rattle.fax_call.specs.Writings.{Writing}
 use Rattle.fax_call.specs.Calls.{Calling}
@@ -27,13 +25,9 @@ abbrev pub book_of : Sides → Book
 book_of s = (past_of s).book
 
 -- what the book hears of the calling leg: pages that are confirmed, and calls that end
-abbrev pub closes : Command → Bool
-closes Eop = true
-closes Mps = false
-
 abbrev pub confirms_if : ℕ → Option ConfirmedPage → List Step → List Step
 confirms_if number None steps = steps
-confirms_if number (Some c) steps = Confirms number c.page (closes c.command) ∷ steps
+confirms_if number (Some c) steps = Confirms number c.page c.closes ∷ steps
 
 abbrev pub ends_if : Bool → List Step → List Step
 ends_if true steps = CallEnds ∷ steps
@@ -78,7 +72,7 @@ abbrev pub sides_after : Writing → Option CallingLeg → Option CallingLeg →
 sides_after writes old new now (Ring at number) s = s
 sides_after writes old new now (FromCalling octets at decided read) s =
     record s { steps = ends_if (not (idle_after old) && idle_after new) s.steps }
-sides_after writes old new now (FromCalled octets at decided) s = record s { leg = option_map (hears writes octets) s.leg }
+sides_after writes old new now (FromCalled octets at decided) s = record s { leg = option_map (hears writes octets now) s.leg }
 sides_after writes old new now (Tick at given) s = serves writes now (before_serving writes old now s)
 
 abbrev pub sides : Writing → List Event → Sides

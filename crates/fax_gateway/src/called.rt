@@ -38,7 +38,7 @@ impl CalledSide {
     /// `Err` changes nothing.
     pub fn hear(&mut self, octets: &[u8], now: u64) -> Result<bool, NoMemory>
         ensures heard { OnOk result ((writes : Writing) (leg : Option CalledLeg) → IsCalled writes leg self.old
-            → IsCalled writes (option_map (hears writes octets.now) leg) self.new) }
+            → IsCalled writes (option_map (hears writes octets.now now) leg) self.new) }
         ensures decided { IfOk result (λ decided. (writes : Writing) (leg : Option CalledLeg) → IsCalled writes leg self.old
             → decided ≡ decided_called writes leg octets.now) }
         ensures memory { OnErr result ((writes : Writing) (leg : Option CalledLeg) → IsCalled writes leg self.old

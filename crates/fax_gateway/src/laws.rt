@@ -37,15 +37,15 @@ pub fn each_mcf_answers()
 {}
 
 /// The jobs that were closed are those into which the confirmations of each call are cut, call by call in the order of the
-/// rings, and each names the number that its ring was answered with: behind a page confirmed for EOP, before a page of
-/// another format, behind the 999th page and at the end of the call. So each confirmed page stands in one job, at its place,
+/// rings, and each names the number that its ring was answered with: behind a page confirmed for EOP, behind the 999th page
+/// and at the end of the call, and nowhere else. So each confirmed page, of whatever format, stands in one job, at its place,
 /// no job has another page, and none has pages of two calls. While a call is on, the open job is the rest of it.
 pub fn jobs_are_cut()
     ensures { JobsAreCut }
 {}
 
 /// Each page of a job, open or closed, was confirmed in the call that the job names: a tick gave the frame MCF there for one
-/// whole image that means the page. A job has 1 to 999 pages, all of its format.
+/// whole image that means the page. A job has 1 to 999 pages, of any formats, and names that of the first.
 pub fn jobs_are_of_their_calls()
     ensures { JobsAreOfTheirCalls }
 {}
@@ -65,8 +65,8 @@ pub fn reports_the_job()
     ensures { ReportsTheJob }
 {}
 
-/// No image goes out of a page whose width or resolution the called machine lacks: in that very call a DIS was taken that has
-/// both, and that receives.
+/// No image goes out of a page whose width or resolution the called machine lacks: the DIS that was taken last before it, in
+/// that very call, has both, and it receives.
 pub fn none_is_lacking()
     ensures { NoneIsLacking }
 {}

@@ -19,7 +19,7 @@ pub returns-clause-heard : goal.returns-clause-heard
 returns-clause-heard c writes leg r =
     let off : c.args.self.now.caller.procedure.state ≡ Idle → ⊥ = search rules in
     let new : CalledSide = record { caller = c.slots.new.self; leg = record { receiver = c.take.new.self; sender = c.args.self.now.leg.sender } } in
-    hears_called writes leg c.args.octets.now c.in-Ok.decided c.args.self.now new off r (subst (λ (k : Option ℕ). Takes c.args.octets.now k c.take.new.self c.in-Ok.decided) c.copy-receiver.ensures c.in-Ok.ensures.taken) refl c.in_ok-slots.ensures.heard
+    hears_called writes leg c.args.now c.args.octets.now c.in-Ok.decided c.args.self.now new off r (subst (λ (k : Option ℕ). Takes c.args.octets.now k c.take.new.self c.in-Ok.decided) c.copy-receiver.ensures c.in-Ok.ensures.taken) refl c.in_ok-slots.ensures.heard
 
 pub returns-clause-decided : goal.returns-clause-decided
 returns-clause-decided c writes leg r =
