@@ -1,4 +1,6 @@
 //! Scripts over streams in memory: whole calls, and what is wrong with a script.
+mod formats;
+
 use fax_command::{StdSink, StdSource};
 use fax_trace::run_trace;
 use std::alloc::{AllocError, Global};
@@ -12,8 +14,8 @@ mod schedules;
 enum Part {
     /// Lines, each with its line feed.
     Lines(&'static str),
-    /// The training check of a caller: a datagram with 300 zero octets.
-    Check,
+    /// The training check of a caller, a datagram with 300 zero octets, under this number.
+    Check(&'static str),
     /// Ticks, 40 ms apart, from one moment to another.
     Ticks(u64, u64),
 }
@@ -46,7 +48,7 @@ const FINE_AND_WIDE: &[Part] = &[
 /// It sends the training check, and is answered CFR.
 const TRAINS: &[Part] = &[
     Part::Lines("A 000101080000\n"),
-    Part::Check,
+    Part::Check("0002"),
     Part::Ticks(120, 160),
     Part::Lines("A 000301080000\n"),
 ];
@@ -234,7 +236,7 @@ const RINGS_AGAIN: &[Part] = &[
     Part::Lines("R\nB 00000cc002800005ffc801004000400000\n"),
     Part::Ticks(280, 360),
     Part::Lines("A 00000cc002800005ffc8c1004000400000\nA 000101080000\n"),
-    Part::Check,
+    Part::Check("0002"),
     Part::Ticks(400, 440),
     Part::Lines("A 000301080000\n"),
 ];
@@ -468,8 +470,10 @@ fn script_of(alloc: Global, parts: &[&[Part]]) -> Result<Vec<u8>, AllocError> {
 fn push_part(alloc: Global, script: &mut Vec<u8>, part: Part) -> Result<(), AllocError> {
     match part {
         Part::Lines(lines) => script.extend_from_slice(lines.as_bytes())?,
-        Part::Check => {
-            script.extend_from_slice(b"A 00028131c201f0012b")?;
+        Part::Check(number) => {
+            script.extend_from_slice(b"A ")?;
+            script.extend_from_slice(number.as_bytes())?;
+            script.extend_from_slice(b"8131c201f0012b")?;
             for _ in 0..302 {
                 script.extend_from_slice(b"00")?;
             }

@@ -22,7 +22,7 @@ enum Network {
 const SENT: &[(Part, Option<(u64, u64)>)] = &[
     (Part::Lines("A 00000cc002800005ffc8c1004000400000\n"), None),
     (Part::Lines("A 000101080000\n"), None),
-    (Part::Check, Some((120, 160))),
+    (Part::Check("0002"), Some((120, 160))),
     (Part::Lines("A 000301080000\n"), None),
     (
         Part::Lines("A 000412c201f0000c0014d9a80080080080080080080000\n"),
