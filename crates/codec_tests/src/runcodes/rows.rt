@@ -209,7 +209,7 @@ fn paints_pairs_and_puts_runs(rt: HostRuntime) -> Result<(), Fail> {
 }
 
 #[test]
-#[tactic(auto, unfolding(crate::specs::Painted::AreRising))]
+#[tactic(auto, unfolding(fax_runcodes::specs::Painted::AreRising))]
 fn turns_elements(rt: HostRuntime) -> Result<(), Fail> {
     let mut builder = RowBuilder::new(rt.alloc())?;
     builder.paint(White, 9);
