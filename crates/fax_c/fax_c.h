@@ -44,7 +44,7 @@ enum {
     FAX_NO_RTC = 3,
     /* a page of no rows */
     FAX_EMPTY = 4,
-    /* more than 20,000 rows */
+    /* more than 65,535 rows */
     FAX_TOO_MANY_ROWS = 5,
     FAX_NO_MEMORY = 6,
     /* the slice has less room than `wanted` says: with so much the call ends with FAX_DONE, memory aside */
@@ -58,7 +58,7 @@ enum {
 };
 
 /* a page has no more rows */
-#define FAX_MOST_ROWS 20000
+#define FAX_MOST_ROWS 65535
 #define FAX_MOST_LEAST_BITS 65535
 
 typedef struct {

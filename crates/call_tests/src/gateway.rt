@@ -1,9 +1,11 @@
 //! A whole call on both legs, and what is refused. Memory is refused from outside: `tools/refuse-test-memory` refuses each
 //! allocation in turn, and reads what a test prints.
 mod call;
+mod chain;
 mod driving;
 mod hostile;
 mod list_wire;
+mod lossy;
 
 use call::{Change, Playing};
 use fax_gateway::RingFault;

@@ -6,8 +6,8 @@ mod speed;
 
 use fax_bits::{BitWriter, NoMemory, Octets};
 use fax_pagestore::{
-    Coding, Format, PackedRows, Page, PageFault, PageReader, PageWriter, PlainRows, RowStore,
-    read_page, write_page,
+    Coding, Format, MOST_ROWS, PackedRows, Page, PageFault, PageReader, PageWriter, PlainRows,
+    RowStore, read_page, write_page,
 };
 use fax_runcodes::{Row, RowFault, Width};
 use samples::SAMPLES;
@@ -666,6 +666,52 @@ fn says_why_it_reads_no_page(rt: HostRuntime) -> Result<(), Fail> {
         let octets = octets_of(rt.alloc(), digits, texts)?;
         expect_fault(&rt, rt.alloc(), octets.as_slice(), coding, fault);
     }
+    Ok(())
+}
+
+/// The text of so many white rows, in one-dimensional lines.
+fn white_rows(alloc: Global, count: u32) -> Result<Octets, NoMemory> {
+    let mut writer = BitWriter::new(alloc);
+    for _ in 0..count {
+        put_digits(&mut writer, EOL)?;
+        put_digits(&mut writer, WHITE)?;
+    }
+    for _ in 0..6 {
+        put_digits(&mut writer, EOL)?;
+    }
+    Ok(writer.finish())
+}
+
+fn put_digits(writer: &mut BitWriter, text: &str) -> Result<(), NoMemory> {
+    for digit in text.bytes() {
+        writer.put(u32::from(digit == b'1'), 1)?;
+    }
+    Ok(())
+}
+
+#[test]
+fn a_page_has_at_most_65_535_rows(rt: HostRuntime) -> Result<(), Fail> {
+    let format = Format {
+        width: Width::W1728,
+        fine: false,
+    };
+    let octets = white_rows(rt.alloc(), 65_535)?;
+    let most: Page<PackedRows> = read_page(rt.alloc(), octets.as_slice(), format, Coding::Mh)?;
+    assert_eq!(rt; most.rows().len(), MOST_ROWS);
+    let written = write_page(rt.alloc(), &most, Coding::Mh, 0)?;
+    assert!(rt; written.as_slice() == octets.as_slice());
+    let fed = feed_in(rt.alloc(), octets.as_slice(), 4096, format, Coding::Mh)?;
+    assert_eq!(rt; fed.rows().len(), MOST_ROWS);
+    let octets = white_rows(rt.alloc(), 65_536)?;
+    let more: Result<Page<PackedRows>, PageFault> = read_page(
+        rt.alloc(),
+        octets.as_slice(),
+        format,
+        Coding::Mh,
+    );
+    assert_eq!(rt; more.err(), Some(PageFault::TooManyRows));
+    let fed = feed_in(rt.alloc(), octets.as_slice(), 4096, format, Coding::Mh);
+    assert_eq!(rt; fed.err(), Some(PageFault::TooManyRows));
     Ok(())
 }
 

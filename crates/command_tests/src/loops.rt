@@ -1,6 +1,8 @@
 //! Calls and a wire over sockets of the loopback interface.
+ghost use Rattle.std.specs.Prelude.{◌≤◌};
+
 use fax_command::{Output, PageOptions, StdSink, StdSource, run_page};
-use fax_gateway::{Side, Wire, WireFault};
+use fax_gateway::{Settings, Side, Wire, WireFault};
 use fax_loop::{UdpWire, run_loop};
 use fax_pagestore::{Coding, Format};
 use fax_runcodes::Width;
@@ -10,12 +12,14 @@ use std::net::{IpAddr, Ipv4Addr, Net, SocketAddr, UdpSocket};
 use std::process::Abort;
 use std::test::Fail;
 
-/// What a run answers to an input: its exit status and its text.
-fn run_over<R: Net>(net: &R, alloc: Global, input: &[u8]) -> (u8, Vec<u8>) {
+/// What a run of this redundancy answers to an input: its exit status and its text.
+fn run_over<R: Net>(net: &R, alloc: Global, input: &[u8], redundancy: u8) -> (u8, Vec<u8>)
+    requires { redundancy ≤ 8 }
+{
     let mut text = Vec::new(alloc);
     let mut source = StdSource::new(input);
     let mut sink = StdSink::new(&mut text);
-    let status = run_loop(net, alloc, &mut source, &mut sink);
+    let status = run_loop(net, alloc, &mut source, &mut sink, Settings { redundancy });
     (status, text)
 }
 
@@ -31,9 +35,12 @@ fn texts_are_answered(rt: HostRuntime) {
         ("0014d9a8", 1, "fault 3 NoRtc\n"),
         ("", 1, "fault 1 NoEol\n"),
     ] {
-        let (found, text) = run_over(&rt, rt.alloc(), input.as_bytes());
-        assert_eq!(rt; found, status, "at {input:?}");
-        assert_eq!(rt; text.as_slice(), wanted.as_bytes(), "at {input:?}");
+        for redundancy in [0, 3, 8] {
+            assert!(rt; redundancy <= 8);
+            let (found, text) = run_over(&rt, rt.alloc(), input.as_bytes(), redundancy);
+            assert_eq!(rt; found, status, "at {input:?}");
+            assert_eq!(rt; text.as_slice(), wanted.as_bytes(), "at {input:?}");
+        }
     }
 }
 
@@ -76,7 +83,7 @@ fn a_page_of_text(rt: HostRuntime) -> Result<(), Fail> {
     let mut source = StdSource::new(lines.as_slice());
     let mut sink = StdSink::new(&mut page);
     assert_eq!(rt; run_page(rt.alloc(), &mut source, &mut sink, options), 0);
-    let (status, text) = run_over(&rt, rt.alloc(), page.as_slice());
+    let (status, text) = run_over(&rt, rt.alloc(), page.as_slice(), 3);
     assert_eq!(rt; status, 0);
     match text
         .as_slice()

@@ -240,10 +240,10 @@ fn octets_meet_faults(rt: HostRuntime) {
 
 #[test]
 fn rows_are_counted(rt: HostRuntime) -> Result<(), Fail> {
-    let most = white_page(rt.alloc(), 20_000)?;
-    let text = repeated(rt.alloc(), b"1728\n", 20_000)?;
+    let most = white_page(rt.alloc(), 65_535)?;
+    let text = repeated(rt.alloc(), b"1728\n", 65_535)?;
     expect_run(&rt, READ, most.as_slice(), 0, text.as_slice());
-    let more = white_page(rt.alloc(), 20_001)?;
+    let more = white_page(rt.alloc(), 65_536)?;
     expect_run(&rt, READ, more.as_slice(), 1, b"fault 5 TooManyRows\n");
     Ok(())
 }
@@ -257,8 +257,8 @@ fn rows_give_pages(rt: HostRuntime) -> Result<(), Fail> {
     ] {
         expect_run(&rt, BACK, input.as_bytes(), 0, text.as_bytes());
     }
-    let rows = repeated(rt.alloc(), b"1728\n", 20_000)?;
-    let mut page = white_page(rt.alloc(), 20_000)?;
+    let rows = repeated(rt.alloc(), b"1728\n", 65_535)?;
+    let mut page = white_page(rt.alloc(), 65_535)?;
     page.push(b'\n')?;
     expect_run(&rt, BACK, rows.as_slice(), 0, page.as_slice());
     Ok(())
@@ -275,7 +275,7 @@ fn lines_have_faults(rt: HostRuntime) -> Result<(), Fail> {
     expect_run(&rt, BACK, b"", 1, b"fault 4 Empty\n");
     expect_run(&rt, BACK, b"1728\n1729\nx\n", 1, b"fault row 1\n");
     expect_run(&rt, BACK, b"1728\n\n", 1, b"fault row 1\n");
-    let mut rows = repeated(rt.alloc(), b"1728\n", 20_000)?;
+    let mut rows = repeated(rt.alloc(), b"1728\n", 65_535)?;
     rows.extend_from_slice(b"x")?;
     expect_run(&rt, BACK, rows.as_slice(), 1, b"fault 5 TooManyRows\n");
     Ok(())

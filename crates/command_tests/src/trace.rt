@@ -1,7 +1,10 @@
 //! Scripts over streams in memory: whole calls, and what is wrong with a script.
+ghost use Rattle.std.specs.Prelude.{◌≤◌};
+
 mod formats;
 
 use fax_command::{StdSink, StdSource};
+use fax_gateway::Settings;
 use fax_trace::run_trace;
 use std::alloc::{AllocError, Global};
 use std::process::Abort;
@@ -330,6 +333,29 @@ const TWO_PAGES: &[&str] = &[
     "job 0 1728 standard 2 2 Delivered",
 ];
 
+/// A datagram has none of the packets before its own, or as many of up to eight as there were.
+#[test]
+fn datagrams_repeat_as_many_packets_as_is_set(rt: HostRuntime) -> Result<(), Fail> {
+    let script = script_of(rt.alloc(), &[STANDARD, TRAINS])?;
+    for (redundancy, wanted) in [
+        (0, "a 000101060000"),
+        (
+            8,
+            "a 000409c002800002ffc82140000401060cc002800005ffc80100775e4001060104",
+        ),
+    ] {
+        assert!(rt; redundancy <= 8);
+        let (status, text) = run_with(rt.alloc(), script.as_slice(), redundancy);
+        assert_eq!(rt; status, 0);
+        let mut lines = text.as_slice().split(|octet| *octet == b'\n');
+        assert!(rt;
+            lines.any(|line| line == wanted.as_bytes()),
+            "at {redundancy}"
+        );
+    }
+    Ok(())
+}
+
 /// A caller whose call nobody answers is asked again after 3 seconds, and given up after 35.
 #[test]
 fn nobody_answers(rt: HostRuntime) -> Result<(), Fail> {
@@ -420,12 +446,19 @@ fn lines_that_tell_no_event(rt: HostRuntime) {
     }
 }
 
-/// The exit status and the text of a run over a script.
+/// The exit status and the text of a run over a script, of the redundancy that is usual.
 fn run_over(alloc: Global, script: &[u8]) -> (u8, Vec<u8>) {
+    run_with(alloc, script, 3)
+}
+
+/// The same of this redundancy.
+fn run_with(alloc: Global, script: &[u8], redundancy: u8) -> (u8, Vec<u8>)
+    requires { redundancy ≤ 8 }
+{
     let mut text = Vec::new(alloc);
     let mut source = StdSource::new(script);
     let mut sink = StdSink::new(&mut text);
-    let status = run_trace(alloc, &mut source, &mut sink);
+    let status = run_trace(alloc, &mut source, &mut sink, Settings { redundancy });
     (status, text)
 }
 

@@ -1,85 +1,130 @@
 -- What a frame is answered by is what the table decides.
-use Rattle.std.proofs.Common.{◌≡◌, ℕ, Bool, true, false, List, Option, Some, None, Result, Ok, Err, sym, ◌∙◌, ap, subst, if◌then◌else◌}
-use Rattle.std.specs.Result.{IfOk}
+use Rattle.std.proofs.Common.{◌≡◌, ℕ, Bool, true, false, List, ◌∷◌, Option, Some, None, refl, sym, ◌∙◌, ap, subst, if◌then◌else◌}
+use Rattle.std.specs.Option.{is_some}
 use Rattle.fax_frames.specs.declared.dcs.Dcs.{Dcs}
+use Rattle.fax_frames.specs.Capabilities.{format_of, coding_of}
 use Rattle.fax_runcodes.specs.Widths.{elements_of}
-use Rattle.fax_runcodes.specs.declared.format.Format.{Format}
-use Rattle.fax_runcodes.specs.declared.format.Coding.{Coding}
 use Rattle.fax_pagestore.specs.declared.fault.PageFault.{PageFault}
 use Rattle.fax_pagestore.specs.PageTexts.{MeansPage}
 use Rattle.fax_pagestore.specs.PageFaults.{FailsPage}
 use Rattle.fax_pagestore.specs.Pages.{PageValue}
+use Rattle.fax_pagestore.specs.Readers.{ReaderValue}
 use Rattle.fax_ifp.specs.Pieces.{Frame}
 use Rattle.fax_answer.specs.declared.command.Command.{Command}
+use Rattle.fax_answer.specs.declared.command.Order.{Order}
+use Rattle.fax_answer.specs.declared.command.Order.TheVariants.{Judge}
 use Rattle.fax_answer.specs.declared.decision.Decision as code
+use Rattle.fax_answer.specs.declared.decision.Decision.TheVariants as verdicts
+use Rattle.fax_answer.specs.declared.image.Accepted.{Accepted}
+use Rattle.fax_answer.specs.declared.procedure.Procedure.{Procedure}
+use Rattle.fax_answer.specs.declared.state.State.{State}
+use Rattle.fax_answer.specs.declared.state.State.TheVariants.{Page}
 use Rattle.fax_answer.specs.Orders.{order_of}
-use Rattle.fax_answer.specs.History.{Entry, Decision, PassesOver, GivesMcf, GivesRtn, since_answer, last_image}
-use Rattle.fax_answer.specs.Table.{Reading, is_one_image, is_repeat, judged, on_command, on_order, order_asks, decision}
+use Rattle.fax_answer.specs.History.{Entry, Decision, PassesOver, Trains, HangsUp, GivesCfr, GivesFtt, GivesMcf, GivesRtn, is_answer, since_answer, last_image}
+use Rattle.fax_answer.specs.Table.{Reading, is_one_image, is_repeat, judged, on_command, on_order, order_asks, decision, state_after}
 use Rattle.fax_answer.specs.Replies.{ConfirmedPage, is_last, is_waiting}
 use Rattle.fax_answer.specs.Calls.{Answering, decided}
 use Rattle.fax_answer.specs.Confirmation.{IfAsked, IsRight}
 use Rattle.fax_answer.specs.Kept.{verdict_of}
+use Rattle.fax_answer.specs.Images.{ImageValue, Confirms, MeansAt}
 use Rattle.fax_answer.specs.Following.{Follows, CanDecide, confirmed_behind}
 use Rattle.fax_answer.specs.Reached.{Kept, Holds, Stands, Takes, Answers, AnswersCommand, AnswersImage}
-use Rattle.fax_answer.proofs.HearingLemmas.{can_decide, holds_frame, taken}
-
-pub if_ok : {A E : Type 0} → (r : Result A E) (P Q : A → Type 0) → ((x : A) → P x → Q x) → IfOk r P → IfOk r Q
-if_ok (Ok x) P Q f h = f x h
-if_ok (Err e) P Q f h = h
+use Rattle.fax_answer.proofs.Held.{IsNoCfr, holds_frame, frame_no_cfr, confirms_none}
+use Rattle.fax_answer.proofs.HearingLemmas.{Heard, can_decide, taken, confirms_now, follows_now}
 
 -- one image: it is read
 abbrev chosen : Bool → Bool → Command → Reading → Decision
 chosen b c command read = if b then judged command read else if c then GivesMcf command None else GivesRtn
 
-pub by_image : (dcs : Dcs) (command : Command) (history : List Entry) (octets : List ℕ) (verdict : code.Decision) (confirmed : Option ConfirmedPage) → is_one_image (since_answer history) ≡ true → octets ≡ last_image history
-    → AnswersImage octets dcs command verdict confirmed → AnswersCommand dcs command history verdict confirmed
-by_image dcs command history octets verdict confirmed one same a =
+pub by_image : (dcs : Dcs) (command : Command) (history : List Entry) (octets : List ℕ) (readers : List ReaderValue) (verdict : code.Decision) (found : Option Accepted) → is_one_image (since_answer history) ≡ true → octets ≡ last_image history
+    → AnswersImage octets dcs command readers verdict found → AnswersCommand dcs command history readers verdict found
+by_image dcs command history octets readers verdict found one same a =
     let d : on_command a.read history command ≡ judged command a.read = ap (λ (b : Bool). chosen b (is_repeat history command) command a.read) one in
     record {
       read = a.read;
       right = subst (λ (b : Bool). IfAsked (if b then Some (record { octets = last_image history; dcs = dcs }) else None) a.read) (sym one)
           (subst (λ (os : List ℕ). IsRight (record { octets = os; dcs = dcs }) a.read) same a.right);
       verdict_is = ap verdict_of d ∙ a.verdict_is;
-      page_is = a.page_is ∙ sym (ap (λ (x : Decision). confirmed_behind x None) d);
+      page_is = subst (λ (x : Decision). Confirms found readers None (confirmed_behind x None)) (sym d) a.page_is;
     }
 
+-- where a command is answered in Page
+pub in_page : (s : State) (dcs : Dcs) (h : List Entry) (order : Order) (command : Command) (readers : List ReaderValue) (verdict : code.Decision) (found : Option Accepted) → s ≡ Page dcs → order ≡ Judge command
+    → AnswersCommand dcs command h readers verdict found
+    → (read : Reading) × IfAsked (order_asks s h order) read × (verdict_of (on_order read s h order) ≡ verdict) × Confirms found readers None (confirmed_behind (on_order read s h order) None)
+in_page s dcs h order command readers verdict found e o a = (
+  a.read,
+  subst (λ (x : State). IfAsked (order_asks x h order) a.read) (sym e) (subst (λ (x : Order). IfAsked (order_asks (Page dcs) h x) a.read) (sym o) a.right),
+  ap (λ (x : State). verdict_of (on_order a.read x h order)) e ∙ ap (λ (x : Order). verdict_of (on_order a.read (Page dcs) h x)) o ∙ a.verdict_is,
+  subst (λ (x : State). Confirms found readers None (confirmed_behind (on_order a.read x h order) None)) (sym e)
+      (subst (λ (x : Order). Confirms found readers None (confirmed_behind (on_order a.read (Page dcs) h x) None)) (sym o) a.page_is),
+)
+
 -- a frame that is passed over, since packets wait
-pub frame_waits : (core : Answering) (octets : List ℕ) (now : ℕ) (new : Kept) → is_waiting core.waiting ≡ true
-    → Follows (decided core (Frame octets) PassesOver now) new.confirmed new.procedure → Holds core.history new.image → Takes (Frame octets) now core new
-frame_waits core octets now new w f h =
-    let e : decision None core.state (is_waiting core.waiting) core.history (Frame octets) ≡ PassesOver =
-    ap (λ (b : Bool). if b then PassesOver else on_order None core.state core.history (order_of octets)) w in
-    taken core (Frame octets) now None new
+pub frame_waits : (core : Answering) (octets : List ℕ) (now : ℕ) (old new : Kept) (procedure : Procedure) (s : Stands core old) → is_waiting core.waiting ≡ true
+    → Follows (decided core (Frame octets) PassesOver now) s.confirmed procedure → Heard old new procedure old.image → Takes (Frame octets) now core new
+frame_waits core octets now old new procedure s w f n =
+    let d : Decision = decision None core.state (is_waiting core.waiting) core.history (Frame octets) in
+    let e : d ≡ PassesOver = ap (λ (b : Bool). if b then PassesOver else on_order None core.state core.history (order_of octets)) w in
+    taken core (Frame octets) now None new s.confirmed
     (subst (λ (b : Bool). IfAsked (if b then None else order_asks core.state core.history (order_of octets)) None) (sym w) tt)
-    (subst (λ (d : Decision). Follows (decided core (Frame octets) d now) new.confirmed new.procedure) (sym e) f)
-    (holds_frame core.history new.image octets (decision None core.state (is_waiting core.waiting) core.history (Frame octets)) h)
+    (confirms_now old.image old new s.confirmed n.confirmed n.image_is s.confirms)
+    (subst (λ (x : Decision). Follows (decided core (Frame octets) x now) s.confirmed new.procedure) (sym e) (follows_now (decided core (Frame octets) PassesOver now) s.confirmed procedure new n.procedure_is f))
+    (holds_frame core.state core.history old.image new.image octets d (frame_no_cfr None core.state (is_waiting core.waiting) core.history octets)
+    (ap (λ (i : ImageValue). i.readers) n.image_is) (λ q. ap (λ (i : ImageValue). i.accepted) n.image_is) (ap (λ (i : ImageValue). i.run) n.image_is) (ap (λ (i : ImageValue). i.longest) n.image_is) s.holds)
 
 -- a frame that is answered
-pub frame_free : (core : Answering) (octets : List ℕ) (now : ℕ) (old new : Kept) (verdict : code.Decision) (found : Option ConfirmedPage) → Stands core old → is_waiting core.waiting ≡ false → old.confirmed ≡ None
-    → Answers octets core verdict found
-    → ((d : Decision) → verdict_of d ≡ verdict → CanDecide core d → Follows (decided core (Frame octets) d now) (confirmed_behind d old.confirmed) new.procedure)
-    → new.confirmed ≡ found → new.image ≡ old.image → Takes (Frame octets) now core new
-frame_free core octets now old new verdict found s w none a noted kept image =
+unanswered_none : (d : Decision) → is_answer d ≡ false → confirmed_behind d None ≡ None
+unanswered_none PassesOver e = refl
+unanswered_none (Trains dcs) e = refl
+unanswered_none HangsUp e = refl
+unanswered_none (GivesCfr dcs) e = refl
+unanswered_none GivesFtt e = refl
+unanswered_none (GivesMcf command page) e = cc
+unanswered_none GivesRtn e = refl
+
+found_or : (found accepted : Option Accepted) → accepted ≡ None → (if is_some found then found else accepted) ≡ found
+found_or None accepted e = e
+found_or (Some a) accepted e = refl
+
+abbrev pub accepted_image : Option Accepted → ImageValue → ImageValue
+accepted_image found i = record { readers = i.readers; accepted = if is_some found then found else i.accepted; run = i.run; longest = i.longest }
+
+pub frame_free : (core : Answering) (octets : List ℕ) (now : ℕ) (old new : Kept) (procedure : Procedure) (verdict : code.Decision) (found : Option Accepted) (s : Stands core old) → is_waiting core.waiting ≡ false → s.confirmed ≡ None
+    → Answers octets core old.image.readers verdict found
+    → ((d : Decision) → verdict_of d ≡ verdict → CanDecide core d → Follows (decided core (Frame octets) d now) (confirmed_behind d s.confirmed) procedure)
+    → Heard old new procedure (accepted_image found old.image) → Takes (Frame octets) now core new
+frame_free core octets now old new procedure verdict found s w none a noted n =
     let read : Reading = a.read in
     let d : Decision = on_order read core.state core.history (order_of octets) in
-    let e : decision read core.state (is_waiting core.waiting) core.history (Frame octets) ≡ d =
-    ap (λ (b : Bool). if b then PassesOver else on_order read core.state core.history (order_of octets)) w in
+    let decides : Decision = decision read core.state (is_waiting core.waiting) core.history (Frame octets) in
+    let e : decides ≡ d = ap (λ (b : Bool). if b then PassesOver else on_order read core.state core.history (order_of octets)) w in
     let can : CanDecide core d = subst (CanDecide core) e (can_decide read core (Frame octets) s.follows.rests) in
-    let f : Follows (decided core (Frame octets) d now) (confirmed_behind d old.confirmed) new.procedure = noted d a.verdict_is can in
-    let page : confirmed_behind d old.confirmed ≡ new.confirmed = ap (confirmed_behind d) none ∙ sym a.page_is ∙ sym kept in
-    taken core (Frame octets) now read new
+    let c : Option ConfirmedPage = confirmed_behind d None in
+    let f : Follows (decided core (Frame octets) d now) c procedure =
+    subst (λ (x : Option ConfirmedPage). Follows (decided core (Frame octets) d now) (confirmed_behind d x) procedure) none (noted d a.verdict_is can) in
+    let free = confirms_none old.image.accepted old.image.readers old.confirmed (subst (Confirms old.image.accepted old.image.readers old.confirmed) none s.confirms) in
+    let is : (accepted_image found old.image).accepted ≡ found = found_or found old.image.accepted free.0 in
+    let k : Confirms (accepted_image found old.image).accepted old.image.readers old.confirmed c =
+    subst (λ (x : Option Accepted). Confirms x old.image.readers old.confirmed c) (sym is) (subst (λ (x : Option ConfirmedPage). Confirms found old.image.readers x c) (sym free.1) a.page_is) in
+    let quiet : is_answer d ≡ false → found ≡ None = λ q. (confirms_none found old.image.readers None (subst (Confirms found old.image.readers None) (unanswered_none d q) a.page_is)).0 in
+    let held : Holds (state_after core.state d) (record { piece = Frame octets; decision = d } ∷ core.history) new.image =
+    holds_frame core.state core.history old.image new.image octets d (subst IsNoCfr e (frame_no_cfr read core.state (is_waiting core.waiting) core.history octets))
+    (ap (λ (i : ImageValue). i.readers) n.image_is) (λ q. ap (λ (i : ImageValue). i.accepted) n.image_is ∙ is ∙ quiet q ∙ sym free.0) (ap (λ (i : ImageValue). i.run) n.image_is) (ap (λ (i : ImageValue). i.longest) n.image_is) s.holds in
+    taken core (Frame octets) now read new c
     (subst (λ (b : Bool). IfAsked (if b then None else order_asks core.state core.history (order_of octets)) read) (sym w) a.right)
-    (subst (λ (x : Decision). Follows (decided core (Frame octets) x now) new.confirmed new.procedure) (sym e) (subst (λ (c : Option ConfirmedPage). Follows (decided core (Frame octets) d now) c new.procedure) page f))
-    (holds_frame core.history new.image octets (decision read core.state (is_waiting core.waiting) core.history (Frame octets)) (subst (λ (i : Rattle.fax_answer.specs.Images.ImageValue). Holds core.history i) (sym image) s.holds))
+    (confirms_now (accepted_image found old.image) old new c n.confirmed n.image_is k)
+    (subst (λ (x : Decision). Follows (decided core (Frame octets) x now) c new.procedure) (sym e) (follows_now (decided core (Frame octets) d now) c procedure new n.procedure_is f))
+    (subst (λ (x : Decision). Holds (state_after core.state x) (record { piece = Frame octets; decision = x } ∷ core.history) new.image) (sym e) held)
 
-pub last_command : (command : Command) (page : PageValue) (b : Bool) → b ≡ is_last command
-    → Some (record { page = page; closes = b }) ≡ confirmed_behind (judged command (Some page)) None
-last_command command page b e = ap (λ (c : Bool). let p : ConfirmedPage = record { page = page; closes = c } in Some p) e
+-- the image that is read
+pub accepts : (readers : List ReaderValue) (dcs : Dcs) (octets : List ℕ) (command : Command) (place : ℕ) (closes : Bool) → closes ≡ is_last command
+    → ((page : PageValue) × MeansAt readers place page × MeansPage (format_of dcs) (coding_of dcs) octets page)
+    → AnswersImage octets dcs command readers (verdicts.Mcf command) (Some (record { place = place; closes = closes }))
+accepts readers dcs octets command place closes e m =
+    record { read = Some m.0; right = m.2; verdict_is = refl; page_is = (m.0, m.1, ap (λ (b : Bool). let p : ConfirmedPage = record { page = m.0; closes = b } in Some p) (sym e)) }
 
-pub page_means : (f h : Format) (x y : Coding) (os us : List ℕ) (page : PageValue) → f ≡ h → x ≡ y → os ≡ us → MeansPage f x os page → MeansPage h y us page
-page_means f h x y os us page a b e m =
-    subst (λ (k : Format). MeansPage k y us page) a (subst (λ (k : Coding). MeansPage f k us page) b (subst (λ (k : List ℕ). MeansPage f x k page) e m))
-
-pub page_fails : (f h : Format) (x y : Coding) (os us : List ℕ) (fault : PageFault) → f ≡ h → x ≡ y → os ≡ us → FailsPage (elements_of f.width) x os fault → FailsPage (elements_of h.width) y us fault
-page_fails f h x y os us fault a b e m =
-    subst (λ (k : Format). FailsPage (elements_of k.width) y us fault) a (subst (λ (k : Coding). FailsPage (elements_of f.width) k us fault) b (subst (λ (k : List ℕ). FailsPage (elements_of f.width) x k fault) e m))
+pub refuses : (readers : List ReaderValue) (dcs : Dcs) (octets : List ℕ) (command : Command)
+    → ((fault : PageFault) × FailsPage (elements_of (format_of dcs).width) (coding_of dcs) octets fault)
+    → AnswersImage octets dcs command readers verdicts.Rtn None
+refuses readers dcs octets command m = record { read = None; right = m; verdict_is = refl; page_is = refl }

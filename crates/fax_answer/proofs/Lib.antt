@@ -4,7 +4,10 @@ pub mod EachMcf
 mod Examples
 mod FollowingLemmas
 mod HearingLemmas
+mod Held
 mod ImageLemmas
+mod Places
+mod InPage
 mod Judging
 mod Neat
 mod PacketLemmas

@@ -1,7 +1,13 @@
 -- What an answering side keeps stands for the core of its call.
 use Rattle.std.proofs.Common.{◌≡◌, ℕ, Bool, true, false, ◌&&◌, List, [], ◌∷◌, Option, Some, None, IsSome, refl, sym, ◌∙◌, ap, subst, arith, if◌then◌else◌}
 use Rattle.fax_answer.specs.History.{Entry}
-use Rattle.fax_answer.specs.Images.{ImageValue}
+use Rattle.fax_frames.specs.declared.dcs.Dcs.{Dcs}
+use Rattle.fax_pagestore.specs.Readers.{ReaderValue}
+use Rattle.fax_answer.specs.declared.image.Accepted.{Accepted}
+use Rattle.fax_answer.specs.declared.state.State.{State}
+use Rattle.fax_answer.specs.declared.state.State.TheVariants.{Idle, Identify, Listen, Train, Page, Again, Closing}
+use Rattle.fax_answer.specs.Images.{ImageValue, Confirms}
+use Rattle.fax_timers.specs.Moments.{is_due}
 use Rattle.fax_ifp.specs.Elements.{Slot}
 use Rattle.fax_answer.specs.declared.step.Step.{Step}
 use Rattle.fax_answer.specs.declared.pending.Pending.{Pending}
@@ -9,19 +15,82 @@ use Rattle.fax_answer.specs.declared.pending.Pending.TheVariants.{Nothing, Tone,
 use Rattle.fax_answer.specs.declared.procedure.Procedure.{Procedure}
 use Rattle.fax_timers.specs.Paces.{pace_allows}
 use Rattle.fax_answer.specs.Replies.{ConfirmedPage, Waiting, is_waiting}
-use Rattle.fax_answer.specs.Calls.{Answering, Ticked, ticked, timed, given_first}
+use Rattle.fax_answer.specs.Calls.{Answering, Ticked, ticked, timed, timed_in, given_first, says_goodbye, identifies_again, identifies_anew, state_when_given}
 use Rattle.fax_answer.specs.Pending.{packet_text}
 use Rattle.fax_answer.specs.Following.{Follows, GivesNext, gives_now, confirmed_left, confirmed_with}
-use Rattle.fax_answer.specs.Reached.{Holds, Kept, IsReached}
+use Rattle.fax_answer.specs.Reached.{Holds, Kept, Stands, IsReached}
 use Rattle.fax_answer.specs.Shown.{IsStep, packet_in, confirmed_in, confirmed_shown}
+use Rattle.fax_answer.proofs.Held.{holds_none, holds_on}
 use Rattle.fax_answer.proofs.FollowingLemmas.{ticked_rests, ticked_gives, timed_history, given_history}
 
-pub holds_new : Holds [] (record { octets = []; begin = 0; end = 0; run = 0; longest = 0 })
-holds_new = record { within = omega arith; openly = refl; run = refl; longest = refl; last = λ h. cc }
+-- AT REST
+pub settled_confirms : (accepted : Option Accepted) (readers : List ReaderValue) (k : Option ConfirmedPage) → accepted ≡ None → Confirms accepted readers k k
+settled_confirms accepted readers k e = subst (λ (a : Option Accepted). Confirms a readers k k) (sym e) refl
 
--- a core whose history is the same
-pub holds_same : (h k : List Entry) (i : ImageValue) → k ≡ h → Holds h i → Holds k i
-holds_same h k i e s = subst (λ (x : List Entry). Holds x i) (sym e) s
+confirmed_settled : (accepted : Option Accepted) (readers : List ReaderValue) (k c : Option ConfirmedPage) → accepted ≡ None → Confirms accepted readers k c → c ≡ k
+confirmed_settled None readers k c e f = f
+confirmed_settled (Some a) readers k c e f = cc
+
+pub settled_follows : (heard : List Slot) (core : Answering) (kept : Kept) → IsReached heard core kept → Follows core kept.confirmed kept.procedure
+settled_follows heard core kept r =
+    subst (λ (c : Option ConfirmedPage). Follows core c kept.procedure) (confirmed_settled kept.image.accepted kept.image.readers kept.confirmed r.stands.confirmed r.settled r.stands.confirms) r.stands.follows
+
+abbrev pub no_image : ImageValue
+no_image = record { readers = []; accepted = None; run = 0; longest = 0 }
+
+pub stands_new : (core : Answering) (kept : Kept) → ((dcs : Dcs) → core.state ≡ Page dcs → ⊥) → core.history ≡ [] → kept.image ≡ no_image → Follows core kept.confirmed kept.procedure → Stands core kept
+stands_new core kept n h i f = record {
+  confirmed = kept.confirmed;
+  confirms = subst (λ (x : ImageValue). Confirms x.accepted x.readers kept.confirmed kept.confirmed) (sym i) refl;
+  follows = f;
+  holds = subst (λ (x : ImageValue). Holds core.state core.history x) (sym i) (subst (λ (x : List Entry). Holds core.state x no_image) (sym h) (holds_none core.state n));
+}
+
+-- the timers enter no Page
+by_if : (b : Bool) (x y : Answering) (dcs : Dcs) (P : Type 0) → (x.state ≡ Page dcs → P) → (y.state ≡ Page dcs → P) → (if b then x else y).state ≡ Page dcs → P
+by_if true x y dcs P f g e = f e
+by_if false x y dcs P f g e = g e
+
+closed : (a : Answering) (dcs : Dcs) → (says_goodbye a).state ≡ Page dcs → a.state ≡ Page dcs
+closed a dcs e = cc
+
+anew : (a : Answering) (now : ℕ) (dcs : Dcs) → (identifies_anew a now).state ≡ Page dcs → a.state ≡ Page dcs
+anew a now dcs e = cc
+
+timed_in_page : (s : State) (a : Answering) (now : ℕ) (dcs : Dcs) → (timed_in s a now).state ≡ Page dcs → a.state ≡ Page dcs
+timed_in_page Idle a now dcs e = e
+timed_in_page Closing a now dcs e = e
+timed_in_page Identify a now dcs e =
+    by_if (is_due a.timers.t1 now) (says_goodbye a) (if is_due a.timers.t4 now then identifies_again a else a) dcs (a.state ≡ Page dcs) (closed a dcs)
+    (by_if (is_due a.timers.t4 now) (identifies_again a) a dcs (a.state ≡ Page dcs) (λ h. h) (λ h. h)) e
+timed_in_page Again a now dcs e = by_if (is_due a.timers.t2 now) (identifies_anew a now) a dcs (a.state ≡ Page dcs) (anew a now dcs) (λ h. h) e
+timed_in_page Listen a now dcs e = by_if (is_due a.timers.t2 now) (says_goodbye a) a dcs (a.state ≡ Page dcs) (closed a dcs) (λ h. h) e
+timed_in_page (Train t) a now dcs e = by_if (is_due a.timers.t2 now) (says_goodbye a) a dcs (a.state ≡ Page dcs) (closed a dcs) (λ h. h) e
+timed_in_page (Page t) a now dcs e = by_if (is_due a.timers.t2 now) (says_goodbye a) a dcs (a.state ≡ Page dcs) (closed a dcs) (λ h. h) e
+
+timed_page : (a : Answering) (now : ℕ) (dcs : Dcs) → (timed a now).state ≡ Page dcs → a.state ≡ Page dcs
+timed_page a now dcs e = by_if (is_waiting a.waiting) a (timed_in a.state a now) dcs (a.state ≡ Page dcs) (λ h. h) (timed_in_page a.state a now dcs) e
+
+state_given : (s : State) (dcs : Dcs) → state_when_given s ≡ Page dcs → s ≡ Page dcs
+state_given Idle dcs e = e
+state_given Identify dcs e = e
+state_given Listen dcs e = e
+state_given (Train t) dcs e = e
+state_given (Page t) dcs e = e
+state_given Again dcs e = e
+state_given Closing dcs e = cc
+
+given_page : (a : Answering) (now : ℕ) (ws : List Waiting) (dcs : Dcs) → (given_first a now ws).core.state ≡ Page dcs → a.state ≡ Page dcs
+given_page a now [] dcs e = e
+given_page a now (w ∷ []) dcs e = state_given a.state dcs e
+given_page a now (w ∷ v ∷ ws) dcs e = e
+
+pub ticked_page : (a : Answering) (now : ℕ) (dcs : Dcs) → (ticked a now).core.state ≡ Page dcs → a.state ≡ Page dcs
+ticked_page a now dcs e = timed_page a now dcs (by (pace_allows (timed a now).last now) (timed a now) e)
+  where
+    by : (b : Bool) (x : Answering) → (if◌then◌else◌ {A = Ticked} b (given_first x now x.waiting) (record { core = x; given = None; ended = false })).core.state ≡ Page dcs → x.state ≡ Page dcs
+    by true x e = given_page x now x.waiting dcs e
+    by false x e = e
 
 -- A TICK that gives nothing
 pub reached_rests : (heard : List Slot) (core : Answering) (now : ℕ) (old : Kept) (procedure : Procedure) → IsReached heard core old → Follows (timed core now) old.confirmed procedure
@@ -31,7 +100,13 @@ reached_rests heard core now old procedure r f none =
     let new : Kept = record { tracked = old.tracked; procedure = procedure; image = old.image; confirmed = old.confirmed; spare = old.spare } in
     let there : IsReached heard (timed core now) new = record {
       tracked = r.tracked;
-      stands = record { follows = f; holds = holds_same core.history (timed core now).history old.image (timed_history core now) r.stands.holds };
+      stands = record {
+        confirmed = old.confirmed;
+        confirms = settled_confirms old.image.accepted old.image.readers old.confirmed r.settled;
+        follows = f;
+        holds = holds_on core.state (timed core now).state core.history (timed core now).history old.image (timed_page core now) (timed_history core now) r.stands.holds;
+      };
+      settled = r.settled;
     } in
     subst (λ (t : Ticked). IsReached heard t.core new) (sym (ticked_rests core now none)) there
 
@@ -50,7 +125,13 @@ reached_gives heard core now old acted procedure ended spare r n gives =
     let same = given_history a now a.waiting ∙ timed_history core now in
     let there : IsReached heard (given_first a now a.waiting).core new = record {
       tracked = r.tracked;
-      stands = record { follows = n.follows; holds = holds_same core.history (given_first a now a.waiting).core.history old.image same r.stands.holds };
+      stands = record {
+        confirmed = confirmed_left procedure.pending old.confirmed;
+        confirms = settled_confirms old.image.accepted old.image.readers (confirmed_left procedure.pending old.confirmed) r.settled;
+        follows = n.follows;
+        holds = holds_on core.state (given_first a now a.waiting).core.state core.history (given_first a now a.waiting).core.history old.image (λ dcs e. timed_page core now dcs (given_page a now a.waiting dcs e)) same r.stands.holds;
+      };
+      settled = r.settled;
     } in
     subst (λ (t : Ticked). IsReached heard t.core new) (sym (ticked_gives core now gives)) there
 

@@ -1,8 +1,11 @@
 -- The slots that come, one after another.
-use Rattle.std.proofs.Common.{◌≡◌, ℕ, zero, suc, ◌+◌, ◌-◌, ◌<◌, ◌≤◌, ◌&&◌, not, Bool, true, false, List, [], ◌∷◌, ◌++◌, length, take, drop, reverse, replicate, map, Option, Some, None, Result, Ok, Err, get_or, refl, sym, ◌∙◌, ap, subst, arith, append_assoc, if◌then◌else◌}
-use Rattle.std.proofs.Math.Seq.{drop-drop}
-use Rattle.std.proofs.lemmas.List.{append-nil, reverse-append, take-append-drop, take-append-le, length-take, drop-take, length-drop, map-append, take_more}
+use Rattle.std.proofs.Common.{◌≡◌, ℕ, zero, suc, ◌+◌, ◌<◌, ◌&&◌, not, Bool, true, false, List, [], ◌∷◌, ◌++◌, length, take, reverse, replicate, map, Option, Some, None, Result, Ok, Err, get_or, refl, sym, ◌∙◌, ap, subst, arith, append_assoc, if◌then◌else◌}
+use Rattle.std.proofs.lemmas.List.{append-nil, reverse-append, length-append, map-append, take_more}
 use Rattle.std.specs.Borrow.{Bor}
+use Rattle.std.specs.Option.{is_some}
+use Rattle.fax_frames.specs.declared.dcs.Dcs.{Dcs}
+use Rattle.fax_pagestore.specs.Pages.{PageValue}
+use Rattle.fax_pagestore.specs.Readers.{ReaderValue}
 use Rattle.std.specs.Result.{OnOk, is_err}
 use Rattle.fax_ifp.specs.declared.piece.Piece as code_pieces
 use Rattle.fax_ifp.specs.Shown.{piece_of, pieces_shown}
@@ -10,23 +13,25 @@ use Rattle.fax_udptl.specs.Reading.{texts}
 use Rattle.fax_ifp.specs.Elements.{Slot}
 use Rattle.fax_ifp.specs.Pieces.{Piece, Gap, pieces}
 use Rattle.fax_ifp.specs.Tracked.{Tracked, IsTracked, TracksRun, GivesRun, Tracks, Gives, lost_slots}
-use Rattle.fax_answer.specs.declared.pending.Pending.{Pending}
-use Rattle.fax_answer.specs.declared.pending.Pending.TheVariants as pendings
 use Rattle.fax_answer.specs.declared.procedure.Procedure.{Procedure}
 use Rattle.fax_answer.specs.declared.timers.Timers.{Timers}
 use Rattle.fax_timers.specs.Moments.{moment_after}
 use Rattle.fax_timers.specs.Spans as spans
 use Rattle.fax_answer.specs.declared.counts.Counts.{Counts}
 use Rattle.fax_answer.specs.declared.counts.Images.{Images}
-use Rattle.fax_answer.specs.History.{Entry, PassesOver, since_answer, images, last_whole, repeated}
+use Rattle.fax_answer.specs.declared.image.Accepted.{Accepted}
+use Rattle.fax_answer.specs.declared.state.State.{State}
+use Rattle.fax_answer.specs.History.{Entry, PassesOver, since_answer, images, octets_since, last_image, last_whole, repeated}
+use Rattle.fax_answer.specs.Table.{is_one_image}
 use Rattle.fax_answer.specs.Replies.{ConfirmedPage, is_waiting}
 use Rattle.fax_answer.specs.Calls.{Answering, decided, came, timers_after}
 use Rattle.fax_answer.specs.Readings.{CameSo}
 use Rattle.fax_answer.specs.Kept.{seen}
-use Rattle.fax_answer.specs.Images.{ImageValue}
-use Rattle.fax_answer.specs.Following.{Rests, Follows}
-use Rattle.fax_answer.specs.Reached.{Kept, Holds, Stands, IsReached, Takes, TakesAll, Hears, HearsSo}
-use Rattle.fax_answer.proofs.HearingLemmas.{holds_gap}
+use Rattle.fax_answer.specs.Images.{ImageValue, HasOpen, HasEnded, MeansAt, Confirms}
+use Rattle.fax_answer.specs.Following.{Rests, Follows, readers_wanted}
+use Rattle.fax_answer.specs.Reached.{Kept, Holds, HoldsPage, Stands, IsReached, Takes, TakesAll, Hears, HearsSo}
+use Rattle.fax_answer.proofs.Held.{holds_gap}
+use Rattle.fax_answer.proofs.ReachedLemmas.{settled_follows}
 use Rattle.fax_answer.proofs.Readings.{readings_join}
 
 -- PIECES, one after another
@@ -55,9 +60,9 @@ came_gaps : (n : ℕ) (core : Answering) (now : ℕ) → CameSo core (replicate 
 came_gaps zero core now = refl
 came_gaps (suc n) core now = (None, tt, came_gaps n (decided core Gap PassesOver now) now)
 
-holds_gaps : (n : ℕ) (core : Answering) (now : ℕ) (i : ImageValue) → Holds core.history i → Holds (gaps n core now).history i
+holds_gaps : (n : ℕ) (core : Answering) (now : ℕ) (i : ImageValue) → Holds core.state core.history i → Holds (gaps n core now).state (gaps n core now).history i
 holds_gaps zero core now i h = h
-holds_gaps (suc n) core now i h = holds_gaps n (decided core Gap PassesOver now) now i (holds_gap core.history i PassesOver h)
+holds_gaps (suc n) core now i h = holds_gaps n (decided core Gap PassesOver now) now i (holds_gap core.state core.history i h)
 
 and_false : (b : Bool) → (b && false) ≡ false
 and_false true = refl
@@ -99,36 +104,30 @@ reversed_lost zero = refl
 reversed_lost (suc n) = reverse-append (None ∷ []) (lost_slots n) ∙ ap (λ (s : List Slot). s ++ None ∷ []) (reversed_lost n) ∙ more_lost n
 
 abbrev pub LosesSo : ℕ → ℕ → Answering → Kept → Kept → Type 0
-LosesSo count now core old new = (count ≡ 0 → (new.procedure ≡ old.procedure) × (new.confirmed ≡ old.confirmed)) × (0 < count → Follows (decided core Gap PassesOver now) new.confirmed new.procedure)
+LosesSo count now core old new = (count ≡ 0 → new.procedure ≡ old.procedure) × (0 < count → Follows (decided core Gap PassesOver now) old.confirmed new.procedure)
 
-followed : (count : ℕ) (now : ℕ) (core : Answering) (old new : Kept) → Follows core old.confirmed old.procedure → LosesSo count now core old new → Follows (gaps count core now) new.confirmed new.procedure
-followed zero now core old new f l =
-    subst (λ (c : Option ConfirmedPage). Follows core c new.procedure) (sym (l.0 refl).1) (subst (λ (p : Procedure). Follows core old.confirmed p) (sym (l.0 refl).0) f)
-followed (suc n) now core old new f l = gaps_follow n core now new.confirmed new.procedure (l.1 (omega arith))
+followed : (count : ℕ) (now : ℕ) (core : Answering) (old new : Kept) → Follows core old.confirmed old.procedure → LosesSo count now core old new → Follows (gaps count core now) old.confirmed new.procedure
+followed zero now core old new f l = subst (λ (p : Procedure). Follows core old.confirmed p) (sym (l.0 refl)) f
+followed (suc n) now core old new f l = gaps_follow n core now old.confirmed new.procedure (l.1 (omega arith))
 
 pub loses : (count now : ℕ) (heard : List Slot) (core : Answering) (old new : Kept) → IsReached heard core old → TracksRun (lost_slots count) old.tracked new.tracked → GivesRun (lost_slots count) old.tracked (replicate count Gap)
-    → new.image ≡ old.image → LosesSo count now core old new → HearsSo (lost_slots count) now heard core new
-loses count now heard core old new r tracks gives image l =
+    → new.image ≡ old.image → new.confirmed ≡ old.confirmed → LosesSo count now core old new → HearsSo (lost_slots count) now heard core new
+loses count now heard core old new r tracks gives image confirmed l =
     let back : reverse (lost_slots count) ≡ lost_slots count = reversed_lost count in
     record {
       given = replicate count Gap;
       pieces = ap (λ (s : List Slot). pieces (s ++ heard)) back ∙ gives heard r.tracked;
       behind = gaps count core now;
       came = came_gaps count core now;
-      reached = record {
-        tracked = subst (λ (s : List Slot). IsTracked (s ++ heard) new.tracked) (sym back) (tracks heard r.tracked);
-        stands = record {
-          follows = followed count now core old new r.stands.follows l;
-          holds = subst (λ (i : ImageValue). Holds (gaps count core now).history i) (sym image) (holds_gaps count core now old.image r.stands.holds);
-        };
+      tracked = subst (λ (s : List Slot). IsTracked (s ++ heard) new.tracked) (sym back) (tracks heard r.tracked);
+      stands = record {
+        confirmed = old.confirmed;
+        confirms = subst (λ (i : ImageValue). Confirms i.accepted i.readers new.confirmed old.confirmed) (sym image)
+            (subst (λ (a : Option Accepted). Confirms a old.image.readers new.confirmed old.confirmed) (sym r.settled) (sym confirmed));
+        follows = followed count now core old new (settled_follows heard core old r) l;
+        holds = subst (λ (i : ImageValue). Holds (gaps count core now).state (gaps count core now).history i) (sym image) (holds_gaps count core now old.image r.stands.holds);
       };
     }
-
-pub same_pending : (p q : Pending) → ((p ≡ pendings.Nothing → ⊥) → q ≡ p) → (p ≡ pendings.Nothing → q ≡ pendings.Nothing) → q ≡ p
-same_pending pendings.Nothing q f g = g refl
-same_pending pendings.Tone q f g = f (λ h. cc)
-same_pending (pendings.Preamble reply) q f g = f (λ h. cc)
-same_pending (pendings.Frame reply) q f g = f (λ h. cc)
 
 -- A PACKET in the next slot
 pub hears_more : (slots : List Slot) (packet : List ℕ) (now : ℕ) (heard : List Slot) (core : Answering) (mid new : Kept) (tracked : Tracked) (given : List Piece) → HearsSo slots now heard core mid
@@ -136,49 +135,15 @@ pub hears_more : (slots : List Slot) (packet : List ℕ) (now : ℕ) (heard : Li
     → HearsSo (slots ++ Some packet ∷ []) now heard core new
 hears_more slots packet now heard core mid new tracked given h tracks gives same takes =
     let back : reverse (slots ++ Some packet ∷ []) ++ heard ≡ Some packet ∷ (reverse slots ++ heard) = ap (λ (s : List Slot). s ++ heard) (reverse-append slots (Some packet ∷ [])) in
-    let t : TakesAll given now h.behind new = takes h.behind h.reached.stands in
+    let t : TakesAll given now h.behind new = takes h.behind h.stands in
     record {
       given = h.given ++ given;
-      pieces = ap pieces back ∙ gives (reverse slots ++ heard) h.reached.tracked ∙ ap (λ (ps : List Piece). ps ++ given) h.pieces ∙ append_assoc (pieces heard) h.given given;
+      pieces = ap pieces back ∙ gives (reverse slots ++ heard) h.tracked ∙ ap (λ (ps : List Piece). ps ++ given) h.pieces ∙ append_assoc (pieces heard) h.given given;
       behind = t.behind;
       came = came_append core h.behind t.behind h.given given now h.came t.came;
-      reached = record {
-        tracked = subst (λ (s : List Slot). IsTracked s new.tracked) (sym back) (subst (λ (k : Tracked). IsTracked (Some packet ∷ (reverse slots ++ heard)) k) (sym same) (tracks (reverse slots ++ heard) h.reached.tracked));
-        stands = t.stands;
-      };
+      tracked = subst (λ (s : List Slot). IsTracked s new.tracked) (sym back) (subst (λ (k : Tracked). IsTracked (Some packet ∷ (reverse slots ++ heard)) k) (sym same) (tracks (reverse slots ++ heard) h.tracked));
+      stands = t.stands;
     }
-
--- WHAT STANDS IN FRONT
-pub front_on : (old mid new : List ℕ) → take (length old) mid ≡ old → take (length mid) new ≡ mid → take (length old) new ≡ old
-front_on old mid new a b =
-    let few : length old ≤ length mid = let e : length (take (length old) mid) ≡ length old = ap length a in omega (arith, length-take (length old) mid) in
-    let split : new ≡ mid ++ drop (length mid) new = sym (take-append-drop (length mid) new) ∙ ap (λ (xs : List ℕ). xs ++ drop (length mid) new) b in
-    ap (take (length old)) split ∙ take-append-le (length old) mid (drop (length mid) new) few ∙ a
-
--- what is kept of images, without the octets before the last that ended
-pub holds_settled : (h : List Entry) (i k : ImageValue) → Holds h i → i.begin ≤ i.end → k.octets ≡ drop i.begin i.octets → k.begin ≡ 0 → k.end ≡ i.end - i.begin → k.run ≡ i.run → k.longest ≡ i.longest → Holds h k
-holds_settled h i k s ordered octets begin end run longest =
-    let between : i.begin + (i.end - i.begin) ≡ i.end = omega arith in
-    let openly : drop k.end k.octets ≡ drop i.end i.octets =
-    ap (λ (n : ℕ). drop n k.octets) end ∙ ap (drop (i.end - i.begin)) octets ∙ drop_both i.begin (i.end - i.begin) i.octets ∙ ap (λ (n : ℕ). drop n i.octets) between in
-    let ended : drop k.begin (take k.end k.octets) ≡ drop i.begin (take i.end i.octets) =
-    ap (λ (n : ℕ). drop n (take k.end k.octets)) begin ∙ drop_none (take k.end k.octets) ∙ ap (λ (n : ℕ). take n k.octets) end ∙ ap (take (i.end - i.begin)) octets
-    ∙ sym (drop-take i.begin (i.end - i.begin) i.octets) ∙ ap (λ (n : ℕ). drop i.begin (take n i.octets)) between in
-    record {
-      within =
-          let few : length k.octets ≡ length i.octets - i.begin = ap length octets ∙ length-drop i.begin i.octets in
-          let w : i.end ≤ length i.octets = s.within in omega arith;
-      openly = openly ∙ s.openly;
-      run = run ∙ s.run;
-      longest = longest ∙ s.longest;
-      last = λ one. ended ∙ s.last one;
-    }
-  where
-    drop_none : (xs : List ℕ) → drop 0 xs ≡ xs
-    drop_none xs = refl
-
-    drop_both : (n m : ℕ) (xs : List ℕ) → drop m (drop n xs) ≡ drop (n + m) xs
-    drop_both n m xs = drop-drop m n xs
 
 -- A LIST of what came, with one more
 pub shown_more : (ps : List code_pieces.Piece) (i : ℕ) (p : code_pieces.Piece) → i < length ps → p ≡ get_or ps i p → pieces_shown (take i ps) ++ piece_of p ∷ [] ≡ pieces_shown (take (i + 1) ps)
@@ -195,14 +160,95 @@ if_right (Ok x) P e p = p
 if_right (Err x) P e p = cc
 
 -- slots that were heard piece by piece were heard by one reading
-pub hears_joined : (slots : List Slot) (now : ℕ) (heard : List Slot) (core : Answering) (mid new : Kept) → HearsSo slots now heard core mid → new.tracked ≡ mid.tracked → new.procedure ≡ mid.procedure → new.confirmed ≡ mid.confirmed
-    → ((h : List Entry) → Holds h mid.image → Holds h new.image) → Hears slots now heard core new
-hears_joined slots now heard core mid new h tracked procedure confirmed holds =
+pub hears_joined : (slots : List Slot) (now : ℕ) (heard : List Slot) (core : Answering) (mid new : Kept) → HearsSo slots now heard core mid → new.tracked ≡ mid.tracked
+    → ((a : Answering) → Stands a mid → Stands a new) → new.image.accepted ≡ None → Hears slots now heard core new
+hears_joined slots now heard core mid new h tracked stands settled =
     let j = readings_join core h.given now h.behind h.came in
-    let f : Follows h.behind new.confirmed new.procedure =
-    subst (λ (c : Option ConfirmedPage). Follows h.behind c new.procedure) (sym confirmed) (subst (λ (p : Procedure). Follows h.behind mid.confirmed p) (sym procedure) h.reached.stands.follows) in
     let there : IsReached (reverse slots ++ heard) h.behind new = record {
-      tracked = subst (λ (t : Tracked). IsTracked (reverse slots ++ heard) t) (sym tracked) h.reached.tracked;
-      stands = record { follows = f; holds = holds h.behind.history h.reached.stands.holds };
+      tracked = subst (λ (t : Tracked). IsTracked (reverse slots ++ heard) t) (sym tracked) h.tracked;
+      stands = stands h.behind h.stands;
+      settled = settled;
     } in
     record { given = h.given; pieces = h.pieces; read = j.0; right = j.1; reached = subst (λ (a : Answering). IsReached (reverse slots ++ heard) a new) (sym j.2) there }
+
+-- what is left of readers where the one that is accepted is let go
+abbrev pub Left : Option Accepted → List ReaderValue → List ReaderValue → Type 0
+Left None old new = new ≡ old
+Left (Some a) old new =
+    (u r : ReaderValue) × (later before : List ReaderValue) × (old ≡ u ∷ (later ++ r ∷ before)) × (a.place ≡ length before) × (new ≡ u ∷ (later ++ before))
+
+left_open : (accepted : Option Accepted) (dcs : Dcs) (octets : List ℕ) (old new : List ReaderValue) → Left accepted old new → HasOpen dcs octets old → HasOpen dcs octets new
+left_open None dcs octets old new l h = subst (HasOpen dcs octets) (sym l) h
+left_open (Some a) dcs octets old new l h =
+    let there : HasOpen dcs octets (l.0 ∷ (l.2 ++ l.1 ∷ l.3)) = subst (HasOpen dcs octets) l.4 h in
+    let here : HasOpen dcs octets (l.0 ∷ (l.2 ++ l.3)) = there in
+    subst (HasOpen dcs octets) (sym l.6) here
+
+ended_before : (dcs : Dcs) (octets : List ℕ) (u r : ReaderValue) (later before : List ReaderValue) → 0 < length later → HasEnded dcs octets (u ∷ (later ++ r ∷ before)) → HasEnded dcs octets (u ∷ (later ++ before))
+ended_before dcs octets u r [] before n h = absurd (omega arith)
+ended_before dcs octets u r (l ∷ later) before n h = h
+
+left_ended : (accepted : Option Accepted) (dcs : Dcs) (octets : List ℕ) (old new : List ReaderValue) → Left accepted old new → ((a : Accepted) → accepted ≡ Some a → a.place + 2 < length old) → HasEnded dcs octets old → HasEnded dcs octets new
+left_ended None dcs octets old new l f h = subst (HasEnded dcs octets) (sym l) h
+left_ended (Some a) dcs octets old new l f h =
+    let few : a.place + 2 < length old = f a refl in
+    let long : length old ≡ suc (length l.2 + suc (length l.3)) = ap length l.4 ∙ ap suc (length-append l.2 (l.1 ∷ l.3)) in
+    let is : a.place ≡ length l.3 = l.5 in
+    subst (HasEnded dcs octets) (sym l.6) (ended_before dcs octets l.0 l.1 l.2 l.3 (omega arith) (subst (HasEnded dcs octets) l.4 h))
+
+taken_open : (dcs : Dcs) (octets : List ℕ) (n : ℕ) (xs : List ReaderValue) → HasOpen dcs octets xs → HasOpen dcs octets (take (suc n) xs)
+taken_open dcs octets n [] h = absurd h
+taken_open dcs octets n (x ∷ xs) h = h
+
+taken_ended : (dcs : Dcs) (octets : List ℕ) (xs : List ReaderValue) → HasEnded dcs octets xs → HasEnded dcs octets (take 2 xs)
+taken_ended dcs octets [] h = absurd h
+taken_ended dcs octets (x ∷ []) h = absurd h
+taken_ended dcs octets (x ∷ y ∷ xs) h = h
+
+wanted_open : (dcs : Dcs) (octets : List ℕ) (b : Bool) (xs : List ReaderValue) → HasOpen dcs octets xs → HasOpen dcs octets (take (if b then 2 else 1) xs)
+wanted_open dcs octets true xs h = taken_open dcs octets 1 xs h
+wanted_open dcs octets false xs h = taken_open dcs octets 0 xs h
+
+pub holds_settled : (s : State) (h : List Entry) (i j : ImageValue) (left : List ReaderValue) (count : ℕ) → Left i.accepted i.readers left → count ≡ readers_wanted s (since_answer h) → j.readers ≡ take count left → j.accepted ≡ None → j.run ≡ i.run → j.longest ≡ i.longest
+    → Holds s h i → Holds s h j
+holds_settled s h i j left count l c readers accepted run longest x =
+    record {
+      run = run ∙ x.run;
+      longest = longest ∙ x.longest;
+      page = λ dcs e.
+          let p : HoldsPage dcs h i = x.page dcs e in
+          let n : count ≡ (if is_one_image (since_answer h) then 2 else 1) = c ∙ ap (λ (t : State). readers_wanted t (since_answer h)) e in
+          let are : j.readers ≡ take (if is_one_image (since_answer h) then 2 else 1) left = readers ∙ ap (λ (k : ℕ). take k left) n in
+          record {
+            openly = subst (HasOpen dcs (octets_since h)) (sym are) (wanted_open dcs (octets_since h) (is_one_image (since_answer h)) left (left_open i.accepted dcs (octets_since h) i.readers left l p.openly));
+            last = λ one.
+                let both : j.readers ≡ take 2 left = are ∙ ap (λ (b : Bool). take (if b then 2 else 1) left) one in
+                subst (HasEnded dcs (last_image h)) (sym both)
+                (taken_ended dcs (last_image h) left (left_ended i.accepted dcs (last_image h) i.readers left l (λ a q. p.apart a q one) (p.last one)));
+            apart = λ a q one. let none : None ≡ Some a = sym accepted ∙ q in cc;
+          };
+    }
+
+-- the page that is kept then
+keeps_shown : {S : Type 0} → (new old found : Option S) (view : Option S → Option ConfirmedPage) (p : ConfirmedPage) → view None ≡ None → new ≡ (if is_some found then found else old) → view found ≡ Some p → view new ≡ Some p
+keeps_shown new old None view p z e f = let n : None ≡ Some p = sym z ∙ f in cc
+keeps_shown new old (Some x) view p z e f = ap view e ∙ f
+
+keeps_old : {S : Type 0} → (new old found : Option S) (view : Option S → Option ConfirmedPage) → new ≡ (if is_some found then found else old) → found ≡ None → view new ≡ view old
+keeps_old new old None view e f = ap view e
+keeps_old new old (Some x) view e f = cc
+
+-- the page that is confirmed, and the readers that are left, where the accepted one is finished
+abbrev pub Finishes : {S : Type 0} → Option Accepted → List ReaderValue → Option S → (Option S → Option ConfirmedPage) → List ReaderValue → Type 0
+Finishes accepted readers found view left =
+    (accepted ≡ None → (found ≡ None) × (left ≡ readers))
+    × ((a : Accepted) (page : PageValue) → accepted ≡ Some a → (at : MeansAt readers a.place page)
+    → (view found ≡ Some (record { page = page; closes = a.closes })) × (left ≡ at.under_way ∷ (at.later ++ at.before)))
+
+pub finish_left : {S : Type 0} → (accepted : Option Accepted) (readers left : List ReaderValue) (new old found : Option S) (view : Option S → Option ConfirmedPage) (c : Option ConfirmedPage) → view None ≡ None → new ≡ (if is_some found then found else old)
+    → Confirms accepted readers (view old) c → Finishes accepted readers found view left → (Left accepted readers left) × (c ≡ view new)
+finish_left None readers left new old found view c z e k f = let n = f.0 refl in (n.1, k ∙ sym (keeps_old new old found view e n.0))
+finish_left (Some a) readers left new old found view c z e k f =
+    let at : MeansAt readers a.place k.0 = k.1 in
+    let n = f.1 a k.0 refl at in
+    ((at.under_way, at.reader, at.later, at.before, at.are, at.place_is, n.1), k.2 ∙ sym (keeps_shown new old found view (record { page = k.0; closes = a.closes }) z e n.0))

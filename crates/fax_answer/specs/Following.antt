@@ -1,15 +1,15 @@
 -- What a procedure is in place of the core that it stands for. No law speaks of this module.
-use Rattle.std.specs.Prelude.{◌≡◌, ◌⊎◌, ℕ, Bool, false, ◌&&◌, List, [], ◌++◌, Option, Some, None}
+use Rattle.std.specs.Prelude.{◌≡◌, ◌⊎◌, ℕ, Bool, false, ◌&&◌, List, [], ◌++◌, Option, Some, None, if◌then◌else◌}
 use Rattle.fax_timers.specs.Moments.{is_due}
 use Rattle.fax_timers.specs.Paces.{pace_allows}
 use Rattle.fax_answer.specs.declared.timers.Timers.{Timers}
 use Rattle.fax_answer.specs.declared.state.State.{State}
-use Rattle.fax_answer.specs.declared.state.State.TheVariants.{Idle, Identify, Train, Again, Closing}
+use Rattle.fax_answer.specs.declared.state.State.TheVariants.{Idle, Identify, Listen, Train, Page, Again, Closing}
 use Rattle.fax_answer.specs.declared.pending.Pending.{Pending}
 use Rattle.fax_answer.specs.declared.pending.Pending.TheVariants.{Nothing}
 use Rattle.fax_answer.specs.declared.procedure.Procedure.{Procedure}
-use Rattle.fax_answer.specs.History.{Decision, GivesMcf}
-use Rattle.fax_answer.specs.Table.{state_after}
+use Rattle.fax_answer.specs.History.{Entry, Decision, GivesMcf}
+use Rattle.fax_answer.specs.Table.{is_one_image, state_after}
 use Rattle.fax_answer.specs.Replies.{ConfirmedPage, Waiting, confirmed_if, reply_to, is_waiting}
 use Rattle.fax_answer.specs.Calls.{Answering, given_first}
 use Rattle.fax_answer.specs.Kept.{counts_of}
@@ -52,6 +52,16 @@ begins_again state timers now = false
 -- whether a packet is given now: one waits, and the pace lets it through
 abbrev pub gives_now : Answering → ℕ → Bool
 gives_now core now = is_waiting core.waiting && pace_allows core.last now
+
+-- how many readers are wanted on: that of the image under way, and that of the one before
+abbrev pub readers_wanted : State → List Entry → ℕ
+readers_wanted (Page dcs) since = if is_one_image since then 2 else 1
+readers_wanted Idle since = 0
+readers_wanted Identify since = 0
+readers_wanted Listen since = 0
+readers_wanted (Train dcs) since = 0
+readers_wanted Again since = 0
+readers_wanted Closing since = 0
 
 -- what can be decided: no reply while a packet waits
 pub record CanDecide (core : Answering) (d : Decision) : Type 0 where

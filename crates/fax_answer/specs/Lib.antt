@@ -13,3 +13,4 @@ pub mod Reached
 pub mod Shown
 pub mod Readings
 pub mod Sent
+pub mod InPage

@@ -1,13 +1,16 @@
 -- What an answering side keeps that a call has led to.
-use Rattle.std.specs.Prelude.{◌≡◌, ℕ, ◌≤◌, true, List, ◌++◌, reverse, length, Option, None}
+use Rattle.std.specs.Prelude.{◌≡◌, ℕ, ◌+◌, ◌<◌, true, List, ◌++◌, reverse, length, Option, Some, None}
 use Rattle.fax_frames.specs.declared.dcs.Dcs.{Dcs}
+use Rattle.fax_pagestore.specs.Readers.{ReaderValue}
 use Rattle.fax_ifp.specs.Elements.{Slot}
 use Rattle.fax_ifp.specs.Pieces.{Piece, pieces}
 use Rattle.fax_ifp.specs.Tracked.{Tracked, IsTracked}
 use Rattle.fax_answer.specs.declared.command.Command.{Command}
 use Rattle.fax_answer.specs.declared.command.Order.TheVariants.{Judge}
 use Rattle.fax_answer.specs.declared.decision.Decision as code
+use Rattle.fax_answer.specs.declared.image.Accepted.{Accepted}
 use Rattle.fax_answer.specs.declared.procedure.Procedure.{Procedure}
+use Rattle.fax_answer.specs.declared.state.State.{State}
 use Rattle.fax_answer.specs.declared.state.State.TheVariants.{Page}
 use Rattle.fax_answer.specs.Orders.{order_of}
 use Rattle.fax_answer.specs.History.{Entry, since_answer, octets_since, last_image}
@@ -17,11 +20,11 @@ use Rattle.fax_answer.specs.Calls.{Answering, asked, came, first_asked, came_all
 use Rattle.fax_answer.specs.Confirmation.{IfAsked, IsRead, IsRight}
 use Rattle.fax_answer.specs.Readings.{CameSo}
 use Rattle.fax_answer.specs.Kept.{verdict_of}
-use Rattle.fax_answer.specs.Images.{ImageValue, open_octets, ended_octets, run_behind, longest_behind}
+use Rattle.fax_answer.specs.Images.{ImageValue, HasOpen, HasEnded, Confirms, run_behind, longest_behind}
 use Rattle.fax_answer.specs.Following.{Follows, confirmed_behind}
 
--- what is left of the slots for frames and images to come, the procedure, the octets of images, the page that the MCF
--- that waits confirms, and for how many packets memory is reserved
+-- what is left of the slots for frames and images to come, the procedure, the images, the page that the MCF that waits
+-- confirms, and for how many packets memory is reserved
 pub record Kept : Type 0 where
   pub tracked : Tracked
   pub procedure : Procedure
@@ -29,24 +32,32 @@ pub record Kept : Type 0 where
   pub confirmed : Option ConfirmedPage
   pub spare : ℕ
 
--- the octets of images that a history leaves: those of the open image, and those of the last that ended where it may
--- still be asked what it means
-pub record Holds (history : List Entry) (image : ImageValue) : Type 0 where
-  pub within : image.end ≤ length image.octets
-  pub openly : open_octets image ≡ octets_since history
+-- In Page, under this DCS: the image under way is read, and the last that ended where a command may ask what it means. The
+-- one of a page that an MCF confirms stands before them.
+pub record HoldsPage (dcs : Dcs) (history : List Entry) (image : ImageValue) : Type 0 where
+  pub openly : HasOpen dcs (octets_since history) image.readers
+  pub last : is_one_image (since_answer history) ≡ true → HasEnded dcs (last_image history) image.readers
+  pub apart : (accepted : Accepted) → image.accepted ≡ Some accepted → is_one_image (since_answer history) ≡ true
+      → accepted.place + 2 < length image.readers
+
+-- what a history leaves of images
+pub record Holds (state : State) (history : List Entry) (image : ImageValue) : Type 0 where
   pub run : image.run ≡ run_behind 0 (octets_since history)
   pub longest : image.longest ≡ longest_behind 0 0 (octets_since history)
-  pub last : is_one_image (since_answer history) ≡ true → ended_octets image ≡ last_image history
+  pub page : (dcs : Dcs) → state ≡ Page dcs → HoldsPage dcs history image
 
 -- it stands for this core
 pub record Stands (core : Answering) (kept : Kept) : Type 0 where
-  pub follows : Follows core kept.confirmed kept.procedure
-  pub holds : Holds core.history kept.image
+  pub confirmed : Option ConfirmedPage
+  pub confirms : Confirms kept.image.accepted kept.image.readers kept.confirmed confirmed
+  pub follows : Follows core confirmed kept.procedure
+  pub holds : Holds core.state core.history kept.image
 
--- these slots of the call, the newest first, and this core led to it
+-- These slots of the call, the newest first, and this core led to it. No page that is confirmed is in a reader any more.
 pub record IsReached (heard : List Slot) (core : Answering) (kept : Kept) : Type 0 where
   pub tracked : IsTracked heard kept.tracked
   pub stands : Stands core kept
+  pub settled : kept.image.accepted ≡ None
 
 -- More slots, in the order of time, led on, whatever came before: their pieces came, by one reading that is right.
 pub record Hears (slots : List Slot) (now : ℕ) (heard : List Slot) (core : Answering) (new : Kept) : Type 0 where
@@ -56,13 +67,14 @@ pub record Hears (slots : List Slot) (now : ℕ) (heard : List Slot) (core : Ans
   pub right : IsRead (first_asked core given now) read
   pub reached : IsReached (reverse slots ++ heard) (came_all read core given now) new
 
--- the same, with a reading for each piece
+-- the same, with a reading for each piece, where a page that is confirmed may still be in its reader
 pub record HearsSo (slots : List Slot) (now : ℕ) (heard : List Slot) (core : Answering) (new : Kept) : Type 0 where
   pub given : List Piece
   pub pieces : pieces (reverse slots ++ heard) ≡ pieces heard ++ given
   pub behind : Answering
   pub came : CameSo core given now behind
-  pub reached : IsReached (reverse slots ++ heard) behind new
+  pub tracked : IsTracked (reverse slots ++ heard) new.tracked
+  pub stands : Stands behind new
 
 -- one more piece
 pub record Takes (piece : Piece) (now : ℕ) (core : Answering) (new : Kept) : Type 0 where
@@ -76,27 +88,28 @@ pub record TakesAll (given : List Piece) (now : ℕ) (core : Answering) (new : K
   pub came : CameSo core given now behind
   pub stands : Stands behind new
 
--- what is decided of an image by some reading of it that is right, and the page that is confirmed
-pub record AnswersImage (octets : List ℕ) (dcs : Dcs) (command : Command) (verdict : code.Decision) (confirmed : Option ConfirmedPage) : Type 0 where
+-- what is decided of an image by some reading of it that is right, and the image, among these readers, of the page that is
+-- confirmed
+pub record AnswersImage (octets : List ℕ) (dcs : Dcs) (command : Command) (readers : List ReaderValue) (verdict : code.Decision) (found : Option Accepted) : Type 0 where
   pub read : Reading
   pub right : IsRight (record { octets = octets; dcs = dcs }) read
   pub verdict_is : verdict_of (judged command read) ≡ verdict
-  pub page_is : confirmed ≡ confirmed_behind (judged command read) None
+  pub page_is : Confirms found readers None (confirmed_behind (judged command read) None)
 
 -- the same at a command in Page
-pub record AnswersCommand (dcs : Dcs) (command : Command) (history : List Entry) (verdict : code.Decision) (confirmed : Option ConfirmedPage) : Type 0 where
+pub record AnswersCommand (dcs : Dcs) (command : Command) (history : List Entry) (readers : List ReaderValue) (verdict : code.Decision) (found : Option Accepted) : Type 0 where
   pub read : Reading
   pub right : IfAsked (order_asks (Page dcs) history (Judge command)) read
   pub verdict_is : verdict_of (on_command read history command) ≡ verdict
-  pub page_is : confirmed ≡ confirmed_behind (on_command read history command) None
+  pub page_is : Confirms found readers None (confirmed_behind (on_command read history command) None)
 
 -- what is decided at a command in Again
 abbrev pub AnswersAgain : Command → List Entry → code.Decision → Type 0
 AnswersAgain command history verdict = verdict_of (on_command_again history command) ≡ verdict
 
 -- the same as in Page at a frame where no packet waits
-pub record Answers (octets : List ℕ) (core : Answering) (verdict : code.Decision) (confirmed : Option ConfirmedPage) : Type 0 where
+pub record Answers (octets : List ℕ) (core : Answering) (readers : List ReaderValue) (verdict : code.Decision) (found : Option Accepted) : Type 0 where
   pub read : Reading
   pub right : IfAsked (order_asks core.state core.history (order_of octets)) read
   pub verdict_is : verdict_of (on_order read core.state core.history (order_of octets)) ≡ verdict
-  pub page_is : confirmed ≡ confirmed_behind (on_order read core.state core.history (order_of octets)) None
+  pub page_is : Confirms found readers None (confirmed_behind (on_order read core.state core.history (order_of octets)) None)

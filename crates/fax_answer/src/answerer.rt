@@ -23,7 +23,7 @@ pub struct Answerer<S: RowStore> {
     pub(crate) alloc: Global,
     pub(crate) signals: Signals,
     pub(crate) procedure: Procedure,
-    pub(crate) image: Image,
+    pub(crate) image: Image<S>,
     /// The page that the MCF confirms that waits.
     pub(crate) confirmed: Option<Confirmed<S>>,
     /// The room for the packet of the next tick.
@@ -31,16 +31,12 @@ pub struct Answerer<S: RowStore> {
 }
 
 impl<S: RowStore> Model for Answerer<S> {
-    ghost use Rattle.std.specs.Prelude.{◌≡◌, None};
-    ghost use Rattle.fax_answer.specs.declared.pending.Pending.TheVariants.{Nothing};
     ghost use Rattle.fax_answer.specs.Reached.{Kept};
     ghost use Rattle.fax_answer.specs.Shown.{confirmed_shown};
 
     ghost Value = { Kept };
 
     ghost view = { λ a. record { tracked = a.signals; procedure = a.procedure; image = a.image; confirmed = confirmed_shown a.confirmed; spare = a.room } };
-
-    ghost invariant = { λ a. a.procedure.pending ≡ Nothing → a.confirmed ≡ None };
 }
 
 impl<S: RowStore> Answerer<S> {

@@ -1,5 +1,5 @@
 //! What the answering side makes of the slots that come.
-ghost use Rattle.std.specs.Prelude.{◌≡◌, ◌≢◌, ◌↔◌, List, [], None, IsTrue, IsOk, IfOk, OnOk, OnErr, length, take, ◌&&◌, not, nat_le, is_some, if◌then◌else◌};
+ghost use Rattle.std.specs.Prelude.{ℕ, ◌≡◌, ◌≢◌, ◌↔◌, List, [], None, IsTrue, IsOk, IfOk, OnOk, OnErr, ◌&&◌, not, nat_le, is_some, if◌then◌else◌};
 ghost use Rattle.fax_ifp.specs.Elements.{Slot as SlotShown};
 ghost use Rattle.fax_ifp.specs.Pieces.{Frame as FrameShown, End as EndShown};
 ghost use Rattle.fax_ifp.specs.Shown.{piece_of, pieces_shown};
@@ -8,27 +8,26 @@ ghost use Rattle.fax_udptl.specs.Taking.{slots_in};
 ghost use Rattle.fax_answer.specs.Table.{decision};
 ghost use Rattle.fax_answer.specs.Replies.{is_last, is_waiting};
 ghost use Rattle.fax_answer.specs.Calls.{Answering};
-ghost use Rattle.fax_answer.specs.Kept.{decided_outside, pending_reply, verdict_of};
-ghost use Rattle.fax_answer.specs.Images.{ended_octets};
+ghost use Rattle.fax_answer.specs.Kept.{decided_outside, verdict_of};
+ghost use Rattle.fax_answer.specs.Images.{HasEnded, GoesOn, TakesIn, begun};
 ghost use Rattle.fax_answer.specs.Reached.{IsReached, Stands, Takes, TakesAll, Answers, AnswersAgain, AnswersCommand, AnswersImage, Hears, HearsSo};
-ghost use Rattle.fax_answer.specs.Shown.{confirmed_shown};
 
 use crate::answerer::Answerer;
 use crate::decision::Decision;
-use crate::pending::Pending;
+use crate::image::Accepted;
 use crate::step::Confirmed;
 use crate::{Command, Order, State};
 use fax_bits::NoMemory;
 use fax_frames::Dcs;
 use fax_ifp::{Piece, Pieces, Slot};
-use fax_pagestore::{PageFault, RowStore, read_page};
+use fax_pagestore::RowStore;
 use fax_udptl::Decided;
 
 impl<S: RowStore> Answerer<S> {
-    /// Takes the slots that a datagram decides, all of them or none: frames are answered, the octets of an image are kept,
-    /// and at a command the one image before it is read as a page. It answers whether the call has ended. It takes memory
-    /// for the octets of images, for a page, and for packets of more than four fields, and none where no packet is
-    /// decided. An `Err` changes nothing.
+    /// Takes the slots that a datagram decides, all of them or none: frames are answered, the octets of an image are read
+    /// as they come, and at a command the one image before it is judged. It answers whether the call has ended. It takes
+    /// memory for what is read of images, for the place to go back to, and for packets of more than four fields, and none
+    /// where no packet is decided. An `Err` changes nothing.
     pub fn slots(&mut self, decided: &Decided<'_>, now: u64) -> Result<bool, NoMemory>
         ensures heard { OnOk result ((heard : List SlotShown) (core : Answering) → IsReached heard core self.old
             → Hears (slots_in decided.now) now heard core self.new) }
@@ -37,29 +36,41 @@ impl<S: RowStore> Answerer<S> {
         ensures no_packet { decided.now.packets ≡ [] → IsOk result }
         ensures spare { self.new.spare ≡ self.old.spare }
     {
+        self.hear_whole(decided, now)?;
+        self.settle();
+        Ok(self.procedure.state == State::Idle)
+    }
+
+    /// Hears the slots, all of them or none. An `Err` changes nothing.
+    fn hear_whole(&mut self, decided: &Decided<'_>, now: u64) -> Result<(), NoMemory>
+        ensures heard { OnOk result ((heard : List SlotShown) (core : Answering) → IsReached heard core self.old
+            → HearsSo (slots_in decided.now) now heard core self.new) }
+        ensures err { OnErr result (self.new ≡ self.old) }
+        ensures no_packet { decided.now.packets ≡ [] → IsOk result }
+        ensures spare { self.new.spare ≡ self.old.spare }
+    {
+        if decided.packets().next().is_none() {
+            self.lose(decided.lost(), now);
+            return Ok(());
+        }
         let signals = self.signals.copy();
         let procedure = self.procedure;
-        let mark = self.image.mark();
+        let mark = self.image.mark()?;
         if self.hear_slots(decided, now).is_err() {
-            if !procedure.is_waiting() {
-                self.confirmed = None;
-            }
             self.signals = signals;
             self.procedure = procedure;
             self.image.back(mark);
             return Err(NoMemory);
         }
-        self.image.settle();
-        Ok(self.procedure.state == State::Idle)
+        Ok(())
     }
 
-    /// Hears the slots. An `Err` leaves the octets that were kept in front, and the page that was confirmed.
+    /// Hears the slots. An `Err` leaves readers to go back from, and the page that is confirmed.
     fn hear_slots(&mut self, decided: &Decided<'_>, now: u64) -> Result<(), NoMemory>
         ensures heard { OnOk result ((heard : List SlotShown) (core : Answering) → IsReached heard core self.old
             → HearsSo (slots_in decided.now) now heard core self.new) }
-        ensures front { take (length self.old.image.octets) self.new.image.octets ≡ self.old.image.octets }
-        ensures waits { self.old.procedure.pending ≢ Pending.Nothing → self.new.confirmed ≡ self.old.confirmed }
-        ensures no_packet { decided.now.packets ≡ [] → IsOk result }
+        ensures goes_on { GoesOn self.old.image.readers self.new.image.readers }
+        ensures confirmed { self.new.confirmed ≡ self.old.confirmed }
         ensures spare { self.new.spare ≡ self.old.spare }
     {
         self.lose(decided.lost(), now);
@@ -76,7 +87,6 @@ impl<S: RowStore> Answerer<S> {
         ensures heard { (heard : List SlotShown) (core : Answering) → IsReached heard core self.old
             → HearsSo (lost_slots count) now heard core self.new }
         ensures image { self.new.image ≡ self.old.image }
-        ensures pending { self.new.procedure.pending ≡ self.old.procedure.pending }
         ensures confirmed { self.new.confirmed ≡ self.old.confirmed }
         ensures spare { self.new.spare ≡ self.old.spare }
     {
@@ -92,9 +102,8 @@ impl<S: RowStore> Answerer<S> {
             → TakesAll (pieces_shown pieces.now) now core self.new) }
         ensures tracked { self.new.tracked ≡ self.old.tracked }
         ensures spare { self.new.spare ≡ self.old.spare }
-        ensures front { take (length self.old.image.octets) self.new.image.octets ≡ self.old.image.octets }
-        ensures waits { self.old.procedure.pending ≢ Pending.Nothing
-            → (self.new.procedure.pending ≡ self.old.procedure.pending) × (self.new.confirmed ≡ self.old.confirmed) }
+        ensures goes_on { GoesOn self.old.image.readers self.new.image.readers }
+        ensures confirmed { self.new.confirmed ≡ self.old.confirmed }
     {
         for piece in pieces {
             self.hear(piece, now)?;
@@ -102,101 +111,116 @@ impl<S: RowStore> Answerer<S> {
         Ok(())
     }
 
-    /// Hears a piece. An `Err` changes nothing.
+    /// Hears a piece.
     fn hear(&mut self, piece: &Piece<'_>, now: u64) -> Result<(), NoMemory>
         ensures heard { OnOk result ((core : Answering) → Stands core self.old
             → Takes (piece_of piece.now) now core self.new) }
         ensures tracked { self.new.tracked ≡ self.old.tracked }
         ensures spare { self.new.spare ≡ self.old.spare }
-        ensures front { take (length self.old.image.octets) self.new.image.octets ≡ self.old.image.octets }
-        ensures waits { self.old.procedure.pending ≢ Pending.Nothing
-            → (self.new.procedure.pending ≡ self.old.procedure.pending) × (self.new.confirmed ≡ self.old.confirmed) }
+        ensures goes_on { GoesOn self.old.image.readers self.new.image.readers }
+        ensures confirmed { self.new.confirmed ≡ self.old.confirmed }
     {
         match piece {
-            Piece::Frame(octets) => self.hear_frame(piece, octets.as_slice(), now)?,
+            Piece::Frame(octets) => self.hear_frame(piece, octets.as_slice(), now),
             Piece::Start(_) => {
-                self.image.open();
                 self.procedure.note(piece, Decision::PassOver, now);
+                self.begin_image()?;
             }
             Piece::Octets(octets) => {
-                self.image.push(octets)?;
+                self.read_octets(octets)?;
                 self.procedure.note(piece, Decision::PassOver, now);
             }
             Piece::End { whole } => {
                 let decision = self.judge_training(*whole);
-                self.image.close();
                 self.procedure.note(piece, decision, now);
+                self.begin_image()?;
             }
             Piece::Gap => self.procedure.note(piece, Decision::PassOver, now),
         }
         Ok(())
     }
 
-    /// Hears a frame, which is passed over while a packet waits. An `Err` changes nothing.
-    fn hear_frame(&mut self, piece: &Piece<'_>, octets: &[u8], now: u64) -> Result<(), NoMemory>
-        requires { piece_of piece.now ≡ FrameShown octets.now }
-        ensures heard { OnOk result ((core : Answering) → Stands core self.old
-            → Takes (FrameShown octets.now) now core self.new) }
-        ensures tracked { self.new.tracked ≡ self.old.tracked }
-        ensures spare { self.new.spare ≡ self.old.spare }
-        ensures image { self.new.image ≡ self.old.image }
-        ensures waits { self.old.procedure.pending ≢ Pending.Nothing
-            → (self.new.procedure.pending ≡ self.old.procedure.pending) × (self.new.confirmed ≡ self.old.confirmed) }
+    /// What comes from here on is an image of its own, which in Page has a reader.
+    fn begin_image(&mut self) -> Result<(), NoMemory>
+        ensures begun { OnOk result (self.new.image ≡ record self.old.image { readers = begun self.old.procedure.state self.old.image.readers; run = 0; longest = 0 }) }
+        ensures readers { OnErr result (self.new.image.readers ≡ self.old.image.readers) }
+        ensures same { self.new ≡ record self.old { image = self.new.image } }
     {
-        if self.procedure.is_waiting() {
-            self.procedure.note(piece, Decision::PassOver, now);
-            return Ok(());
+        self.image.restart();
+        if let State::Page(dcs) = self.procedure.state {
+            self.image.begin(dcs)?;
         }
-        let (decision, found) = self.answer(octets)?;
-        self.procedure.note(piece, decision, now);
-        keep(&mut self.confirmed, found);
         Ok(())
     }
 
-    /// What is decided at a frame where no packet waits, and the page that it confirms.
-    fn answer(&self, octets: &[u8]) -> Result<(Decision, Option<Confirmed<S>>), NoMemory>
-        ensures answers { IfOk result (λ answer. (core : Answering) → Stands core self.now
-            → Answers octets.now core answer.0 (confirmed_shown answer.1)) }
-        ensures quiet { IfOk result (λ answer. pending_reply answer.0 ≡ Pending.Nothing → answer.1 ≡ None) }
+    /// Octets of the image under way come. In Page they are read. An `Err` changes nothing.
+    fn read_octets(&mut self, octets: &[u8]) -> Result<(), NoMemory>
+        ensures taken { OnOk result (TakesIn self.old.procedure.state octets.now self.old.image self.new.image) }
+        ensures err { OnErr result (self.new ≡ self.old) }
+        ensures same { self.new ≡ record self.old { image = self.new.image } }
+    {
+        if let State::Page(_) = self.procedure.state {
+            self.image.feed(octets)?;
+        }
+        self.image.count(octets);
+        Ok(())
+    }
+
+    /// Hears a frame, which is passed over while a packet waits.
+    fn hear_frame(&mut self, piece: &Piece<'_>, octets: &[u8], now: u64)
+        requires { piece_of piece.now ≡ FrameShown octets.now }
+        ensures heard { (core : Answering) → Stands core self.old → Takes (FrameShown octets.now) now core self.new }
+        ensures tracked { self.new.tracked ≡ self.old.tracked }
+        ensures spare { self.new.spare ≡ self.old.spare }
+        ensures readers { self.new.image.readers ≡ self.old.image.readers }
+        ensures confirmed { self.new.confirmed ≡ self.old.confirmed }
+    {
+        if self.procedure.is_waiting() {
+            self.procedure.note(piece, Decision::PassOver, now);
+            return;
+        }
+        let (decision, found) = self.answer(octets);
+        self.procedure.note(piece, decision, now);
+        self.image.accept(found);
+    }
+
+    /// What is decided at a frame where no packet waits, and the image of the page that it confirms.
+    fn answer(&self, octets: &[u8]) -> (Decision, Option<Accepted>)
+        ensures { (core : Answering) → Stands core self.now
+            → Answers octets.now core self.now.image.readers result.0 result.1 }
     {
         let order = Order::read(octets);
         match self.procedure.state {
-            State::Idle | State::Closing => Ok((Decision::PassOver, None)),
-            State::Identify | State::Listen | State::Train(_) => Ok((decide(order), None)),
-            State::Page(dcs) => match order {
-                Order::Judge(command) => self.judge(dcs, command),
-                _ => Ok((decide(order), None)),
+            State::Idle | State::Closing => (Decision::PassOver, None),
+            State::Identify | State::Listen | State::Train(_) => (decide(order), None),
+            State::Page(_) => match order {
+                Order::Judge(command) => self.judge(command),
+                _ => (decide(order), None),
             },
             State::Again => match order {
-                Order::Judge(command) => Ok((self.judge_again(command), None)),
-                _ => Ok((decide(order), None)),
+                Order::Judge(command) => (self.judge_again(command), None),
+                _ => (decide(order), None),
             },
         }
     }
 
-    /// What is decided at a command in Page, and the page that it confirms.
-    fn judge(
-        &self,
-        dcs: Dcs,
-        command: Command,
-    ) -> Result<(Decision, Option<Confirmed<S>>), NoMemory>
-        ensures answers { IfOk result (λ answer. (core : Answering) → Stands core self.now
-            → AnswersCommand dcs command core.history answer.0 (confirmed_shown answer.1)) }
-        ensures replies { IfOk result (λ answer. pending_reply answer.0 ≢ Pending.Nothing) }
+    /// What is decided at a command in Page, and the image of the page that it confirms.
+    fn judge(&self, command: Command) -> (Decision, Option<Accepted>)
+        ensures { (core : Answering) (dcs : Dcs) → Stands core self.now → core.state ≡ State.Page dcs
+            → AnswersCommand dcs command core.history self.now.image.readers result.0 result.1 }
     {
         if self.procedure.counts.is_one_image() {
-            return self.read(dcs, command);
+            return self.read(command);
         }
         if self.procedure.counts.is_repeat(command) {
-            return Ok((Decision::Mcf(command), None));
+            return (Decision::Mcf(command), None);
         }
-        Ok((Decision::Rtn, None))
+        (Decision::Rtn, None)
     }
 
     /// What is decided at a command in Again: MCF to an EOM behind which nothing came, else RTN.
     fn judge_again(&self, command: Command) -> Decision
-        ensures answers { (core : Answering) → Stands core self.now → AnswersAgain command core.history result }
-        ensures replies { pending_reply result ≢ Pending.Nothing }
+        ensures { (core : Answering) → Stands core self.now → AnswersAgain command core.history result }
     {
         match command {
             Command::Eom if self.procedure.counts.is_quiet() => Decision::Mcf(Command::Eom),
@@ -204,23 +228,17 @@ impl<S: RowStore> Answerer<S> {
         }
     }
 
-    /// Reads the last image: MCF where it means a page, which it confirms, else RTN.
-    fn read(&self, dcs: Dcs, command: Command) -> Result<(Decision, Option<Confirmed<S>>), NoMemory>
-        ensures answers { IfOk result (λ answer.
-            AnswersImage (ended_octets self.now.image) dcs command answer.0 (confirmed_shown answer.1)) }
-        ensures replies { IfOk result (λ answer. pending_reply answer.0 ≢ Pending.Nothing) }
+    /// What is decided of the last image: MCF where it means a page, which it confirms, else RTN.
+    fn read(&self, command: Command) -> (Decision, Option<Accepted>)
+        ensures { (dcs : Dcs) (octets : List ℕ) → HasEnded dcs octets self.now.image.readers
+            → AnswersImage octets dcs command self.now.image.readers result.0 result.1 }
     {
-        match read_page(self.alloc, self.image.ended(), dcs.format(), dcs.coding()) {
-            Ok(page) => {
+        match self.image.page_ended() {
+            Some(place) => {
                 let closes = is_last(command);
-                Ok((Decision::Mcf(command), Some(Confirmed { page, closes })))
+                (Decision::Mcf(command), Some(Accepted { place, closes }))
             }
-            Err(fault) => {
-                if fault == PageFault::NoMemory {
-                    return Err(NoMemory);
-                }
-                Ok((Decision::Rtn, None))
-            }
+            None => (Decision::Rtn, None),
         }
     }
 
@@ -232,7 +250,7 @@ impl<S: RowStore> Answerer<S> {
         let State::Train(dcs) = self.procedure.state else {
             return Decision::PassOver;
         };
-        let wanted = usize::from(dcs.rate.bits() / 8);
+        let wanted = dcs.rate.bits() / 8;
         let is_missing = self.procedure.counts.is_missing();
         if is_check(whole, is_missing, self.image.longest_run(), wanted) {
             Decision::Cfr(dcs)
@@ -240,10 +258,24 @@ impl<S: RowStore> Answerer<S> {
             Decision::Ftt
         }
     }
+
+    /// Nothing can be refused any more: the page that is accepted is taken out of its reader, and the readers that nothing
+    /// asks for are let go. It takes no memory.
+    fn settle(&mut self)
+        ensures stands { (core : Answering) → Stands core self.old → Stands core self.new }
+        ensures settled { self.new.image.accepted ≡ None }
+        ensures procedure { self.new.procedure ≡ self.old.procedure }
+        ensures tracked { self.new.tracked ≡ self.old.tracked }
+        ensures spare { self.new.spare ≡ self.old.spare }
+    {
+        let found = self.image.finish();
+        keep(&mut self.confirmed, found);
+        self.image.keep(self.procedure.readers_wanted());
+    }
 }
 
 /// Whether a signal is a training check: whole, with nothing missing, and enough zero octets in a row.
-fn is_check(whole: bool, is_missing: bool, longest: usize, wanted: usize) -> bool
+fn is_check(whole: bool, is_missing: bool, longest: u16, wanted: u16) -> bool
     ensures { result ≡ (whole && (not is_missing && nat_le wanted longest)) }
 {
     whole && !is_missing && longest >= wanted

@@ -1,188 +1,227 @@
-//! The octets of the images of a call.
-ghost use Rattle.std.specs.Prelude.{◌≡◌, ◌+◌, ◌-◌, ◌++◌, ◌<◌, ◌≤◌, [], take, drop, length, OnOk, OnErr};
-ghost use Rattle.fax_answer.specs.Images.{ended_octets, longest_behind, run_behind, run_with};
+//! The images of a call: what is read of them, and their zero octets.
+ghost use Rattle.std.specs.Prelude.{◌≡◌, ◌+◌, ◌-◌, ◌++◌, ◌∷◌, ◌<◌, ◌≤◌, ℕ, List, [], Some, None, take, length, IfOk, IfSome, IsNone, OnOk, OnErr, is_some, if◌then◌else◌};
+ghost use Rattle.fax_runcodes.specs.Widths.{elements_of};
+ghost use Rattle.fax_frames.specs.Capabilities.{format_of, coding_of};
+ghost use Rattle.fax_pagestore.specs.Pages.{PageValue};
+ghost use Rattle.fax_pagestore.specs.PageTexts.{MeansPage};
+ghost use Rattle.fax_pagestore.specs.PageFaults.{FailsPage};
+ghost use Rattle.fax_pagestore.specs.Readers.{new_reader};
+ghost use Rattle.fax_answer.specs.Images.{ImageValue, HasEnded, MeansAt, Feeds, GoesOn, IsMarkOf, longest_behind, run_behind, run_with};
+ghost use Rattle.fax_answer.specs.Shown.{confirmed_shown};
 
+use crate::step::Confirmed;
 use fax_bits::NoMemory;
+use fax_frames::Dcs;
+use fax_pagestore::{Mark as ReaderMark, PageFault, PageReader, RowStore};
 use std::alloc::Global;
 use std::marker::Model;
 
-/// The octets of the last image that ended and, behind them, those of the image that is open; and of the latter the
-/// runs of zero octets.
+/// The images of a call. In Page each octet goes to a reader; else the runs of zero octets alone are counted.
 #[derive(Drop)]
-pub(crate) struct Image {
-    octets: Vec<u8>,
-    marks: Marks,
+pub(crate) struct Image<S: RowStore> {
+    /// The readers of images in Page, in the order in which these began; the last one is that of the image under way.
+    readers: Vec<PageReader<S>>,
+    /// The image of the page that an MCF confirms, while its reader still has the page.
+    accepted: Option<Accepted>,
+    zeros: Zeros,
 }
 
-/// Places in the octets, and what was counted of them.
+/// An image whose page is confirmed: its place among the readers, and whether no page follows.
 #[derive(Clone, Copy)]
-pub(crate) struct Marks {
-    /// Where the last image that ended begins.
-    begin: usize,
-    /// Where it ends, and the open one begins.
-    end: usize,
-    /// How many zero octets the open image has at its end.
-    run: usize,
-    /// How many zero octets it has in a row at most.
-    longest: usize,
+pub(crate) struct Accepted {
+    pub place: usize,
+    pub closes: bool,
 }
 
-/// Where an image stood: what [`Image::back`] goes back to.
+/// How many zero octets the image under way has, of which 65,535 are counted.
 #[derive(Clone, Copy)]
+struct Zeros {
+    /// At its end.
+    run: u16,
+    /// In a row at most.
+    longest: u16,
+}
+
+/// Where the images stood: what [`Image::back`] goes back to.
+#[derive(Drop)]
 pub(crate) struct Mark {
-    len: usize,
-    marks: Marks,
+    count: usize,
+    under_way: Option<ReaderMark>,
+    accepted: Option<Accepted>,
+    zeros: Zeros,
 }
 
-impl Model for Image {
+impl<S: RowStore> Model for Image<S> {
+    ghost use Rattle.std.specs.Prelude.{reverse};
     ghost use Rattle.fax_answer.specs.Images.{ImageValue};
 
     ghost Value = { ImageValue };
 
-    ghost view = { λ i. record { octets = i.octets.items; begin = i.marks.begin; end = i.marks.end; run = i.marks.run; longest = i.marks.longest } };
-
-    ghost use Rattle.std.specs.Prelude.{◌+◌, ◌≤◌, length};
-
-    ghost invariant = { λ i. (i.marks.begin ≤ i.marks.end) × (i.marks.end ≤ length i.octets.items) × (i.marks.end + i.marks.run ≤ length i.octets.items) × (i.marks.end + i.marks.longest ≤ length i.octets.items) };
+    ghost view = { λ i. record { readers = reverse i.readers.items; accepted = i.accepted; run = i.zeros.run; longest = i.zeros.longest } };
 }
 
-impl Image {
-    /// No image.
+impl<S: RowStore> Image<S> {
+    /// No image. It takes no memory.
     pub fn new(alloc: Global) -> Self
-        ensures { result ≡ record { octets = []; begin = 0; end = 0; run = 0; longest = 0 } }
+        ensures { result ≡ record { readers = []; accepted = None; run = 0; longest = 0 } }
     {
         Image {
-            octets: Vec::new(alloc),
-            marks: Marks {
-                begin: 0,
-                end: 0,
-                run: 0,
-                longest: 0,
-            },
+            readers: Vec::new(alloc),
+            accepted: None,
+            zeros: Zeros { run: 0, longest: 0 },
         }
     }
 
-    /// A signal begins: no octet of it came, and no image before it is asked for any more.
-    pub fn open(&mut self)
-        ensures { self.new ≡ record {
-          octets = self.old.octets;
-          begin = length self.old.octets;
-          end = length self.old.octets;
-          run = 0;
-          longest = 0;
-        } }
+    /// A signal begins, or one has ended: no octet came of what follows.
+    pub fn restart(&mut self)
+        ensures { self.new ≡ record self.old { run = 0; longest = 0 } }
     {
-        let len = self.octets.len();
-        self.marks = Marks {
-            begin: len,
-            end: len,
-            run: 0,
-            longest: 0,
-        };
+        self.zeros = Zeros { run: 0, longest: 0 };
     }
 
-    /// Octets of the open image come. An `Err` changes nothing.
-    pub fn push(&mut self, octets: &[u8]) -> Result<(), NoMemory>
-        ensures pushed { OnOk result (self.new ≡ record {
-          octets = self.old.octets ++ octets.now;
-          begin = self.old.begin;
-          end = self.old.end;
-          run = run_behind self.old.run octets.now;
-          longest = longest_behind self.old.run self.old.longest octets.now;
-        }) }
+    /// In Page: what follows is read under this DCS. An `Err` changes nothing.
+    pub fn begin(&mut self, dcs: Dcs) -> Result<(), NoMemory>
+        ensures begun { OnOk result (self.new ≡ record self.old { readers = new_reader (format_of dcs) (coding_of dcs) ∷ self.old.readers }) }
         ensures err { OnErr result (self.new ≡ self.old) }
     {
-        self.octets.extend_from_slice(octets)?;
-        self.marks.count(octets);
+        let alloc = *self.readers.allocator();
+        let reader = PageReader::new(alloc, dcs.format(), dcs.coding());
+        self.readers.push(reader)?;
         Ok(())
     }
 
-    /// The open image ends.
-    pub fn close(&mut self)
-        ensures { self.new ≡ record {
-          octets = self.old.octets;
-          begin = self.old.end;
-          end = length self.old.octets;
-          run = 0;
-          longest = 0;
-        } }
+    /// More octets of the image under way come, in Page. An `Err` changes nothing.
+    pub fn feed(&mut self, octets: &[u8]) -> Result<(), NoMemory>
+        ensures fed { OnOk result (Feeds octets.now self.old.readers self.new.readers) }
+        ensures rest { self.new ≡ record self.old { readers = self.new.readers } }
+        ensures err { OnErr result (self.new ≡ self.old) }
     {
-        self.marks = Marks {
-            begin: self.marks.end,
-            end: self.octets.len(),
-            run: 0,
-            longest: 0,
+        let Some(mut under_way) = self.readers.pop() else {
+            return Ok(());
         };
+        let fed = under_way.feed(octets);
+        self.readers.push_reserved(under_way);
+        fed.map_err(|_| NoMemory)
     }
 
-    /// How many zero octets the open image has in a row at most.
-    pub fn longest_run(&self) -> usize
+    /// Counts the zero octets of more octets of the image under way.
+    pub fn count(&mut self, octets: &[u8])
+        ensures { self.new ≡ record self.old { run = run_behind self.old.run octets.now; longest = longest_behind self.old.run self.old.longest octets.now } }
+    {
+        self.zeros.count(octets);
+    }
+
+    /// How many zero octets the image under way has in a row at most.
+    pub fn longest_run(&self) -> u16
         ensures { result ≡ self.now.longest }
     {
-        self.marks.longest
+        self.zeros.longest
     }
 
-    /// The octets of the last image that ended.
-    pub fn ended(&self) -> &[u8]
-        ensures { result.now ≡ ended_octets self.now }
+    /// The place of the image before the one under way, where it means a page. It takes no memory.
+    pub fn page_ended(&self) -> Option<usize>
+        ensures page { IfSome result (λ place. (dcs : Dcs) (octets : List ℕ) → HasEnded dcs octets self.now.readers
+            → (page : PageValue) × MeansAt self.now.readers place page × MeansPage (format_of dcs) (coding_of dcs) octets page) }
+        ensures none { IsNone result → (dcs : Dcs) (octets : List ℕ) → HasEnded dcs octets self.now.readers
+            → (fault : PageFault) × FailsPage (elements_of (format_of dcs).width) (coding_of dcs) octets fault }
     {
-        &self.octets.as_slice()[self.marks.begin..self.marks.end]
-    }
-
-    /// Where it stands.
-    pub fn mark(&self) -> Mark
-        ensures len { result.len ≡ length self.now.octets }
-        ensures begin { result.marks.begin ≡ self.now.begin }
-        ensures end { result.marks.end ≡ self.now.end }
-        ensures run { result.marks.run ≡ self.now.run }
-        ensures longest { result.marks.longest ≡ self.now.longest }
-        ensures front { take result.len self.now.octets ≡ self.now.octets }
-        ensures ordered { (result.marks.begin ≤ result.marks.end) × (result.marks.end ≤ result.len) × (result.marks.end + result.marks.run ≤ result.len) × (result.marks.end + result.marks.longest ≤ result.len) }
-    {
-        Mark {
-            len: self.octets.len(),
-            marks: self.marks,
+        let len = self.readers.len();
+        if len < 2 {
+            return None;
+        }
+        let place = len - 2;
+        match self.readers[place].check() {
+            Ok(()) => Some(place),
+            Err(_) => None,
         }
     }
 
-    /// Goes back to where it stood: since then octets were added at most.
-    pub fn back(&mut self, mark: Mark)
-        requires { (mark.len ≤ length self.old.octets) × (mark.marks.begin ≤ mark.marks.end) × (mark.marks.end ≤ mark.len) × (mark.marks.end + mark.marks.run ≤ mark.len) × (mark.marks.end + mark.marks.longest ≤ mark.len) }
-        ensures { self.new ≡ record {
-          octets = take mark.len self.old.octets;
-          begin = mark.marks.begin;
-          end = mark.marks.end;
-          run = mark.marks.run;
-          longest = mark.marks.longest;
-        } }
+    /// Notes the image of a page that an MCF confirms, where there is one.
+    pub fn accept(&mut self, found: Option<Accepted>)
+        ensures { self.new ≡ record self.old { accepted = if is_some found then found else self.old.accepted } }
     {
-        self.octets.truncate(mark.len);
-        self.marks = mark.marks;
+        if found.is_some() {
+            self.accepted = found;
+        }
     }
 
-    /// Forgets the octets before the last image that ended.
-    pub fn settle(&mut self)
-        ensures ordered { (self.old.begin ≤ self.old.end) × (self.old.end ≤ length self.old.octets) }
-        ensures octets { self.new.octets ≡ drop self.old.begin self.old.octets }
-        ensures begin { self.new.begin ≡ 0 }
-        ensures end { self.new.end ≡ self.old.end - self.old.begin }
+    /// The page that is accepted, out of its reader, which is let go. It takes no memory.
+    pub fn finish(&mut self) -> Option<Confirmed<S>>
+        ensures none { self.old.accepted ≡ None → (result ≡ None) × (self.new.readers ≡ self.old.readers) }
+        ensures page { (accepted : Accepted) (page : PageValue) → self.old.accepted ≡ Some accepted → (at : MeansAt self.old.readers accepted.place page)
+            → (confirmed_shown result ≡ Some (record { page = page; closes = accepted.closes })) × (self.new.readers ≡ at.under_way ∷ (at.later ++ at.before)) }
+        ensures settled { self.new.accepted ≡ None }
         ensures run { self.new.run ≡ self.old.run }
         ensures longest { self.new.longest ≡ self.old.longest }
     {
-        let begin = self.marks.begin;
-        if begin > 0 {
-            // What is drained is not wanted any more.
-            let _ = self.octets.drain(..begin);
-            self.marks.end -= begin;
-            self.marks.begin = 0;
+        let Some(accepted) = self.accepted.take() else {
+            return None;
+        };
+        if accepted.place >= self.readers.len() {
+            return None;
         }
+        let mut reader = self.readers.remove(accepted.place);
+        match reader.finish() {
+            Ok(page) => Some(Confirmed {
+                page,
+                closes: accepted.closes,
+            }),
+            Err(_) => None,
+        }
+    }
+
+    /// Lets go of all readers but this many of the newest. It takes no memory.
+    pub fn keep(&mut self, count: usize)
+        ensures { self.new ≡ record self.old { readers = take count self.old.readers } }
+    {
+        let surplus = self.readers.len().saturating_sub(count);
+        // What is drained is not wanted any more.
+        let _ = self.readers.drain(..surplus);
+    }
+
+    /// Where the images stand.
+    pub fn mark(&self) -> Result<Mark, NoMemory>
+        ensures { IfOk result (λ mark. IsMarkOf self.now mark) }
+    {
+        let count = self.readers.len();
+        let mut under_way = None;
+        if count > 0 {
+            under_way = Some(self.readers[count - 1].mark()?);
+        }
+        Ok(Mark {
+            count,
+            under_way,
+            accepted: self.accepted,
+            zeros: self.zeros,
+        })
+    }
+
+    /// Goes back to a mark. It takes no memory.
+    pub fn back(&mut self, mark: Mark)
+        requires { (old : ImageValue) × IsMarkOf old mark × GoesOn old.readers self.old.readers }
+        ensures { (old : ImageValue) → IsMarkOf old mark → GoesOn old.readers self.old.readers → self.new ≡ old }
+    {
+        let Mark {
+            count,
+            under_way,
+            accepted,
+            zeros,
+        } = mark;
+        self.readers.truncate(count);
+        if let Some(under_way) = under_way {
+            if let Some(mut reader) = self.readers.pop() {
+                reader.back(under_way);
+                self.readers.push_reserved(reader);
+            }
+        }
+        self.accepted = accepted;
+        self.zeros = zeros;
     }
 }
 
-impl Marks {
+impl Zeros {
     /// Counts the zero octets of more octets.
     fn count(&mut self, octets: &[u8])
-        requires run { self.old.run + length octets.now ≤ usize.MAX }
         ensures { self.new ≡ record self.old { run = run_behind self.old.run octets.now; longest = longest_behind self.old.run self.old.longest octets.now } }
     {
         for octet in octets {
@@ -193,9 +232,8 @@ impl Marks {
 }
 
 /// How many zero octets stand at the end with one more octet.
-fn run_with(run: usize, octet: u8) -> usize
-    requires { run < usize.MAX }
+fn run_with(run: u16, octet: u8) -> u16
     ensures { result ≡ run_with run octet }
 {
-    if octet == 0 { run + 1 } else { 0 }
+    if octet == 0 { run.saturating_add(1) } else { 0 }
 }

@@ -1,6 +1,7 @@
 //! Laws of the answering side: functions that do nothing, each of whose contracts is a theorem. Each is told of every
 //! call: from any core that is rung, through any pieces and ticks, where each image that is asked about was read rightly.
 ghost use Rattle.fax_answer.specs.Confirmation.{GivesConfirmations, EachMcfAnswers};
+ghost use Rattle.fax_answer.specs.InPage.{BeginsInPage};
 ghost use Rattle.fax_answer.specs.Judging.{RefusesNoPage, JudgesExactly};
 ghost use Rattle.fax_answer.specs.Readings.{ReadingsJoin, CallsAreRead, CallsGoOn};
 ghost use Rattle.fax_answer.specs.Sent.{ConfirmsSignals, ConfirmsWhatItAccepted};
@@ -53,4 +54,10 @@ pub fn confirms_signals()
 /// The pages that ticks confirm are those for which MCF was decided, in their order, but for one that may wait.
 pub fn confirms_what_it_accepted()
     ensures { ConfirmsWhatItAccepted }
+{}
+
+/// In Page all octets of the image under way came since the last CFR: an image that ends there began there, and its reader
+/// is of the format and the coding of the DCS that this CFR answered.
+pub fn begins_in_page()
+    ensures { BeginsInPage }
 {}

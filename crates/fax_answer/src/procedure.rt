@@ -3,13 +3,13 @@
 ghost use Rattle.std.specs.Prelude.{◌≡◌, ◌≢◌, ◌↔◌, Option, None, IsTrue, false};
 ghost use Rattle.fax_ifp.specs.Pieces.{Piece as PieceShown};
 ghost use Rattle.fax_ifp.specs.Shown.{piece_of};
-ghost use Rattle.fax_answer.specs.History.{Decision as Decided};
+ghost use Rattle.fax_answer.specs.History.{Decision as Decided, since_answer};
 ghost use Rattle.fax_answer.specs.Table.{state_after};
 ghost use Rattle.fax_answer.specs.Replies.{ConfirmedPage, reply_to};
 ghost use Rattle.fax_answer.specs.Calls.{Answering, new_answering, rung, decided, timers_after, is_heard, timed, says_goodbye, identifies_anew, state_when_given, timers_when_given, is_closing};
 ghost use Rattle.fax_answer.specs.Kept.{pending_reply, verdict_of};
 ghost use Rattle.fax_answer.specs.Pending.{waiting_of};
-ghost use Rattle.fax_answer.specs.Following.{Follows, CanDecide, confirmed_behind, GivesNext, gives_now, gives_up, repeats_dis, begins_again};
+ghost use Rattle.fax_answer.specs.Following.{readers_wanted, Follows, CanDecide, confirmed_behind, GivesNext, gives_now, gives_up, repeats_dis, begins_again};
 
 use crate::counts::Counts;
 use crate::decision::Decision;
@@ -205,6 +205,19 @@ impl Procedure {
             }
         }
         false
+    }
+
+    /// How many readers of images are wanted on: in Page that of the image under way, and that of the one before where a
+    /// command may ask what it means.
+    pub fn readers_wanted(&self) -> usize
+        ensures { (core : Answering) (confirmed : Option ConfirmedPage) → Follows core confirmed self.now
+            → result ≡ readers_wanted core.state (since_answer core.history) }
+    {
+        match self.state {
+            State::Page(_) if self.counts.is_one_image() => 2,
+            State::Page(_) => 1,
+            _ => 0,
+        }
     }
 
     /// The last packet of a reply is given: the state's T2 or T4 is set, and a call that closes has ended.

@@ -165,7 +165,7 @@ fn writing_tells_its_faults(rt: HostRuntime) {
 #[test]
 fn more_rows_than_a_page_has_are_told(rt: HostRuntime) -> Result<(), AllocError> {
     let mut runs = Vec::new(rt.alloc());
-    for _ in 0..20_001 {
+    for _ in 0..65_536 {
         runs.push(1728u16)?;
     }
     let mut octets = [0u8; 12];
@@ -179,8 +179,8 @@ fn more_rows_than_a_page_has_are_told(rt: HostRuntime) -> Result<(), AllocError>
         &mut octets,
     );
     assert!(rt; written == refused(5, 0, 0));
-    // an EOL of 12 bits, 20,000 lines of 17 bits, each with an EOL, and five EOLs
-    runs.truncate(20_000);
+    // an EOL of 12 bits, 65,535 lines of 17 bits, each with an EOL, and five EOLs
+    runs.truncate(65_535);
     let written = fax_write_runs(
         rt.alloc(),
         runs.as_slice(),
@@ -190,7 +190,7 @@ fn more_rows_than_a_page_has_are_told(rt: HostRuntime) -> Result<(), AllocError>
         0,
         &mut octets,
     );
-    assert!(rt; written == refused(7, 0, 72_509));
+    assert!(rt; written == refused(7, 0, 237_574));
     Ok(())
 }
 

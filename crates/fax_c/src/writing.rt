@@ -8,12 +8,9 @@ ghost use Rattle.fax_c.specs.Calls.{WritesRuns, RefusesRuns, AreRunsOf, AreRunsO
 use crate::page::{coding_of, width_of};
 use crate::reading::put;
 use crate::{Filled, Refusal};
-use fax_pagestore::{Format, PackedRows, Page, PageFault, RowStore, write_page};
+use fax_pagestore::{Format, MOST_ROWS, PackedRows, Page, PageFault, RowStore, write_page};
 use fax_runcodes::{RowBuilder, Width};
 use std::alloc::Global;
-
-/// The most rows of a page.
-const MOST_ROWS: u32 = 20_000;
 
 /// The most that may be asked for as the least bits of a line, as of the command.
 const MOST_LEAST_BITS: u32 = 65_535;

@@ -9,6 +9,7 @@ use Rattle.fax_timers.specs.Moments.{is_due}
 use Rattle.fax_timers.specs.Paces.{pace_allows}
 use Rattle.fax_ifp.specs.Pieces as pieces
 use Rattle.fax_jobs.specs.Jobs.{JobValue}
+use Rattle.fax_pagestore.specs.Writers.{WriterValue}
 use Rattle.fax_call.specs.declared.pending.Message.TheVariants as messages
 use Rattle.fax_call.specs.declared.pending.Pending.{Pending}
 use Rattle.fax_call.specs.declared.pending.Pending.TheVariants.{Nothing, Tone, Preamble, Training, Check, Image, Text}
@@ -43,21 +44,21 @@ pending_waits (Check dcs given) asks page from fits some = let left : 0 < check_
 pending_waits (Image dcs) asks page from fits some = refl
 pending_waits (Text dcs plain) asks page from fits some = refl
 
-pub core_waits : (writes : Writing) (job : JobValue) (core : Calling) (text : List ℕ) (p : Procedure) → IsFit p → Follows writes job core text p
+pub core_waits : (writes : Writing) (job : JobValue) (core : Calling) (writer : WriterValue) (p : Procedure) → IsFit p → Follows writes job core writer p
     → (p.pending ≡ Nothing → ⊥) → waits core.waiting ≡ true
-core_waits writes job core text p fit f some =
+core_waits writes job core writer p fit f some =
     sym (ap waits f.waiting) ∙ pending_waits p.pending (command_behind core.formats core.pages p.counts.page) p.counts.page f.from fit.pending some
 
-pub core_rests : (writes : Writing) (job : JobValue) (core : Calling) (text : List ℕ) (p : Procedure) → Follows writes job core text p
+pub core_rests : (writes : Writing) (job : JobValue) (core : Calling) (writer : WriterValue) (p : Procedure) → Follows writes job core writer p
     → p.pending ≡ Nothing → waits core.waiting ≡ false
-core_rests writes job core text p f none =
+core_rests writes job core writer p f none =
     sym (ap waits f.waiting) ∙ ap (λ (q : Pending). waits (waiting_of q (command_behind core.formats core.pages p.counts.page) p.counts.page f.from)) none
 
-pub gives_is : (writes : Writing) (job : JobValue) (core : Calling) (text : List ℕ) (p : Procedure) (now : ℕ) → IsFit p → Follows writes job core text p
+pub gives_is : (writes : Writing) (job : JobValue) (core : Calling) (writer : WriterValue) (p : Procedure) (now : ℕ) → IsFit p → Follows writes job core writer p
     → (p.pending ≡ Nothing → ⊥) → pace_allows p.pace now ≡ gives_now core now
-gives_is writes job core text p now fit f some =
+gives_is writes job core writer p now fit f some =
     ap (λ (last : Option ℕ). pace_allows last now) f.last
-    ∙ sym (ap (λ (b : Bool). b && pace_allows core.last now) (core_waits writes job core text p fit f some))
+    ∙ sym (ap (λ (b : Bool). b && pace_allows core.last now) (core_waits writes job core writer p fit f some))
 
 stays_if : (core : Calling) (b : Bool) (m : Move) → b ≡ true → moved core (if b then Stays else m) ≡ core
 stays_if core true m e = refl
@@ -110,12 +111,12 @@ turn_known now format pages (AwaitMcf dis dcs) c o formats page turn k = ap (λ 
 turn_known now format pages (Closing x) c o formats page turn k = refl
 
 -- what a frame brings about, told of what is kept
-pub frame_heard : (writes : Writing) (job : JobValue) (core : Calling) (text : List ℕ) (p : Procedure) (octets : List ℕ) (frame : Frame) (now : ℕ) (m : Move)
-    → Follows writes job core text p → p.pending ≡ Nothing → frame_of octets ≡ Some frame
+pub frame_heard : (writes : Writing) (job : JobValue) (core : Calling) (writer : WriterValue) (p : Procedure) (octets : List ℕ) (frame : Frame) (now : ℕ) (m : Move)
+    → Follows writes job core writer p → p.pending ≡ Nothing → frame_of octets ≡ Some frame
     → m ≡ on_frame now p.format p.turn p.pages p.state (counts_shown p.counts) (Some frame)
     → came core (pieces.Frame octets) now ≡ moved core m
-frame_heard writes job core text p octets frame now m f none read decided =
-    acts_if core (waits core.waiting) _ (core_rests writes job core text p f none)
+frame_heard writes job core writer p octets frame now m f none read decided =
+    acts_if core (waits core.waiting) _ (core_rests writes job core writer p f none)
     ∙ ap (λ (o : Option Frame). moved core (on_frame now core.format (turn_behind core.formats core.counts.page) core.pages core.state core.counts o)) read
     ∙ ap (moved core) (sym (decided ∙ same))
   where
@@ -134,12 +135,12 @@ frame_heard writes job core text p octets frame now m f none read decided =
         ∙ ap (λ (x : State). on_frame now core.format (turn_behind core.formats core.counts.page) core.pages x (counts_shown p.counts) (Some frame)) f.state
         ∙ ap (λ (x : Counts). on_frame now core.format (turn_behind core.formats core.counts.page) core.pages core.state x (Some frame)) f.counts
 
-pub timers_acted : (writes : Writing) (job : JobValue) (core : Calling) (text : List ℕ) (p : Procedure) (now : ℕ) (m : Move)
-    → Follows writes job core text p → p.pending ≡ Nothing
+pub timers_acted : (writes : Writing) (job : JobValue) (core : Calling) (writer : WriterValue) (p : Procedure) (now : ℕ) (m : Move)
+    → Follows writes job core writer p → p.pending ≡ Nothing
     → m ≡ on_timers (is_due p.t1 now) (is_due p.t4 now) p.state (counts_shown p.counts)
     → timed core now ≡ moved core m
-timers_acted writes job core text p now m f none decided =
-    acts_if core (waits core.waiting) _ (core_rests writes job core text p f none)
+timers_acted writes job core writer p now m f none decided =
+    acts_if core (waits core.waiting) _ (core_rests writes job core writer p f none)
     ∙ ap (moved core) (sym (decided ∙ same))
   where
     same : on_timers (is_due p.t1 now) (is_due p.t4 now) p.state (counts_shown p.counts) ≡ on_timers (is_due core.t1 now) (is_due core.t4 now) core.state core.counts

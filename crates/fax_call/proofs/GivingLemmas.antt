@@ -1,5 +1,5 @@
 -- The next packet, of a procedure and of the core that it stands for.
-use Rattle.std.proofs.Common.{◌≡◌, ℕ, zero, suc, ◌+◌, ◌-◌, ◌*◌, ◌/◌, ◌<◌, ◌≤◌, Bool, true, false, ◌&&◌, nat_le, List, [], ◌∷◌, length, take, drop, replicate, Option, Some, None, Result, Ok, Err, refl, sym, ◌∙◌, ap, subst, arith, length-drop, if◌then◌else◌}
+use Rattle.std.proofs.Common.{◌≡◌, ℕ, zero, suc, ◌+◌, ◌-◌, ◌*◌, ◌/◌, ◌<◌, ◌≤◌, Bool, true, false, ◌&&◌, nat_le, List, [], ◌∷◌, length, take, drop, replicate, slice_get, Option, Some, None, Result, Ok, Err, refl, sym, ◌∙◌, ap, subst, arith, length-drop, if◌then◌else◌}
 use Rattle.std.specs.Prelude.{option_map, IsSome}
 use Rattle.std.specs.Result.{IfOk, OnOk, OnErr}
 use Rattle.std.proofs.Math.Seq.{drop-drop}
@@ -14,6 +14,8 @@ use Rattle.fax_frames.specs.Written.{written_plain, written_dcs}
 use Rattle.fax_ifp.specs.Elements.{Slot}
 use Rattle.fax_ifp.specs.Tracked.{IsTracked}
 use Rattle.fax_timers.specs.Paces.{pace_allows}
+use Rattle.fax_pagestore.specs.Pages.{PageValue}
+use Rattle.fax_pagestore.specs.Writers.{WriterValue, HasLeft}
 use Rattle.fax_jobs.specs.declared.outcome.Outcome.{Outcome}
 use Rattle.fax_jobs.specs.Jobs.{JobValue}
 use Rattle.fax_call.specs.declared.pending.Message.TheVariants as messages
@@ -25,8 +27,8 @@ use Rattle.fax_call.specs.declared.state.State.TheVariants.{Idle, AwaitDis, Awai
 use Rattle.fax_call.specs.Writings.{Writing}
 use Rattle.fax_call.specs.Replies.{Packet, Tells, Part, written, Due, One, Text, waits, parts_of, part_length, check_length, training_check, is_last_page, turn_behind, command_by, command_behind, command, frame_reply}
 use Rattle.fax_call.specs.Calls.{Calling, formats_of, text_at, Taken, taken, state_when_given, outcome_when_given, t4_when_given, after_giving, Ticked, given_first, paced, timed, ticked}
-use Rattle.fax_call.specs.Kept.{waiting_of, framed, training_behind, check_behind, packet_of, pending_behind, FitsPending}
-use Rattle.fax_call.specs.Following.{IsFit, IsLeft, KeepsTurn, Follows, HasText, HasFormats, text_octets, text_behind, behind_packet, command_kept, given_by, with_turn, gives_now, GivesNext}
+use Rattle.fax_call.specs.Kept.{waiting_of, framed, training_behind, check_behind, text_part, packet_of, pending_behind, FitsPending}
+use Rattle.fax_call.specs.Following.{IsFit, HasTextLeft, IsLeft, KeepsTurn, Follows, HasText, HasFormats, behind_packet, command_kept, given_by, with_turn, gives_now, GivesNext, GivesPacket}
 use Rattle.fax_call.specs.Reached.{Kept, IsReached, IsGiven}
 use Rattle.fax_call.proofs.FollowingLemmas.{pending_waits}
 
@@ -102,11 +104,11 @@ abbrev waits_in : Calling → Procedure → Pending → ℕ → List Due
 waits_in core p q from = waiting_of q (command_behind core.formats core.pages p.counts.page) p.counts.page from
 
 -- BOTH, where some packets wait behind the one that is given
-pub follows_more : (writes : Writing) (job : JobValue) (core : Calling) (text left : List ℕ) (p : Procedure) (now from : ℕ) (q : Pending)
-    → Follows writes job core text p → (q ≡ pendings.Nothing → ⊥) → waits (waits_in core p q from) ≡ true
+pub follows_more : (writes : Writing) (job : JobValue) (core : Calling) (writer left : WriterValue) (p : Procedure) (now from : ℕ) (q : Pending)
+    → Follows writes job core writer p → (q ≡ pendings.Nothing → ⊥) → waits (waits_in core p q from) ≡ true
     → IsLeft writes job p.counts.page from q left → KeepsTurn p.state q core.formats p.counts.page p.turn
     → Follows writes job (after_giving core now (waits_in core p q from)) left (behind_packet q p now)
-follows_more writes job core text left p now from q f some w is_left turn =
+follows_more writes job core writer left p now from q f some w is_left turn =
     subst (λ (n : Procedure). Follows writes job (after_giving core now (waits_in core p q from)) left n) (sym (some_behind q p now some))
     (subst (λ (a : Calling). Follows writes job a left (record p { pending = q; pace = Some now })) (sym (more_wait core now (waits_in core p q from) w))
     (record {
@@ -133,10 +135,10 @@ given_turn (AwaitCfr dis dcs) formats page turn k = tt
 given_turn (AwaitMcf dis dcs) formats page turn k = k
 given_turn (Closing outcome) formats page turn k = tt
 
-pub follows_last : (writes : Writing) (job : JobValue) (core : Calling) (text left : List ℕ) (p : Procedure) (now : ℕ)
-    → Follows writes job core text p → KeepsTurn p.state pendings.Nothing core.formats p.counts.page p.turn
+pub follows_last : (writes : Writing) (job : JobValue) (core : Calling) (writer left : WriterValue) (p : Procedure) (now : ℕ)
+    → Follows writes job core writer p → KeepsTurn p.state pendings.Nothing core.formats p.counts.page p.turn
     → Follows writes job (after_giving core now []) left (behind_packet pendings.Nothing p now)
-follows_last writes job core text left p now f turn =
+follows_last writes job core writer left p now f turn =
     record {
       state = ap state_when_given f.state;
       format = f.format;
@@ -271,28 +273,28 @@ check_step dcs given h = split (check_length dcs) (part_length dcs) (kind_of dcs
         (parts_same (k - 1) (all - (given + n)) kind n (replicate (all - (given + n)) 0) some (omega arith) (omega arith) (omega arith) (omega arith)))
 
 -- THE NEXT PACKET
-abbrev Next : Writing → JobValue → Calling → Procedure → ℕ → Packet → List ℕ → Pending → Type 0
+abbrev Next : Writing → JobValue → Calling → Procedure → ℕ → Packet → WriterValue → Pending → Type 0
 Next writes job core p now packet left q = GivesNext writes job core now packet left (behind_packet q p now)
 
-more : (writes : Writing) (job : JobValue) (core : Calling) (text left : List ℕ) (p : Procedure) (now from : ℕ) (packet : Packet) (q : Pending)
-    → Follows writes job core text p → Gives writes job core packet (waits_in core p q from) → (q ≡ pendings.Nothing → ⊥) → FitsPending q
+more : (writes : Writing) (job : JobValue) (core : Calling) (writer left : WriterValue) (p : Procedure) (now from : ℕ) (packet : Packet) (q : Pending)
+    → Follows writes job core writer p → Gives writes job core packet (waits_in core p q from) → (q ≡ pendings.Nothing → ⊥) → FitsPending q
     → IsLeft writes job p.counts.page from q left → KeepsTurn p.state q core.formats p.counts.page p.turn → Next writes job core p now packet left q
-more writes job core text left p now from packet q f g some fits is_left turn =
+more writes job core writer left p now from packet q f g some fits is_left turn =
     record {
       follows =
           subst (λ (a : Calling). Follows writes job a left (behind_packet q p now)) (sym (core_behind writes job core now packet (waits_in core p q from) g))
-          (follows_more writes job core text left p now from q f some (pending_waits q (command_behind core.formats core.pages p.counts.page) p.counts.page from fits some) is_left turn);
+          (follows_more writes job core writer left p now from q f some (pending_waits q (command_behind core.formats core.pages p.counts.page) p.counts.page from fits some) is_left turn);
       given = packet_given writes job core now packet (waits_in core p q from) g;
     }
 
-last : (writes : Writing) (job : JobValue) (core : Calling) (text left : List ℕ) (p : Procedure) (now : ℕ) (packet : Packet)
-    → Follows writes job core text p → Gives writes job core packet [] → KeepsTurn p.state pendings.Nothing core.formats p.counts.page p.turn
+last : (writes : Writing) (job : JobValue) (core : Calling) (writer left : WriterValue) (p : Procedure) (now : ℕ) (packet : Packet)
+    → Follows writes job core writer p → Gives writes job core packet [] → KeepsTurn p.state pendings.Nothing core.formats p.counts.page p.turn
     → Next writes job core p now packet left pendings.Nothing
-last writes job core text left p now packet f g turn =
+last writes job core writer left p now packet f g turn =
     record {
       follows =
           subst (λ (a : Calling). Follows writes job a left (behind_packet pendings.Nothing p now)) (sym (core_behind writes job core now packet [] g))
-          (follows_last writes job core text left p now f turn);
+          (follows_last writes job core writer left p now f turn);
       given = packet_given writes job core now packet [] g;
     }
 
@@ -303,31 +305,31 @@ gives_one writes job core packet due w = record { d = One packet; due = due; wai
 abbrev KeepsTo : Calling → Procedure → Type 0
 KeepsTo core p = (r : Pending) → KeepsTurn p.state r core.formats p.counts.page p.turn
 
-check_next : (writes : Writing) (job : JobValue) (core : Calling) (text : List ℕ) (p : Procedure) (now : ℕ) (dcs : Dcs) (given : ℕ) (b : Bool)
-    → Follows writes job core text p → (b ≡ false → given + part_length dcs < check_length dcs)
+check_next : (writes : Writing) (job : JobValue) (core : Calling) (writer : WriterValue) (p : Procedure) (now : ℕ) (dcs : Dcs) (given : ℕ) (b : Bool)
+    → Follows writes job core writer p → (b ≡ false → given + part_length dcs < check_length dcs)
     → (if b then One (Part (kind_of dcs.rate) true (replicate (check_length dcs - given) 0)) ∷ []
     else One (Part (kind_of dcs.rate) false (replicate (part_length dcs) 0)) ∷ check_behind dcs (given + part_length dcs)) ≡ core.waiting
     → KeepsTo core p → Next writes job core p now
     (if b then Part (kind_of dcs.rate) true (replicate (check_length dcs - given) 0) else Part (kind_of dcs.rate) false (replicate (part_length dcs) 0))
-    text (if b then pendings.Nothing else pendings.Check dcs (given + part_length dcs))
-check_next writes job core text p now dcs given true f fits w turn = last writes job core text text p now _ f (gives_one writes job core _ [] w) (turn pendings.Nothing)
-check_next writes job core text p now dcs given false f fits w turn =
-    more writes job core text text p now 0 _ (pendings.Check dcs (given + part_length dcs)) f (gives_one writes job core _ _ w) (λ e. cc) (fits refl) tt (turn (pendings.Check dcs (given + part_length dcs)))
+    writer (if b then pendings.Nothing else pendings.Check dcs (given + part_length dcs))
+check_next writes job core writer p now dcs given true f fits w turn = last writes job core writer writer p now _ f (gives_one writes job core _ [] w) (turn pendings.Nothing)
+check_next writes job core writer p now dcs given false f fits w turn =
+    more writes job core writer writer p now 0 _ (pendings.Check dcs (given + part_length dcs)) f (gives_one writes job core _ _ w) (λ e. cc) (fits refl) tt (turn (pendings.Check dcs (given + part_length dcs)))
 
-text_next : (writes : Writing) (job : JobValue) (core : Calling) (text : List ℕ) (p : Procedure) (now from : ℕ) (dcs : Dcs) (plain : Plain) (b : Bool)
-    → Follows writes job core text p → b ≡ nat_le (length text) (part_length dcs)
+text_next : (writes : Writing) (job : JobValue) (core : Calling) (writer left : WriterValue) (p : Procedure) (now from : ℕ) (dcs : Dcs) (plain : Plain) (octets : List ℕ) (b : Bool)
+    → Follows writes job core writer p → b ≡ nat_le (length octets) (part_length dcs)
     → Text p.counts.page dcs from ∷ frame_reply (written_plain plain true) ≡ core.waiting
-    → text ≡ drop from (text_at writes job p.counts.page dcs) → KeepsTo core p
+    → octets ≡ drop from (text_at writes job p.counts.page dcs) → HasTextLeft writes job p.counts.page dcs (from + part_length dcs) left → KeepsTo core p
     → Next writes job core p now
-    (if b then Part (kind_of dcs.rate) true text else Part (kind_of dcs.rate) false (take (part_length dcs) text))
-    (drop (part_length dcs) text) (if b then pendings.Preamble (messages.Plain plain) else pendings.Text dcs plain)
-text_next writes job core text p now from dcs plain true f e w left turn =
-    more writes job core text _ p now 0 _ (pendings.Preamble (messages.Plain plain)) f
+    (if b then Part (kind_of dcs.rate) true octets else Part (kind_of dcs.rate) false (take (part_length dcs) octets))
+    left (if b then pendings.Preamble (messages.Plain plain) else pendings.Text dcs plain)
+text_next writes job core writer left p now from dcs plain octets true f e w is has turn =
+    more writes job core writer left p now 0 _ (pendings.Preamble (messages.Plain plain)) f
     (record {
       d = Text p.counts.page dcs from;
       due = frame_reply (written_plain plain true);
       waiting = sym w;
-      packet_is = ap (λ (t : Taken). t.packet) whole ∙ ap (λ (os : List ℕ). Part (kind_of dcs.rate) true os) (sym left);
+      packet_is = ap (λ (t : Taken). t.packet) whole ∙ ap (λ (os : List ℕ). Part (kind_of dcs.rate) true os) (sym is);
       rest_is = ap (λ (t : Taken). t.rest) whole;
     }) (λ q. cc) tt tt (turn (pendings.Preamble (messages.Plain plain)))
   where
@@ -339,16 +341,16 @@ text_next writes job core text p now from dcs plain true f e w left turn =
     by false x y h = cc
 
     whole : taken writes job (Text p.counts.page dcs from) (frame_reply (written_plain plain true)) ≡ record { packet = Part (kind_of dcs.rate) true (drop from all); rest = frame_reply (written_plain plain true) }
-    whole = by (nat_le (length (drop from all)) (part_length dcs)) _ _ (sym (e ∙ ap (λ (os : List ℕ). nat_le (length os) (part_length dcs)) left))
-text_next writes job core text p now from dcs plain false f e w left turn =
-    more writes job core text _ p now (from + part_length dcs) _ (pendings.Text dcs plain) f
+    whole = by (nat_le (length (drop from all)) (part_length dcs)) _ _ (sym (e ∙ ap (λ (os : List ℕ). nat_le (length os) (part_length dcs)) is))
+text_next writes job core writer left p now from dcs plain octets false f e w is has turn =
+    more writes job core writer left p now (from + part_length dcs) _ (pendings.Text dcs plain) f
     (record {
       d = Text p.counts.page dcs from;
       due = frame_reply (written_plain plain true);
       waiting = sym w;
-      packet_is = ap (λ (t : Taken). t.packet) partly ∙ ap (λ (os : List ℕ). Part (kind_of dcs.rate) false (take (part_length dcs) os)) (sym left);
+      packet_is = ap (λ (t : Taken). t.packet) partly ∙ ap (λ (os : List ℕ). Part (kind_of dcs.rate) false (take (part_length dcs) os)) (sym is);
       rest_is = ap (λ (t : Taken). t.rest) partly;
-    }) (λ q. cc) tt (ap (drop (part_length dcs)) left ∙ drops) (turn (pendings.Text dcs plain))
+    }) (λ q. cc) tt has (turn (pendings.Text dcs plain))
   where
     all : List ℕ
     all = text_at writes job p.counts.page dcs
@@ -359,63 +361,84 @@ text_next writes job core text p now from dcs plain false f e w left turn =
 
     partly : taken writes job (Text p.counts.page dcs from) (frame_reply (written_plain plain true))
         ≡ record { packet = Part (kind_of dcs.rate) false (take (part_length dcs) (drop from all)); rest = Text p.counts.page dcs (from + part_length dcs) ∷ frame_reply (written_plain plain true) }
-    partly = by (nat_le (length (drop from all)) (part_length dcs)) _ _ (sym (e ∙ ap (λ (os : List ℕ). nat_le (length os) (part_length dcs)) left))
+    partly = by (nat_le (length (drop from all)) (part_length dcs)) _ _ (sym (e ∙ ap (λ (os : List ℕ). nat_le (length os) (part_length dcs)) is))
 
-    drops : drop (part_length dcs) (drop from all) ≡ drop (from + part_length dcs) all
-    drops = drop-drop (part_length dcs) from all
-
-next_by : (writes : Writing) (job : JobValue) (core : Calling) (text : List ℕ) (p : Procedure) (now : ℕ) → Follows writes job core text p → KeepsTo core p
-    → (q : Pending) → FitsPending q → (q ≡ pendings.Nothing → ⊥) → ((dcs : Dcs) → q ≡ pendings.Image dcs → ⊥) → (from : ℕ) → waits_in core p q from ≡ core.waiting
-    → IsLeft writes job p.counts.page from q text
-    → Next writes job core p now (packet_of q text) (text_behind q [] text) (pending_behind q (command_kept p) (length text))
-next_by writes job core text p now f turn pendings.Nothing fits some other from w left = absurd (some refl)
-next_by writes job core text p now f turn pendings.Tone fits some other from w left =
-    last writes job core text text p now (packet_of pendings.Tone text) f (gives_one writes job core (packet_of pendings.Tone text) [] w) (turn pendings.Nothing)
-next_by writes job core text p now f turn (pendings.Preamble m) fits some other from w left =
-    more writes job core text text p now from (packet_of (pendings.Preamble m) text) (pendings.Frame m) f (gives_one writes job core (packet_of (pendings.Preamble m) text) (framed m) w) (λ e. cc) fits tt (turn (pendings.Frame m))
-next_by writes job core text p now f turn (pendings.Frame (messages.Dcs dcs)) fits some other from w left =
-    more writes job core text text p now from (Tells (written_dcs dcs)) (pendings.Training dcs) f (gives_one writes job core (Tells (written_dcs dcs)) (training_behind dcs) w) (λ e. cc) tt tt (turn (pendings.Training dcs))
-next_by writes job core text p now f turn (pendings.Frame (messages.Plain plain)) fits some other from w left =
-    last writes job core text text p now (Tells (written_plain plain true)) f (gives_one writes job core (Tells (written_plain plain true)) [] w) (turn pendings.Nothing)
-next_by writes job core text p now f turn (pendings.Training dcs) fits some other from w left =
-    more writes job core text text p now 0 (packet_of (pendings.Training dcs) text) (pendings.Check dcs 0) f
-    (subst (λ (due : List Due). Gives writes job core (packet_of (pendings.Training dcs) text) due) (check_begins dcs) (gives_one writes job core (packet_of (pendings.Training dcs) text) (training_check dcs) w))
+next_by : (writes : Writing) (job : JobValue) (core : Calling) (writer : WriterValue) (p : Procedure) (now : ℕ) → Follows writes job core writer p → KeepsTo core p
+    → (q : Pending) → FitsPending q → (q ≡ pendings.Nothing → ⊥) → ((dcs : Dcs) → q ≡ pendings.Image dcs → ⊥) → ((dcs : Dcs) (asks : Plain) → q ≡ pendings.Text dcs asks → ⊥)
+    → (from : ℕ) → waits_in core p q from ≡ core.waiting
+    → Next writes job core p now (packet_of q) writer (pending_behind q (command_kept p) false)
+next_by writes job core writer p now f turn pendings.Nothing fits some other no_text from w = absurd (some refl)
+next_by writes job core writer p now f turn pendings.Tone fits some other no_text from w =
+    last writes job core writer writer p now (packet_of pendings.Tone) f (gives_one writes job core (packet_of pendings.Tone) [] w) (turn pendings.Nothing)
+next_by writes job core writer p now f turn (pendings.Preamble m) fits some other no_text from w =
+    more writes job core writer writer p now from (packet_of (pendings.Preamble m)) (pendings.Frame m) f (gives_one writes job core (packet_of (pendings.Preamble m)) (framed m) w) (λ e. cc) fits tt (turn (pendings.Frame m))
+next_by writes job core writer p now f turn (pendings.Frame (messages.Dcs dcs)) fits some other no_text from w =
+    more writes job core writer writer p now from (Tells (written_dcs dcs)) (pendings.Training dcs) f (gives_one writes job core (Tells (written_dcs dcs)) (training_behind dcs) w) (λ e. cc) tt tt (turn (pendings.Training dcs))
+next_by writes job core writer p now f turn (pendings.Frame (messages.Plain plain)) fits some other no_text from w =
+    last writes job core writer writer p now (Tells (written_plain plain true)) f (gives_one writes job core (Tells (written_plain plain true)) [] w) (turn pendings.Nothing)
+next_by writes job core writer p now f turn (pendings.Training dcs) fits some other no_text from w =
+    more writes job core writer writer p now 0 (packet_of (pendings.Training dcs)) (pendings.Check dcs 0) f
+    (subst (λ (due : List Due). Gives writes job core (packet_of (pendings.Training dcs)) due) (check_begins dcs) (gives_one writes job core (packet_of (pendings.Training dcs)) (training_check dcs) w))
     (λ e. cc) (check_some dcs) tt (turn (pendings.Check dcs 0))
-next_by writes job core text p now f turn (pendings.Check dcs given) fits some other from w left =
-    check_next writes job core text p now dcs given (nat_le (check_length dcs - given) (part_length dcs)) f
+next_by writes job core writer p now f turn (pendings.Check dcs given) fits some other no_text from w =
+    check_next writes job core writer p now dcs given (nat_le (check_length dcs - given) (part_length dcs)) f
     (λ h. let more_left : part_length dcs < check_length dcs - given = not_le (check_length dcs - given) (part_length dcs) h in omega arith)
     (sym (check_step dcs given fits) ∙ w) turn
-next_by writes job core text p now f turn (pendings.Image dcs) fits some other from w left = absurd (other dcs refl)
-next_by writes job core text p now f turn (pendings.Text dcs plain) fits some other from w left =
-    text_next writes job core text p now from dcs plain (nat_le (length text) (part_length dcs)) f refl w left turn
+next_by writes job core writer p now f turn (pendings.Image dcs) fits some other no_text from w = absurd (other dcs refl)
+next_by writes job core writer p now f turn (pendings.Text dcs plain) fits some other no_text from w = absurd (no_text dcs plain refl)
 
-behind_drop : (q : Pending) (text : List ℕ) → ((dcs : Dcs) → q ≡ pendings.Image dcs → ⊥) → text_behind q [] text ≡ drop (text_octets q) text
-behind_drop pendings.Nothing text other = refl
-behind_drop pendings.Tone text other = refl
-behind_drop (pendings.Preamble m) text other = refl
-behind_drop (pendings.Frame m) text other = refl
-behind_drop (pendings.Training dcs) text other = refl
-behind_drop (pendings.Check dcs given) text other = refl
-behind_drop (pendings.Image dcs) text other = absurd (other dcs refl)
-behind_drop (pendings.Text dcs plain) text other = refl
+-- a packet that is no short training indicator and none of a text
+pub packet_next : (writes : Writing) (job : JobValue) (core : Calling) (writer : WriterValue) (p : Procedure) (now : ℕ) → IsFit p → Follows writes job core writer p
+    → (p.pending ≡ pendings.Nothing → ⊥) → ((dcs : Dcs) → p.pending ≡ pendings.Image dcs → ⊥) → ((dcs : Dcs) (asks : Plain) → p.pending ≡ pendings.Text dcs asks → ⊥)
+    → GivesNext writes job core now (packet_of p.pending) writer (given_by p false now)
+packet_next writes job core writer p now fit f some other no_text =
+    next_by writes job core writer p now f (λ r. turn_kept p.state p.pending r core.formats p.counts.page p.turn other f.turn) p.pending fit.pending some other no_text f.from f.waiting
 
--- a packet that is no short training indicator
-pub packet_next : (writes : Writing) (job : JobValue) (core : Calling) (text : List ℕ) (p : Procedure) (now : ℕ) → IsFit p → Follows writes job core text p
-    → (p.pending ≡ pendings.Nothing → ⊥) → ((dcs : Dcs) → p.pending ≡ pendings.Image dcs → ⊥)
-    → GivesNext writes job core now (packet_of p.pending text) (drop (text_octets p.pending) text) (given_by p (length text) now)
-packet_next writes job core text p now fit f some other =
-    subst (λ (left : List ℕ). GivesNext writes job core now (packet_of p.pending text) left (given_by p (length text) now)) (behind_drop p.pending text other)
-    (next_by writes job core text p now f (λ r. turn_kept p.state p.pending r core.formats p.counts.page p.turn other f.turn) p.pending fit.pending some other f.from f.waiting f.left)
+is_at_same : (job : JobValue) (n : ℕ) (page value : PageValue) → slice_get job.pages n ≡ Some page → slice_get job.pages n ≡ Some value → page ≡ value
+is_at_same job n page value is at = let e : Some page ≡ Some value = sym is ∙ at in cc
 
--- a short training indicator, with which the text is made, and the job tells the next page's format
-pub image_next : (writes : Writing) (job : JobValue) (core : Calling) (text : List ℕ) (p : Procedure) (now : ℕ) (dcs : Dcs) → IsFit p → Follows writes job core text p
-    → p.pending ≡ pendings.Image dcs
-    → GivesNext writes job core now (packet_of p.pending []) (text_at writes job p.counts.page dcs) (given_by (with_turn p job) 0 now)
-image_next writes job core text p now dcs fit f e =
-    let made : List ℕ = text_at writes job p.counts.page dcs in
-    subst (λ (q : Pending). GivesNext writes job core now (packet_of q []) made (behind_packet (pending_behind q (command_kept told) 0) told now)) (sym e)
-    (more writes job core text made told now 0 (packet_of (pendings.Image dcs) []) (pendings.Text dcs (command_kept told)) follows
-    (gives_one writes job core (packet_of (pendings.Image dcs) []) (Text p.counts.page dcs 0 ∷ command (command_kept told)) waits_so) (λ h. cc) tt refl
+text_of : (writes : Writing) (job : JobValue) (page : ℕ) (dcs : Dcs) (asks : Plain) (from : ℕ) (q : Pending) (writer : WriterValue) → q ≡ pendings.Text dcs asks → IsLeft writes job page from q writer → HasTextLeft writes job page dcs from writer
+text_of writes job page dcs asks from q writer e left = subst (λ (r : Pending). IsLeft writes job page from r writer) e left
+
+-- a packet of a text, whatever is left of it to the writer
+pub text_gives : (writes : Writing) (job : JobValue) (core : Calling) (writer new : WriterValue) (p : Procedure) (now : ℕ) (dcs : Dcs) (asks : Plain) (page : PageValue) (octets : List ℕ) (is_last : Bool)
+    → IsFit p → Follows writes job core writer p → p.pending ≡ pendings.Text dcs asks → slice_get job.pages p.counts.page ≡ Some page
+    → ((left : List ℕ) → HasLeft page left writer → octets ≡ written (text_part dcs left)) → ((left : List ℕ) → HasLeft page left writer → is_last ≡ nat_le (length left) (part_length dcs))
+    → ((left : List ℕ) → HasLeft page left writer → HasLeft page (drop (part_length dcs) left) new)
+    → GivesPacket writes job core now (Some octets) new (given_by p is_last now)
+text_gives writes job core writer new p now dcs asks page octets is_last fit f e is packet_is last_is left_is =
+    record {
+      packet = text_part dcs left;
+      octets = ap (λ (os : List ℕ). Some os) (packet_is left has);
+      next =
+          subst (λ (q : Pending). GivesNext writes job core now (text_part dcs left) new (behind_packet (pending_behind q (command_kept p) is_last) p now)) (sym e)
+          (subst (λ (b : Bool). Next writes job core p now (text_part dcs left) new (if b then pendings.Preamble (messages.Plain asks) else pendings.Text dcs asks)) (sym (last_is left has))
+          (text_next writes job core writer new p now f.from dcs asks left (nat_le (length left) (part_length dcs)) f refl waits_so refl more_so
+          (λ r. turn_kept p.state p.pending r core.formats p.counts.page p.turn (λ d k. let both : pendings.Text dcs asks ≡ pendings.Image d = sym e ∙ k in cc) f.turn)));
+    }
+  where
+    left : List ℕ
+    left = drop f.from (text_at writes job p.counts.page dcs)
+
+    has : HasLeft page left writer
+    has = text_of writes job p.counts.page dcs asks f.from p.pending writer e f.left page is
+
+    waits_so : Text p.counts.page dcs f.from ∷ frame_reply (written_plain asks true) ≡ core.waiting
+    waits_so = sym (ap (λ (q : Pending). waits_in core p q f.from) e) ∙ f.waiting
+
+    more_so : HasTextLeft writes job p.counts.page dcs (f.from + part_length dcs) new
+    more_so value at =
+        subst (λ (v : PageValue). HasLeft v (drop (f.from + part_length dcs) (text_at writes job p.counts.page dcs)) new) (is_at_same job p.counts.page page value is at)
+        (subst (λ (os : List ℕ). HasLeft page os new) (drop-drop (part_length dcs) f.from (text_at writes job p.counts.page dcs)) (left_is left has))
+
+-- a short training indicator, behind which all of the text is left, and the job tells the next page's format
+pub image_next : (writes : Writing) (job : JobValue) (core : Calling) (writer made : WriterValue) (p : Procedure) (now : ℕ) (dcs : Dcs) → IsFit p → Follows writes job core writer p
+    → p.pending ≡ pendings.Image dcs → HasTextLeft writes job p.counts.page dcs 0 made
+    → GivesNext writes job core now (packet_of p.pending) made (given_by (with_turn p job) false now)
+image_next writes job core writer made p now dcs fit f e has =
+    subst (λ (q : Pending). GivesNext writes job core now (packet_of q) made (behind_packet (pending_behind q (command_kept told) false) told now)) (sym e)
+    (more writes job core writer made told now 0 (packet_of (pendings.Image dcs)) (pendings.Text dcs (command_kept told)) follows
+    (gives_one writes job core (packet_of (pendings.Image dcs)) (Text p.counts.page dcs 0 ∷ command (command_kept told)) waits_so) (λ h. cc) tt has
     (turn_named p.state (pendings.Text dcs (command_kept told)) core.formats p.counts.page told.turn turn_so))
   where
     told : Procedure
@@ -430,12 +453,12 @@ image_next writes job core text p now dcs fit f e =
     asks : command_kept told ≡ command_behind core.formats core.pages p.counts.page
     asks = ap (λ (t : Option Format). command_by (is_last_page p.pages p.counts.page) t) turn_so ∙ ap (λ (n : ℕ). command_by (is_last_page n p.counts.page) (turn_behind core.formats p.counts.page)) f.pages
 
-    waits_so : One (packet_of (pendings.Image dcs) []) ∷ Text p.counts.page dcs 0 ∷ command (command_kept told) ≡ core.waiting
+    waits_so : One (packet_of (pendings.Image dcs)) ∷ Text p.counts.page dcs 0 ∷ command (command_kept told) ≡ core.waiting
     waits_so =
-        ap (λ (plain : Plain). One (packet_of (pendings.Image dcs) []) ∷ Text p.counts.page dcs 0 ∷ command plain) asks
+        ap (λ (plain : Plain). One (packet_of (pendings.Image dcs)) ∷ Text p.counts.page dcs 0 ∷ command plain) asks
         ∙ sym (ap (λ (q : Pending). waits_in core p q f.from) e) ∙ f.waiting
 
-    follows : Follows writes job core text told
+    follows : Follows writes job core writer told
     follows = record {
       state = f.state;
       format = f.format;
@@ -453,34 +476,42 @@ image_next writes job core text p now dcs fit f e =
     }
 
 -- what a tick leaves that gives a packet
-pub reached_gives : (writes : Writing) (job : JobValue) (heard : List Slot) (core : Calling) (now : ℕ) (packet : Packet) (left : List ℕ) (new : Procedure) (kept : Kept)
+pub reached_gives : (writes : Writing) (job : JobValue) (heard : List Slot) (core : Calling) (now : ℕ) (packet : Packet) (left : WriterValue) (new : Procedure) (kept : Kept)
     → IsTracked heard kept.tracked → gives_now (timed core now) now ≡ true → GivesNext writes job (timed core now) now packet left new
-    → kept.procedure ≡ new → kept.text ≡ left
+    → kept.procedure ≡ new → kept.writer ≡ left
     → IsReached writes job heard (ticked writes job core now).core kept × IsGiven (ticked writes job core now) (Some (written packet))
-reached_gives writes job heard core now packet left new kept tracked gives next procedure text =
+reached_gives writes job heard core now packet left new kept tracked gives next procedure writer =
     let e : ticked writes job core now ≡ given_first writes job (timed core now) now (timed core now).waiting = gives_first writes job (timed core now) now gives in (
       record {
         tracked = tracked;
         follows =
-            subst (λ (t : Ticked). Follows writes job t.core kept.text kept.procedure) (sym e)
-            (subst (λ (xs : List ℕ). Follows writes job (given_first writes job (timed core now) now (timed core now).waiting).core xs kept.procedure) (sym text)
+            subst (λ (t : Ticked). Follows writes job t.core kept.writer kept.procedure) (sym e)
+            (subst (λ (w : WriterValue). Follows writes job (given_first writes job (timed core now) now (timed core now).waiting).core w kept.procedure) (sym writer)
             (subst (λ (p : Procedure). Follows writes job (given_first writes job (timed core now) now (timed core now).waiting).core left p) (sym procedure) next.follows));
       },
       sym (ap (λ (t : Ticked). option_map written t.given) e ∙ ap (option_map written) next.given),
     )
 
 pub reached_rests : (writes : Writing) (job : JobValue) (heard : List Slot) (core : Calling) (now : ℕ) (kept : Kept)
-    → IsTracked heard kept.tracked → gives_now (timed core now) now ≡ false → Follows writes job (timed core now) kept.text kept.procedure
+    → IsTracked heard kept.tracked → gives_now (timed core now) now ≡ false → Follows writes job (timed core now) kept.writer kept.procedure
     → IsReached writes job heard (ticked writes job core now).core kept × IsGiven (ticked writes job core now) None
 reached_rests writes job heard core now kept tracked gives f =
     let e : ticked writes job core now ≡ record { core = timed core now; given = None } = rests_now writes job (timed core now) now gives in (
-      record { tracked = tracked; follows = subst (λ (t : Ticked). Follows writes job t.core kept.text kept.procedure) (sym e) f },
+      record { tracked = tracked; follows = subst (λ (t : Ticked). Follows writes job t.core kept.writer kept.procedure) (sym e) f },
       sym (ap (λ (t : Ticked). option_map written t.given) e),
     )
 
 pub if_given : {E : Type 0} (r : Result (Option (List ℕ)) E) (P : Option (List ℕ) → Type 0) (x : Option (List ℕ)) (Q : Type 0) → IfOk r (λ a. a ≡ x) → OnOk r Q → (Q → P x) → IfOk r P
 if_given (Ok a) P x Q e q f = subst P (sym e) (f q)
 if_given (Err a) P x Q e q f = tt
+
+pub on_both : {A E : Type 0} (r : Result A E) (P Q : Type 0) → OnOk r P → OnOk r Q → OnOk r (P × Q)
+on_both (Ok a) P Q p q = (p, q)
+on_both (Err a) P Q p q = tt
+
+pub if_on : {A E : Type 0} (r : Result A E) (P R : A → Type 0) (Q : Type 0) → IfOk r P → OnOk r Q → ((a : A) → P a → Q → R a) → IfOk r R
+if_on (Ok a) P R Q p q f = f a p q
+if_on (Err a) P R Q p q f = tt
 
 pub on_given : {A E : Type 0} (r : Result A E) (Q R : Type 0) → OnOk r Q → (Q → R) → OnOk r R
 on_given (Ok a) Q R q f = f q
@@ -499,19 +530,19 @@ job_kept p (pendings.Image dcs) now job turn is = record { pages = is.pages; due
 job_kept p (pendings.Text dcs plain) now job turn is = record { pages = is.pages; due = is.due; turn = turn }
 
 -- so where a packet is given that is no short training indicator, and where one is
-pub packet_job : (p : Procedure) (left now : ℕ) (job : JobValue) → ((dcs : Dcs) → p.pending ≡ pendings.Image dcs → ⊥) → HasFormats p job → HasFormats (given_by p left now) job
-packet_job p left now job other is =
-    let q : Pending = pending_behind p.pending (command_kept p) left in
+pub packet_job : (p : Procedure) (last : Bool) (now : ℕ) (job : JobValue) → ((dcs : Dcs) → p.pending ≡ pendings.Image dcs → ⊥) → HasFormats p job → HasFormats (given_by p last now) job
+packet_job p last now job other is =
+    let q : Pending = pending_behind p.pending (command_kept p) last in
     job_kept p q now job (turn_kept p.state p.pending q (formats_of job) p.counts.page p.turn other is.turn) is
 
-pub image_job : (p : Procedure) (left now : ℕ) (job : JobValue) → HasFormats p job → HasFormats (given_by (with_turn p job) left now) job
-image_job p left now job is =
+pub image_job : (p : Procedure) (last : Bool) (now : ℕ) (job : JobValue) → HasFormats p job → HasFormats (given_by (with_turn p job) last now) job
+image_job p last now job is =
     let told : Procedure = with_turn p job in
-    let q : Pending = pending_behind p.pending (command_kept told) left in
+    let q : Pending = pending_behind p.pending (command_kept told) last in
     job_kept told q now job (turn_named p.state q (formats_of job) p.counts.page told.turn refl)
     (record { pages = is.pages; due = is.due; turn = turn_named p.state p.pending (formats_of job) p.counts.page told.turn refl })
 
--- the text is not empty while it is given
+-- something is left of a text while it is given
 pub given_pending : (q : Pending) (p : Procedure) (now : ℕ) → (behind_packet q p now).pending ≡ q
 given_pending pendings.Nothing p now = refl
 given_pending pendings.Tone p now = refl
@@ -522,25 +553,18 @@ given_pending (pendings.Check dcs given) p now = refl
 given_pending (pendings.Image dcs) p now = refl
 given_pending (pendings.Text dcs plain) p now = refl
 
-pub has_behind : (q : Pending) (asks : Plain) (text : List ℕ) → ((dcs : Dcs) → q ≡ pendings.Image dcs → ⊥)
-    → HasText (pending_behind q asks (length text)) (drop (text_octets q) text)
-has_behind pendings.Nothing asks text other = tt
-has_behind pendings.Tone asks text other = tt
-has_behind (pendings.Preamble m) asks text other = tt
-has_behind (pendings.Frame (messages.Dcs dcs)) asks text other = tt
-has_behind (pendings.Frame (messages.Plain plain)) asks text other = tt
-has_behind (pendings.Training dcs) asks text other = tt
-has_behind (pendings.Check dcs given) asks text other = by (nat_le (check_length dcs - given) (part_length dcs))
+pub has_behind : (q : Pending) (asks : Plain) (writer : WriterValue) → ((dcs : Dcs) → q ≡ pendings.Image dcs → ⊥) → ((dcs : Dcs) (plain : Plain) → q ≡ pendings.Text dcs plain → ⊥)
+    → HasText (pending_behind q asks false) writer
+has_behind pendings.Nothing asks writer other no_text = tt
+has_behind pendings.Tone asks writer other no_text = tt
+has_behind (pendings.Preamble m) asks writer other no_text = tt
+has_behind (pendings.Frame (messages.Dcs dcs)) asks writer other no_text = tt
+has_behind (pendings.Frame (messages.Plain plain)) asks writer other no_text = tt
+has_behind (pendings.Training dcs) asks writer other no_text = tt
+has_behind (pendings.Check dcs given) asks writer other no_text = by (nat_le (check_length dcs - given) (part_length dcs))
   where
-    by : (b : Bool) → HasText (if b then pendings.Nothing else pendings.Check dcs (given + part_length dcs)) text
+    by : (b : Bool) → HasText (if b then pendings.Nothing else pendings.Check dcs (given + part_length dcs)) writer
     by true = tt
     by false = tt
-has_behind (pendings.Image dcs) asks text other = absurd (other dcs refl)
-has_behind (pendings.Text dcs plain) asks text other = by (nat_le (length text) (part_length dcs)) (λ h. h)
-  where
-    by : (b : Bool) → (b ≡ false → nat_le (length text) (part_length dcs) ≡ false) → HasText (if b then pendings.Preamble (messages.Plain plain) else pendings.Text dcs plain) (drop (part_length dcs) text)
-    by true h = tt
-    by false h =
-        let long : part_length dcs < length text = not_le (length text) (part_length dcs) (h refl) in
-        let left : length (drop (part_length dcs) text) ≡ length text - part_length dcs = length-drop (part_length dcs) text in
-        omega arith
+has_behind (pendings.Image dcs) asks writer other no_text = absurd (other dcs refl)
+has_behind (pendings.Text dcs plain) asks writer other no_text = absurd (no_text dcs plain refl)

@@ -10,6 +10,7 @@ use Rattle.fax_ifp.specs.Shown.{piece_of, pieces_shown}
 use Rattle.fax_ifp.specs.Tracked.{Tracked, IsTracked, TracksRun, GivesRun, Tracks, Gives, lost_slots}
 use Rattle.fax_udptl.specs.Reading.{texts}
 use Rattle.fax_jobs.specs.Jobs.{JobValue}
+use Rattle.fax_pagestore.specs.Writers.{WriterValue}
 use Rattle.fax_call.specs.declared.procedure.Procedure.{Procedure}
 use Rattle.fax_call.specs.Writings.{Writing}
 use Rattle.fax_call.specs.Calls.{Calling, came, came_all}
@@ -52,8 +53,8 @@ reversed_lost (suc n) = reverse-append (None ∷ []) (lost_slots n) ∙ ap (λ (
 -- LOST SLOTS bring nothing about
 pub loses : (writes : Writing) (job : JobValue) (count now : ℕ) (heard : List Slot) (core : Calling) (old new : Kept) → IsReached writes job heard core old
     → TracksRun (lost_slots count) old.tracked new.tracked → GivesRun (lost_slots count) old.tracked (replicate count Gap)
-    → new.procedure ≡ old.procedure → new.text ≡ old.text → Hears writes job (lost_slots count) now heard core new
-loses writes job count now heard core old new r tracks gives procedure text =
+    → new.procedure ≡ old.procedure → new.writer ≡ old.writer → Hears writes job (lost_slots count) now heard core new
+loses writes job count now heard core old new r tracks gives procedure writer =
     let back : reverse (lost_slots count) ≡ lost_slots count = reversed_lost count in
     record {
       given = replicate count Gap;
@@ -61,16 +62,16 @@ loses writes job count now heard core old new r tracks gives procedure text =
       reached = record {
         tracked = subst (λ (s : List Slot). IsTracked (s ++ heard) new.tracked) (sym back) (tracks heard r.tracked);
         follows =
-            subst (λ (a : Calling). Follows writes job a new.text new.procedure) (sym (came_gaps count core now))
-            (subst (λ (t : List ℕ). Follows writes job core t new.procedure) (sym text)
-            (subst (λ (p : Procedure). Follows writes job core old.text p) (sym procedure) r.follows));
+            subst (λ (a : Calling). Follows writes job a new.writer new.procedure) (sym (came_gaps count core now))
+            (subst (λ (w : WriterValue). Follows writes job core w new.procedure) (sym writer)
+            (subst (λ (p : Procedure). Follows writes job core old.writer p) (sym procedure) r.follows));
       };
     }
 
 -- A PACKET in the next slot
 pub hears_more : (writes : Writing) (job : JobValue) (slots : List Slot) (now : ℕ) (packet : List ℕ) (heard : List Slot) (core : Calling) (mid new : Kept) (tracked : Tracked) (given : List Piece)
     → Hears writes job slots now heard core mid → Tracks (Some packet) mid.tracked tracked → Gives (Some packet) mid.tracked given → new.tracked ≡ tracked
-    → ((a : Calling) → Follows writes job a mid.text mid.procedure → Follows writes job (came_all a given now) new.text new.procedure)
+    → ((a : Calling) → Follows writes job a mid.writer mid.procedure → Follows writes job (came_all a given now) new.writer new.procedure)
     → Hears writes job (slots ++ Some packet ∷ []) now heard core new
 hears_more writes job slots now packet heard core mid new tracked given h tracks gives same takes =
     let back : reverse (slots ++ Some packet ∷ []) ++ heard ≡ Some packet ∷ (reverse slots ++ heard) = ap (λ (s : List Slot). s ++ heard) (reverse-append slots (Some packet ∷ [])) in
@@ -79,6 +80,6 @@ hears_more writes job slots now packet heard core mid new tracked given h tracks
       pieces = ap pieces back ∙ gives (reverse slots ++ heard) h.reached.tracked ∙ ap (λ (ps : List Piece). ps ++ given) h.pieces ∙ append_assoc (pieces heard) h.given given;
       reached = record {
         tracked = subst (λ (s : List Slot). IsTracked s new.tracked) (sym back) (subst (λ (k : Tracked). IsTracked (Some packet ∷ (reverse slots ++ heard)) k) (sym same) (tracks (reverse slots ++ heard) h.reached.tracked));
-        follows = subst (λ (a : Calling). Follows writes job a new.text new.procedure) (sym (came_append core h.given given now)) (takes (came_all core h.given now) h.reached.follows);
+        follows = subst (λ (a : Calling). Follows writes job a new.writer new.procedure) (sym (came_append core h.given given now)) (takes (came_all core h.given now) h.reached.follows);
       };
     }

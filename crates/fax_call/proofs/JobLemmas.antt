@@ -1,9 +1,15 @@
 -- The formats that are kept of a job stay those of its pages.
-use Rattle.std.proofs.Common.{◌≡◌, ℕ, zero, suc, ◌<◌, List, [], ◌∷◌, length, drop, slice_get, Option, Some, None, refl, sym, ◌∙◌, ap, subst, arith}
+use Rattle.std.proofs.Common.{◌≡◌, ℕ, zero, suc, ◌<◌, false, List, [], ◌∷◌, length, slice_get, Option, Some, None, refl, sym, ◌∙◌, ap, subst, arith}
 use Rattle.std.proofs.lemmas.List.{length-map}
+use Rattle.std.proofs.lemmas.List.Elements.{All-nil}
+use Rattle.fax_bits.proofs.BitsLemmas.{bits_of-nil}
+use Rattle.fax_runcodes.specs.declared.Width.TheVariants.{W1728}
+use Rattle.fax_runcodes.specs.declared.format.Coding.TheVariants.{Mh}
 use Rattle.fax_runcodes.specs.declared.format.Format.{Format}
 use Rattle.fax_frames.specs.declared.dcs.Dcs.{Dcs}
+use Rattle.fax_pagestore.specs.declared.writer.Place.TheVariants.{End}
 use Rattle.fax_pagestore.specs.Pages.{PageValue}
+use Rattle.fax_pagestore.specs.Writers.{WriterValue, HasLeft}
 use Rattle.fax_ifp.specs.Pieces.{Piece}
 use Rattle.fax_jobs.specs.Jobs.{JobValue}
 use Rattle.fax_call.specs.declared.pending.Pending.{Pending}
@@ -46,7 +52,19 @@ no_text job page dcs = by (slice_get job.pages page)
     by None = refl
     by (Some p) = refl
 
-none_left : (job : JobValue) (page : ℕ) (q : Pending) → IsLeft empty job page 0 q []
+-- a writer of a page that has given all of it
+done : Option PageValue → WriterValue
+done None = record { format = record { width = W1728; fine = false }; coding = Mh; least = 0; place = End; waiting = [] }
+done (Some page) = record { format = page.format; coding = Mh; least = 0; place = End; waiting = [] }
+
+done_of : Procedure → JobValue → WriterValue
+done_of p job = done (slice_get job.pages p.counts.page)
+
+done_has : (page : PageValue) → HasLeft page [] (done (Some page))
+unfolding done
+done_has page = record { are_octets = All-nil (λ (o : ℕ). o < 256); same_format = refl; text = []; written = refl; padded = (0, omega arith, bits_of-nil) }
+
+none_left : (job : JobValue) (page : ℕ) (q : Pending) → IsLeft empty job page 0 q (done (slice_get job.pages page))
 none_left job page Nothing = tt
 none_left job page Tone = tt
 none_left job page (Preamble m) = tt
@@ -54,10 +72,12 @@ none_left job page (Frame m) = tt
 none_left job page (Training dcs) = tt
 none_left job page (Check dcs given) = tt
 none_left job page (Image dcs) = tt
-none_left job page (Text dcs plain) = sym (ap (drop 0) (no_text job page dcs))
+none_left job page (Text dcs plain) = λ value at.
+    subst (λ (octets : List ℕ). HasLeft value octets (done (slice_get job.pages page))) (sym (no_text job page dcs))
+    (subst (λ (o : Option PageValue). HasLeft value [] (done o)) (sym at) (done_has value))
 
-follows_itself : (job : JobValue) (p : Procedure) → HasFormats p job → Follows empty job (core_of p job) [] p
-unfolding core_of
+follows_itself : (job : JobValue) (p : Procedure) → HasFormats p job → Follows empty job (core_of p job) (done_of p job) p
+unfolding core_of done_of
 follows_itself job p h =
     record {
       state = refl;
@@ -90,9 +110,9 @@ some_at [] n h = absurd (omega arith)
 some_at (f ∷ fs) zero h = (f, refl)
 some_at (f ∷ fs) (suc n) h = some_at fs n (omega arith)
 
-has_formats : (writes : Writing) (job : JobValue) (core : Calling) (text : List ℕ) (p : Procedure) → Follows writes job core text p → IsDue (formats_of job) core → core.pages ≡ length job.pages → IsFit p
+has_formats : (writes : Writing) (job : JobValue) (core : Calling) (writer : WriterValue) (p : Procedure) → Follows writes job core writer p → IsDue (formats_of job) core → core.pages ≡ length job.pages → IsFit p
     → HasFormats p job
-has_formats writes job core text p f d pages fit =
+has_formats writes job core writer p f d pages fit =
     record {
       pages = sym pages ∙ sym f.pages;
       due = at.1 ∙ ap (λ (x : Format). Some x) (d.due at.0 (sym (ap (slice_get (formats_of job)) page) ∙ at.1) ∙ sym f.format);
@@ -132,17 +152,17 @@ all_pages a [] now = refl
 all_pages a (p ∷ ps) now = all_pages (came a p now) ps now ∙ moved_pages a _
 
 pub heard_job : (old new : Procedure) (job : JobValue) (ps : List Piece) (now : ℕ)
-    → ((writes : Writing) (job : JobValue) (core : Calling) (text : List ℕ) → Follows writes job core text old → Follows writes job (came_all core ps now) text new)
+    → ((writes : Writing) (job : JobValue) (core : Calling) (writer : WriterValue) → Follows writes job core writer old → Follows writes job (came_all core ps now) writer new)
     → IsFit new → HasFormats old job → HasFormats new job
 heard_job old new job ps now heard fit h =
     let core : Calling = core_of old job in
-    has_formats empty job (came_all core ps now) [] new (heard empty job core [] (follows_itself job old h)) (all_due (formats_of job) core ps now (due_itself job old h))
+    has_formats empty job (came_all core ps now) (done_of old job) new (heard empty job core (done_of old job) (follows_itself job old h)) (all_due (formats_of job) core ps now (due_itself job old h))
     (all_pages core ps now ∙ pages_itself job old h) fit
 
 pub acted_job : (old new : Procedure) (job : JobValue) (now : ℕ)
-    → ((writes : Writing) (job : JobValue) (core : Calling) (text : List ℕ) → Follows writes job core text old → Follows writes job (timed core now) text new)
+    → ((writes : Writing) (job : JobValue) (core : Calling) (writer : WriterValue) → Follows writes job core writer old → Follows writes job (timed core now) writer new)
     → IsFit new → HasFormats old job → HasFormats new job
 acted_job old new job now acted fit h =
     let core : Calling = core_of old job in
-    has_formats empty job (timed core now) [] new (acted empty job core [] (follows_itself job old h)) (timed_due (formats_of job) core now (due_itself job old h))
+    has_formats empty job (timed core now) (done_of old job) new (acted empty job core (done_of old job) (follows_itself job old h)) (timed_due (formats_of job) core now (due_itself job old h))
     (moved_pages core _ ∙ pages_itself job old h) fit

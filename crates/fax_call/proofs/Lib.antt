@@ -18,6 +18,13 @@ mod Unanswered
 mod Waiting
 pub mod ClosedPackets
 pub mod Emitted
+pub mod EmittedOrder
+pub mod FinePackets
+pub mod GivenSignals
+pub mod ImagesInOrder
+mod OneKind
+pub mod SignalsGiven
+mod ToldFrames
 pub mod Due
 pub mod GivingUp
 pub mod Lacking

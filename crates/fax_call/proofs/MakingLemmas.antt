@@ -9,6 +9,7 @@ use Rattle.fax_timers.specs.Moments.{moment_after}
 use Rattle.fax_timers.specs.Spans as spans
 use Rattle.fax_jobs.specs.declared.outcome.Outcome.{Outcome}
 use Rattle.fax_jobs.specs.Jobs.{JobValue}
+use Rattle.fax_pagestore.specs.Writers.{WriterValue}
 use Rattle.fax_call.specs.declared.counts.Counts as code_counts
 use Rattle.fax_call.specs.declared.pending.Message.TheVariants as messages
 use Rattle.fax_call.specs.declared.pending.Pending.{Pending}
@@ -27,16 +28,16 @@ use Rattle.fax_call.specs.Following.{KeepsTurn, Follows, command_kept}
 abbrev pub replied : Procedure → State → code_counts.Counts → Pending → Procedure
 replied p state c pending = record p { state = state; counts = c; pending = pending; t1 = None; t4 = None }
 
-on_call : (writes : Writing) (job : JobValue) (core : Calling) (text : List ℕ) (p : Procedure) → Follows writes job core text p → (p.state ≡ Idle → ⊥) → core.state ≡ Idle → ⊥
-on_call writes job core text p f on e = on (f.state ∙ e)
+on_call : (writes : Writing) (job : JobValue) (core : Calling) (writer : WriterValue) (p : Procedure) → Follows writes job core writer p → (p.state ≡ Idle → ⊥) → core.state ≡ Idle → ⊥
+on_call writes job core writer p f on e = on (f.state ∙ e)
 
-pub trains : (writes : Writing) (job : JobValue) (core : Calling) (text left : List ℕ) (p : Procedure) (dis : Dis) (dcs : Dcs) (c : code_counts.Counts) → Follows writes job core text p → (p.state ≡ Idle → ⊥)
+pub trains : (writes : Writing) (job : JobValue) (core : Calling) (writer left : WriterValue) (p : Procedure) (dis : Dis) (dcs : Dcs) (c : code_counts.Counts) → Follows writes job core writer p → (p.state ≡ Idle → ⊥)
     → Follows writes job (moved core (Trains dis dcs (counts_shown c))) left (replied p (AwaitCfr dis dcs) c (pendings.Preamble (messages.Dcs dcs)))
-trains writes job core text left p dis dcs c f on =
+trains writes job core writer left p dis dcs c f on =
     record {
       state = refl;
       format = f.format;
-      formats = λ e. f.formats (on_call writes job core text p f on);
+      formats = λ e. f.formats (on_call writes job core writer p f on);
       turn = tt;
       pages = f.pages;
       counts = refl;
@@ -49,13 +50,13 @@ trains writes job core text left p dis dcs c f on =
       outcome = f.outcome;
     }
 
-pub sends : (writes : Writing) (job : JobValue) (core : Calling) (text left : List ℕ) (p : Procedure) (dis : Dis) (dcs : Dcs) (c : code_counts.Counts) → Follows writes job core text p → (p.state ≡ Idle → ⊥)
+pub sends : (writes : Writing) (job : JobValue) (core : Calling) (writer left : WriterValue) (p : Procedure) (dis : Dis) (dcs : Dcs) (c : code_counts.Counts) → Follows writes job core writer p → (p.state ≡ Idle → ⊥)
     → Follows writes job (moved core (Sends dis dcs (counts_shown c))) left (replied p (AwaitMcf dis dcs) c (pendings.Image dcs))
-sends writes job core text left p dis dcs c f on =
+sends writes job core writer left p dis dcs c f on =
     record {
       state = refl;
       format = f.format;
-      formats = λ e. f.formats (on_call writes job core text p f on);
+      formats = λ e. f.formats (on_call writes job core writer p f on);
       turn = tt;
       pages = f.pages;
       counts = refl;
@@ -83,14 +84,14 @@ turn_asked (AwaitCfr dis dcs) plain formats page turn h = tt
 turn_asked (AwaitMcf dis dcs) plain formats page turn h = h
 turn_asked (Closing outcome) plain formats page turn h = tt
 
-pub asks_again : (writes : Writing) (job : JobValue) (core : Calling) (text left : List ℕ) (p : Procedure) (c : code_counts.Counts) → Follows writes job core text p → (p.state ≡ Idle → ⊥) → p.pending ≡ pendings.Nothing
+pub asks_again : (writes : Writing) (job : JobValue) (core : Calling) (writer left : WriterValue) (p : Procedure) (c : code_counts.Counts) → Follows writes job core writer p → (p.state ≡ Idle → ⊥) → p.pending ≡ pendings.Nothing
     → AwaitsMcf p.state → c.page ≡ p.counts.page
     → Follows writes job (moved core (AsksAgain (counts_shown c))) left (replied p p.state c (pendings.Preamble (messages.Plain (command_kept p))))
-asks_again writes job core text left p c f on none awaits page =
+asks_again writes job core writer left p c f on none awaits page =
     record {
       state = f.state;
       format = f.format;
-      formats = λ e. f.formats (on_call writes job core text p f on);
+      formats = λ e. f.formats (on_call writes job core writer p f on);
       turn = turn_asked p.state (command_kept p) core.formats c.page p.turn turn_so;
       pages = f.pages;
       counts = refl;
@@ -119,14 +120,14 @@ asks_again writes job core text left p c f on none awaits page =
 abbrev pub turned : Format → Option ℕ → Procedure → Procedure
 turned format t1 p = record p { format = format; turn = None; t1 = t1 }
 
-pub turns : (writes : Writing) (job : JobValue) (core : Calling) (text left : List ℕ) (p : Procedure) (format : Format) (now : ℕ) (c : code_counts.Counts) → Follows writes job core text p → (p.state ≡ Idle → ⊥)
+pub turns : (writes : Writing) (job : JobValue) (core : Calling) (writer left : WriterValue) (p : Procedure) (format : Format) (now : ℕ) (c : code_counts.Counts) → Follows writes job core writer p → (p.state ≡ Idle → ⊥)
     → Follows writes job (moved core (Turns format (moment_after now spans.t1) (counts_shown c))) left
     (turned format (Some (moment_after now spans.t1)) (replied p AwaitDis c pendings.Nothing))
-turns writes job core text left p format now c f on =
+turns writes job core writer left p format now c f on =
     record {
       state = refl;
       format = refl;
-      formats = λ e. f.formats (on_call writes job core text p f on);
+      formats = λ e. f.formats (on_call writes job core writer p f on);
       turn = tt;
       pages = f.pages;
       counts = refl;
@@ -139,13 +140,13 @@ turns writes job core text left p format now c f on =
       outcome = f.outcome;
     }
 
-pub closes : (writes : Writing) (job : JobValue) (core : Calling) (text left : List ℕ) (p : Procedure) (outcome : Outcome) (c : code_counts.Counts) → Follows writes job core text p → (p.state ≡ Idle → ⊥)
+pub closes : (writes : Writing) (job : JobValue) (core : Calling) (writer left : WriterValue) (p : Procedure) (outcome : Outcome) (c : code_counts.Counts) → Follows writes job core writer p → (p.state ≡ Idle → ⊥)
     → Follows writes job (moved core (Closes outcome (counts_shown c))) left (replied p (Closing outcome) c (pendings.Preamble (messages.Plain Dcn)))
-closes writes job core text left p outcome c f on =
+closes writes job core writer left p outcome c f on =
     record {
       state = refl;
       format = f.format;
-      formats = λ e. f.formats (on_call writes job core text p f on);
+      formats = λ e. f.formats (on_call writes job core writer p f on);
       turn = tt;
       pages = f.pages;
       counts = refl;

@@ -1,36 +1,27 @@
--- The text of a page as it is made.
-use Rattle.std.proofs.Common.{◌≡◌, ℕ, ◌<◌, true, false, Bool, List, [], ◌∷◌, ◌++◌, length, replicate, Some, sym, ◌∙◌, ap, arith, append_assoc, slice_get}
-use Rattle.fax_bits.specs.Bits.{bits_of}
-use Rattle.fax_bits.specs.Writing.{IsPadded}
+-- A writer of the text of a page that has given nothing.
+use Rattle.std.proofs.Common.{◌≡◌, ℕ, List, Some, refl, sym, ◌∙◌, ap, subst, slice_get}
 use Rattle.fax_runcodes.specs.declared.format.Coding.{Coding}
+use Rattle.fax_runcodes.specs.declared.format.Format.{Format}
 use Rattle.fax_pagestore.specs.Pages.{PageValue, IsPage}
-use Rattle.fax_pagestore.specs.PageTexts.{end_of_line}
-use Rattle.fax_pagestore.specs.WrittenPages.{tag_bits, ends_of_line, WritesPage}
+use Rattle.fax_pagestore.specs.Writers.{WriterValue, IsTextOf, HasLeft}
 use Rattle.fax_frames.specs.declared.dcs.Dcs.{Dcs}
 use Rattle.fax_frames.specs.Capabilities.{coding_of, least_bits_of}
 use Rattle.fax_jobs.specs.Jobs.{JobValue}
-use Rattle.fax_call.specs.Writings.{Writing, IsWriting, IsWrittenAs}
+use Rattle.fax_call.specs.Writings.{Writing, IsWriting}
 use Rattle.fax_call.specs.Calls.{text_if, text_at}
-use Rattle.fax_call.proofs.Texts.{texts_are_one}
+use Rattle.fax_call.specs.Following.{HasTextLeft}
 
--- a text begins with an EOL, so it has an octet
-begins_so : (more : List Bool) → bits_of [] ≡ end_of_line ++ more → ⊥
-unfolding bits_of end_of_line
-begins_so more h = cc
+-- what a new writer of a format has left, however it writes
+abbrev pub HasAll : Format → Coding → ℕ → WriterValue → Type 0
+HasAll format coding least writer = (page : PageValue) (octets : List ℕ) → page.format ≡ format → IsTextOf page coding least octets → HasLeft page octets writer
 
-some_octet : (octets : List ℕ) (more : List Bool) → bits_of octets ≡ end_of_line ++ more → 0 < length octets
-some_octet [] more h = absurd (begins_so more h)
-some_octet (o ∷ octets) more h = omega arith
-
-pub written_some : (page : PageValue) (coding : Coding) (least : ℕ) (octets : List ℕ) (text : List Bool)
-    → WritesPage coding page.format.fine least page.rows text → IsPadded octets text → 0 < length octets
-written_some page coding least octets text (lines, rows, e) (zeros, few, p) =
-    let rest : List Bool = tag_bits coding true ++ (lines ++ ends_of_line coding 5) in
-    some_octet octets (rest ++ replicate zeros false) (p ∙ ap (λ (bits : List Bool). bits ++ replicate zeros false) e ∙ append_assoc end_of_line rest (replicate zeros false))
-
--- what is written of a page of the job is its text
-pub text_is : (writes : Writing) (job : JobValue) (n : ℕ) (page : PageValue) (dcs : Dcs) (octets : List ℕ) → IsWriting writes → IsPage page
-    → slice_get job.pages n ≡ Some page → IsWrittenAs page (coding_of dcs) (least_bits_of dcs) octets → octets ≡ text_at writes job n dcs
-text_is writes job n page dcs octets writing is at written =
-    texts_are_one page (coding_of dcs) (least_bits_of dcs) octets (writes page (coding_of dcs) (least_bits_of dcs)) is written (writing page (coding_of dcs) (least_bits_of dcs) is)
-    ∙ sym (ap (text_if writes dcs) at)
+pub all_left : (writes : Writing) (job : JobValue) (n : ℕ) (page : PageValue) (dcs : Dcs) (writer : WriterValue) → IsWriting writes → IsPage page
+    → slice_get job.pages n ≡ Some page → HasAll page.format (coding_of dcs) (least_bits_of dcs) writer → HasTextLeft writes job n dcs 0 writer
+all_left writes job n page dcs writer writing is at all value is_at =
+    let same : Some page ≡ Some value = sym at ∙ is_at in
+    let one : page ≡ value = cc in
+    let w = writing page (coding_of dcs) (least_bits_of dcs) is in
+    let text : text_at writes job n dcs ≡ writes page (coding_of dcs) (least_bits_of dcs) = ap (text_if writes dcs) at in
+    subst (λ (v : PageValue). HasLeft v (text_at writes job n dcs) writer) one
+    (subst (λ (os : List ℕ). HasLeft page os writer) (sym text)
+    (all page (writes page (coding_of dcs) (least_bits_of dcs)) refl (record { are_octets = w.are_octets; text = w.text; writes = w.writes; padded = w.padded })))

@@ -1,7 +1,10 @@
 -- What a procedure is in place of the core that it stands for. No law speaks of this module.
 use Rattle.std.specs.Prelude.{◌≡◌, ℕ, ◌<◌, Bool, ◌&&◌, List, length, drop, slice_get, Option, Some}
 use Rattle.fax_runcodes.specs.declared.format.Format.{Format}
+use Rattle.fax_frames.specs.declared.dcs.Dcs.{Dcs}
 use Rattle.fax_frames.specs.declared.writing.Plain.{Plain}
+use Rattle.fax_pagestore.specs.Pages.{PageValue}
+use Rattle.fax_pagestore.specs.Writers.{WriterValue, HasLeft, HasMore}
 use Rattle.fax_timers.specs.Paces.{pace_allows}
 use Rattle.fax_jobs.specs.Jobs.{JobValue}
 use Rattle.fax_call.specs.declared.pending.Pending.{Pending}
@@ -10,7 +13,7 @@ use Rattle.fax_call.specs.declared.procedure.Procedure.{Procedure}
 use Rattle.fax_call.specs.declared.state.State.{State}
 use Rattle.fax_call.specs.declared.state.State.TheVariants.{Idle, AwaitMcf}
 use Rattle.fax_call.specs.Writings.{Writing}
-use Rattle.fax_call.specs.Replies.{Packet, waits, part_length, is_last_page, turn_behind, command_by, command_behind}
+use Rattle.fax_call.specs.Replies.{Packet, written, waits, is_last_page, turn_behind, command_by, command_behind}
 use Rattle.fax_call.specs.Calls.{Calling, formats_of, text_at, given_first, state_when_given, outcome_when_given, t4_when_given}
 use Rattle.fax_call.specs.Kept.{counts_shown, waiting_of, pending_behind, FitsState, FitsPending}
 
@@ -21,10 +24,14 @@ pub record IsFit (p : Procedure) : Type 0 where
   pub pending : FitsPending p.pending
   pub rests : p.state ≡ Idle → p.pending ≡ pendings.Nothing
 
+-- of the text of a page under a DCS so many octets were given, and a writer has those behind them left
+abbrev pub HasTextLeft : Writing → JobValue → (page : ℕ) → Dcs → (from : ℕ) → WriterValue → Type 0
+HasTextLeft writes job page dcs from writer = (value : PageValue) → slice_get job.pages page ≡ Some value → HasLeft value (drop from (text_at writes job page dcs)) writer
+
 -- what is left of the text of a page, while it is given
-abbrev pub IsLeft : Writing → JobValue → (page : ℕ) → (from : ℕ) → Pending → List ℕ → Type 0
-IsLeft writes job page from (pendings.Text dcs plain) text = text ≡ drop from (text_at writes job page dcs)
-IsLeft writes job page from pending text = Unit {0}
+abbrev pub IsLeft : Writing → JobValue → (page : ℕ) → (from : ℕ) → Pending → WriterValue → Type 0
+IsLeft writes job page from (pendings.Text dcs plain) writer = HasTextLeft writes job page dcs from writer
+IsLeft writes job page from pending writer = Unit {0}
 
 -- from the short training indicator of a page on, the format of the next page is kept, where it is another
 abbrev pub KeepsTurn : State → Pending → List Format → (page : ℕ) → (turn : Option Format) → Type 0
@@ -32,8 +39,8 @@ KeepsTurn (AwaitMcf dis dcs) (pendings.Image d) formats page turn = Unit {0}
 KeepsTurn (AwaitMcf dis dcs) pending formats page turn = turn ≡ turn_behind formats page
 KeepsTurn state pending formats page turn = Unit {0}
 
--- a procedure that stands for a core in the call of a job; what is left of the text that is given is kept beside it
-pub record Follows (writes : Writing) (job : JobValue) (core : Calling) (text : List ℕ) (p : Procedure) : Type 0 where
+-- a procedure that stands for a core in the call of a job; the writer of the text that is given is kept beside it
+pub record Follows (writes : Writing) (job : JobValue) (core : Calling) (writer : WriterValue) (p : Procedure) : Type 0 where
   pub state : p.state ≡ core.state
   pub format : p.format ≡ core.format
   pub formats : (core.state ≡ Idle → ⊥) → core.formats ≡ formats_of job
@@ -42,7 +49,7 @@ pub record Follows (writes : Writing) (job : JobValue) (core : Calling) (text : 
   pub counts : counts_shown p.counts ≡ core.counts
   pub from : ℕ
   pub waiting : waiting_of p.pending (command_behind core.formats core.pages p.counts.page) p.counts.page from ≡ core.waiting
-  pub left : IsLeft writes job p.counts.page from p.pending text
+  pub left : IsLeft writes job p.counts.page from p.pending writer
   pub t1 : p.t1 ≡ core.t1
   pub t4 : p.t4 ≡ core.t4
   pub last : p.pace ≡ core.last
@@ -52,10 +59,10 @@ pub record Follows (writes : Writing) (job : JobValue) (core : Calling) (text : 
 abbrev pub gives_now : Calling → ℕ → Bool
 gives_now core now = waits core.waiting && pace_allows core.last now
 
--- the text is not empty while it is given
-abbrev pub HasText : Pending → List ℕ → Type 0
-HasText (pendings.Text dcs plain) text = 0 < length text
-HasText pending text = Unit {0}
+-- something is left of a text while it is given
+abbrev pub HasText : Pending → WriterValue → Type 0
+HasText (pendings.Text dcs plain) writer = HasMore writer
+HasText pending writer = Unit {0}
 
 -- the job has as many pages, and those formats that are kept: that of the page due, and that of the next page, where it is
 -- another
@@ -68,18 +75,7 @@ pub record HasFormats (p : Procedure) (job : JobValue) : Type 0 where
 abbrev pub IsJobOfCall : Procedure → JobValue → Type 0
 IsJobOfCall p job = (p.state ≡ Idle → ⊥) → HasFormats p job
 
--- how many octets of a text the next packet has at most
-abbrev pub text_octets : Pending → ℕ
-text_octets (pendings.Text dcs plain) = part_length dcs
-text_octets pending = 0
-
--- what is left of the text behind the next packet, where this text is made with it
-abbrev pub text_behind : Pending → (made : List ℕ) → List ℕ → List ℕ
-text_behind (pendings.Image dcs) made text = made
-text_behind (pendings.Text dcs plain) made text = drop (part_length dcs) text
-text_behind pending made text = text
-
--- the procedure behind the next packet, where so many octets were left of a text
+-- the procedure behind the next packet
 abbrev pub behind_packet : Pending → Procedure → ℕ → Procedure
 behind_packet pendings.Nothing p now =
     record p {
@@ -95,14 +91,21 @@ behind_packet pending p now = record p { pending = pending; pace = Some now }
 abbrev pub command_kept : Procedure → Plain
 command_kept p = command_by (is_last_page p.pages p.counts.page) p.turn
 
-abbrev pub given_by : Procedure → (left : ℕ) → ℕ → Procedure
-given_by p left now = behind_packet (pending_behind p.pending (command_kept p) left) p now
+-- where that is a packet of a text it may be the last one
+abbrev pub given_by : Procedure → (last : Bool) → ℕ → Procedure
+given_by p last now = behind_packet (pending_behind p.pending (command_kept p) last) p now
 
 -- the job tells the next page's format
 abbrev pub with_turn : Procedure → JobValue → Procedure
 with_turn p job = record p { turn = turn_behind (formats_of job) p.counts.page }
 
--- the next packet is given, behind which this is left of the text
-pub record GivesNext (writes : Writing) (job : JobValue) (core : Calling) (now : ℕ) (packet : Packet) (left : List ℕ) (new : Procedure) : Type 0 where
+-- the next packet is given, behind which this is the writer of the text
+pub record GivesNext (writes : Writing) (job : JobValue) (core : Calling) (now : ℕ) (packet : Packet) (left : WriterValue) (new : Procedure) : Type 0 where
   pub follows : Follows writes job (given_first writes job core now core.waiting).core left new
   pub given : (given_first writes job core now core.waiting).given ≡ Some packet
+
+-- and these are its octets
+pub record GivesPacket (writes : Writing) (job : JobValue) (core : Calling) (now : ℕ) (given : Option (List ℕ)) (left : WriterValue) (new : Procedure) : Type 0 where
+  pub packet : Packet
+  pub octets : given ≡ Some (written packet)
+  pub next : GivesNext writes job core now packet left new

@@ -1,5 +1,5 @@
 -- What is kept of a call, in place of the core that it stands for. No law speaks of this module.
-use Rattle.std.specs.Prelude.{◌≡◌, ℕ, ◌+◌, ◌-◌, ◌<◌, nat_le, true, false, List, [], ◌∷◌, length, take, replicate, if◌then◌else◌}
+use Rattle.std.specs.Prelude.{◌≡◌, ℕ, ◌+◌, ◌-◌, ◌<◌, nat_le, Bool, true, false, List, [], ◌∷◌, length, take, replicate, if◌then◌else◌}
 use Rattle.fax_frames.specs.declared.dcs.Dcs.{Dcs}
 use Rattle.fax_frames.specs.declared.writing.Plain.{Plain}
 use Rattle.fax_frames.specs.declared.writing.Plain.TheVariants.{Dcn}
@@ -63,7 +63,7 @@ waiting_of (Check dcs given) asks page from = check_behind dcs given
 waiting_of (Image dcs) asks page from = One (Signals (training_of dcs.rate false)) ∷ replies.Text page dcs 0 ∷ command asks
 waiting_of (Text dcs plain) asks page from = replies.Text page dcs from ∷ command plain
 
--- the next packet, where this is left of the text
+-- the next packet of a training check, of which so many octets were given, and of a text, of which these octets are left
 abbrev pub check_part : Dcs → ℕ → Packet
 check_part dcs given =
     if nat_le (check_length dcs - given) (part_length dcs)
@@ -75,31 +75,32 @@ text_part dcs text =
     if nat_le (length text) (part_length dcs) then Part (kind_of dcs.rate) true text
     else Part (kind_of dcs.rate) false (take (part_length dcs) text)
 
-abbrev pub packet_of : Pending → List ℕ → Packet
-packet_of Nothing text = Signals 0
-packet_of Tone text = Signals (indicator_code Cng)
-packet_of (Preamble message) text = Signals (indicator_code V21Preamble)
-packet_of (Frame message) text = Tells (frame_text message)
-packet_of (Training dcs) text = Signals (training_of dcs.rate true)
-packet_of (Check dcs given) text = check_part dcs given
-packet_of (Image dcs) text = Signals (training_of dcs.rate false)
-packet_of (Text dcs plain) text = text_part dcs text
+-- the next packet, where it is none of a text
+abbrev pub packet_of : Pending → Packet
+packet_of Nothing = Signals 0
+packet_of Tone = Signals (indicator_code Cng)
+packet_of (Preamble message) = Signals (indicator_code V21Preamble)
+packet_of (Frame message) = Tells (frame_text message)
+packet_of (Training dcs) = Signals (training_of dcs.rate true)
+packet_of (Check dcs given) = check_part dcs given
+packet_of (Image dcs) = Signals (training_of dcs.rate false)
+packet_of (Text dcs plain) = Signals 0
 
--- what waits behind it, where this is left of the text before it, and this is the command behind the page due
+-- what waits behind it, where it may be the last packet of a text, and this is the command behind the page due
 abbrev pub frame_behind : Message → Pending
 frame_behind (messages.Dcs dcs) = Training dcs
 frame_behind (messages.Plain plain) = Nothing
 
-abbrev pub pending_behind : Pending → (asks : Plain) → (left : ℕ) → Pending
-pending_behind Nothing asks left = Nothing
-pending_behind Tone asks left = Nothing
-pending_behind (Preamble message) asks left = Frame message
-pending_behind (Frame message) asks left = frame_behind message
-pending_behind (Training dcs) asks left = Check dcs 0
-pending_behind (Check dcs given) asks left =
+abbrev pub pending_behind : Pending → (asks : Plain) → (last : Bool) → Pending
+pending_behind Nothing asks last = Nothing
+pending_behind Tone asks last = Nothing
+pending_behind (Preamble message) asks last = Frame message
+pending_behind (Frame message) asks last = frame_behind message
+pending_behind (Training dcs) asks last = Check dcs 0
+pending_behind (Check dcs given) asks last =
     if nat_le (check_length dcs - given) (part_length dcs) then Nothing else Check dcs (given + part_length dcs)
-pending_behind (Image dcs) asks left = Text dcs asks
-pending_behind (Text dcs plain) asks left = if nat_le left (part_length dcs) then Preamble (messages.Plain plain) else Text dcs plain
+pending_behind (Image dcs) asks last = Text dcs asks
+pending_behind (Text dcs plain) asks last = if last then Preamble (messages.Plain plain) else Text dcs plain
 
 -- what waits behind a move, where nothing waited, and this is the command behind the page due
 abbrev pub pending_of : (asks : Plain) → code_moves.Move → Pending

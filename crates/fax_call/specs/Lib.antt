@@ -10,4 +10,5 @@ pub mod Replies
 pub mod Table
 pub mod Writings
 pub mod Given
+pub mod GivenSignals
 pub mod GivingUp

@@ -4,24 +4,25 @@ use Rattle.fax_ifp.specs.Elements.{Slot}
 use Rattle.fax_ifp.specs.Pieces.{Piece, pieces}
 use Rattle.fax_ifp.specs.Tracked.{Tracked, IsTracked}
 use Rattle.fax_jobs.specs.Jobs.{JobValue}
+use Rattle.fax_pagestore.specs.Writers.{WriterValue}
 use Rattle.fax_call.specs.declared.procedure.Procedure.{Procedure}
 use Rattle.fax_call.specs.Writings.{Writing}
 use Rattle.fax_call.specs.Replies.{written}
 use Rattle.fax_call.specs.Calls.{Calling, came_all, Ticked}
 use Rattle.fax_call.specs.Following.{Follows}
 
--- what is left of the slots for frames to come, the procedure, what is left of the text of a page that is given, and for
--- how many octets of a packet there is room
+-- what is left of the slots for frames to come, the procedure, the writer of the text of a page that is given, and for how
+-- many octets of a packet there is room
 pub record Kept : Type 0 where
   pub tracked : Tracked
   pub procedure : Procedure
-  pub text : List ℕ
+  pub writer : WriterValue
   pub spare : ℕ
 
 -- these slots of the call, the newest first, and this core led to it
 pub record IsReached (writes : Writing) (job : JobValue) (heard : List Slot) (core : Calling) (kept : Kept) : Type 0 where
   pub tracked : IsTracked heard kept.tracked
-  pub follows : Follows writes job core kept.text kept.procedure
+  pub follows : Follows writes job core kept.writer kept.procedure
 
 -- More slots, in the order of time, led on, whatever came before: their pieces came.
 pub record Hears (writes : Writing) (job : JobValue) (slots : List Slot) (now : ℕ) (heard : List Slot) (core : Calling) (new : Kept) : Type 0 where

@@ -1,26 +1,27 @@
 //! The calling side of a call.
-ghost use Rattle.std.specs.Prelude.{◌≡◌, ◌≢◌, ◌<◌, ◌≤◌, List, [], Ok, Some, None, IsSome, IfSome, IfOk, OnOk, OnErr, length, drop};
-ghost use Rattle.fax_bits.specs.Laws.{AreOctets};
+ghost use Rattle.std.specs.Prelude.{◌≡◌, ◌≢◌, ◌<◌, ◌≤◌, Bool, false, List, [], Ok, Some, None, IsSome, IfSome, IfOk, OnOk, OnErr, length};
 ghost use Rattle.fax_ifp.specs.Elements.{Slot as SlotShown};
 ghost use Rattle.fax_jobs.specs.Jobs.{JobValue, IsJob};
 ghost use Rattle.fax_call.specs.Writings.{Writing, IsWriting};
-ghost use Rattle.fax_call.specs.Calls.{Calling, new_calling, started, text_at, ticked};
-ghost use Rattle.fax_call.specs.Following.{IsFit, HasText, IsJobOfCall, given_by, with_turn, text_octets};
+ghost use Rattle.fax_call.specs.Calls.{Calling, new_calling, started, ticked};
+ghost use Rattle.fax_call.specs.Following.{IsFit, Follows, HasTextLeft, IsJobOfCall, given_by, with_turn, GivesPacket};
 ghost use Rattle.fax_call.specs.Kept.{packet_of};
 ghost use Rattle.fax_call.specs.Replies.{written};
 ghost use Rattle.fax_frames.specs.declared.dcs.Dcs.{Dcs as DcsShown};
+ghost use Rattle.fax_frames.specs.declared.writing.Plain.{Plain as PlainShown};
+ghost use Rattle.fax_pagestore.specs.Writers.{HasMore};
 ghost use Rattle.fax_call.specs.Reached.{IsReached, IsGiven};
 
 use crate::State;
 use crate::pending::{INDICATOR_OCTETS, Pending};
-use crate::procedure::Procedure;
+use crate::procedure::{NO_FORMAT, Procedure};
 use crate::room::Room;
-use crate::text::TextLeft;
+use crate::text::{text_packet, writer_of};
 use fax_bits::{NoMemory, Octets};
 use fax_frames::Dcs;
 use fax_ifp::Signals;
 use fax_jobs::{Job, Outcome};
-use fax_pagestore::{Format, RowStore, write_page};
+use fax_pagestore::{Coding, Format, PageWriter, RowStore};
 use std::alloc::Global;
 use std::marker::Model;
 
@@ -31,8 +32,8 @@ pub struct Caller {
     pub(crate) alloc: Global,
     pub(crate) signals: Signals,
     pub(crate) procedure: Procedure,
-    /// What is left of the text of the page that is given.
-    pub(crate) text: TextLeft,
+    /// Writes the text of a page, while that is given.
+    pub(crate) writer: PageWriter,
     /// Room for an indicator, where it was reserved.
     room: Room,
 }
@@ -43,9 +44,9 @@ impl Model for Caller {
 
     ghost Value = { Kept };
 
-    ghost view = { λ c. record { tracked = c.signals; procedure = c.procedure; text = c.text; spare = c.room } };
+    ghost view = { λ c. record { tracked = c.signals; procedure = c.procedure; writer = c.writer; spare = c.room } };
 
-    ghost invariant = { λ c. IsFit c.procedure × HasText c.procedure.pending c.text };
+    ghost invariant = { λ c. IsFit c.procedure × HasText c.procedure.pending c.writer };
 }
 
 impl Caller {
@@ -59,7 +60,7 @@ impl Caller {
             alloc,
             signals: Signals::new(alloc),
             procedure: Procedure::new(),
-            text: TextLeft::none(alloc),
+            writer: writer_of_none(alloc),
             room: Room::none(alloc),
         }
     }
@@ -88,7 +89,7 @@ impl Caller {
         ensures spare { self.new.spare ≡ self.old.spare }
     {
         self.signals = Signals::new(self.alloc);
-        self.text = TextLeft::none(self.alloc);
+        self.writer = writer_of_none(self.alloc);
         self.procedure.start(format, pages, now);
     }
 
@@ -115,10 +116,10 @@ impl Caller {
 
     /// Time goes on: where no packet waits a timer that is due acts, and then at most one packet is given, where one waits
     /// and the pace allows. The job is the one of the call, the same at each tick: it has as many pages, and those formats
-    /// that are kept of them. Where its next page is of another format, the command is EOM, and that format is kept. It
-    /// takes memory for the packet, and for the text of a page where its short training indicator is given; none for CNG
-    /// where it was reserved; where no call is on it takes none and gives nothing. A packet has at most 100 octets. An
-    /// `Err` changes nothing.
+    /// that are kept of them. Where its next page is of another format, the command is EOM, and that format is kept. The
+    /// text of a page is written as its packets are due. It takes memory for the packet alone, and none for CNG where it was
+    /// reserved; where no call is on it takes none and gives nothing. A packet has at most 100 octets. An `Err` changes
+    /// nothing.
     pub fn tick<S: RowStore>(&mut self, job: &Job<S>, now: u64) -> Result<Option<Octets>, NoMemory>
         requires { IsJobOfCall self.old.procedure job.now }
         ensures ticked { IfOk result (λ given. (writes : Writing) (heard : List SlotShown) (core : Calling) → IsWriting writes
@@ -140,12 +141,13 @@ impl Caller {
         }
         match procedure.pending {
             Pending::Image(dcs) => self.begin_text(job, procedure, dcs, now),
+            Pending::Text(dcs, _) => self.give_text(job, procedure, dcs, now),
             _ => self.give_packet(procedure, now),
         }
     }
 
-    /// The short training indicator is given, the text of the page is made, and the next page's format is kept, where it
-    /// is another. An `Err` changes nothing.
+    /// The short training indicator is given, all of the text of the page is left behind it, and the next page's format is
+    /// kept, where it is another. An `Err` changes nothing.
     fn begin_text<S: RowStore>(
         &mut self,
         job: &Job<S>,
@@ -156,26 +158,56 @@ impl Caller {
         requires fit { IsFit procedure }
         requires page { procedure.counts.page < length job.now.pages }
         requires pending { procedure.pending ≡ Pending.Image dcs }
-        ensures packet { IfOk result (λ given. given ≡ Some (written (packet_of procedure.pending []))) }
-        ensures given { OnOk result ((writes : Writing) → IsWriting writes → self.new ≡ record {
+        ensures packet { IfOk result (λ given. given ≡ Some (written (packet_of procedure.pending))) }
+        ensures left { OnOk result ((writes : Writing) → IsWriting writes → HasTextLeft writes job.now procedure.counts.page dcs 0 self.new.writer) }
+        ensures same { OnOk result (self.new ≡ record {
           tracked = self.old.tracked;
-          procedure = given_by (with_turn procedure job.now) 0 now;
-          text = text_at writes job.now procedure.counts.page dcs;
+          procedure = given_by (with_turn procedure job.now) false now;
+          writer = self.new.writer;
           spare = self.new.spare;
         }) }
-        ensures same { OnOk result (self.new.procedure ≡ given_by (with_turn procedure job.now) 0 now) }
         ensures err { OnErr result (self.new ≡ self.old) }
     {
-        let octets = write_text(self.alloc, job, procedure.counts.page, dcs)?;
-        let packet = procedure.pending.packet(self.alloc, &mut self.room, &[])?;
+        let packet = procedure.pending.packet(self.alloc, &mut self.room)?;
+        let writer = writer_of(self.alloc, job, procedure.counts.page, dcs);
         procedure.keep_turn(job);
-        procedure.give(0, now);
+        procedure.give(false, now);
         self.procedure = procedure;
-        self.text = TextLeft::all(octets);
+        self.writer = writer;
         Ok(Some(packet))
     }
 
-    /// The next packet is given. An `Err` changes nothing.
+    /// The next packet of the text of a page is given. An `Err` changes nothing.
+    fn give_text<S: RowStore>(
+        &mut self,
+        job: &Job<S>,
+        mut procedure: Procedure,
+        dcs: Dcs,
+        now: u64,
+    ) -> Result<Option<Octets>, NoMemory>
+        requires fit { IsFit procedure }
+        requires page { procedure.counts.page < length job.now.pages }
+        requires pending { (asks : PlainShown) × (procedure.pending ≡ Pending.Text dcs asks) }
+        requires more { HasMore self.old.writer }
+        ensures given { IfOk result (λ given. (writes : Writing) (core : Calling) → Follows writes job.now core self.old.writer procedure
+            → GivesPacket writes job.now core now given self.new.writer self.new.procedure) }
+        ensures same { OnOk result ((last : Bool) × (self.new ≡ record {
+          tracked = self.old.tracked;
+          procedure = given_by procedure last now;
+          writer = self.new.writer;
+          spare = self.old.spare;
+        })) }
+        ensures short { IfOk result (λ given. IfSome given (λ packet. length packet ≤ 100)) }
+        ensures err { OnErr result (self.new ≡ self.old) }
+    {
+        let page = &job.pages().as_slice()[procedure.counts.page as usize];
+        let packet = text_packet(self.alloc, &mut self.writer, page, dcs)?;
+        procedure.give(packet.is_last, now);
+        self.procedure = procedure;
+        Ok(Some(packet.octets))
+    }
+
+    /// The next packet is given, which is none of a text. An `Err` changes nothing.
     fn give_packet(
         &mut self,
         mut procedure: Procedure,
@@ -183,47 +215,26 @@ impl Caller {
     ) -> Result<Option<Octets>, NoMemory>
         requires fit { IsFit procedure }
         requires some { procedure.pending ≢ Pending.Nothing }
-        requires text { HasText procedure.pending self.old.text }
-        requires other { (dcs : DcsShown) → procedure.pending ≢ Pending.Image dcs }
-        ensures packet { IfOk result (λ given. given ≡ Some (written (packet_of procedure.pending self.old.text))) }
+        requires no_image { (dcs : DcsShown) → procedure.pending ≢ Pending.Image dcs }
+        requires no_text { (dcs : DcsShown) (asks : PlainShown) → procedure.pending ≢ Pending.Text dcs asks }
+        ensures packet { IfOk result (λ given. given ≡ Some (written (packet_of procedure.pending))) }
         ensures given { OnOk result (self.new ≡ record {
           tracked = self.old.tracked;
-          procedure = given_by procedure (length self.old.text) now;
-          text = drop (text_octets procedure.pending) self.old.text;
+          procedure = given_by procedure false now;
+          writer = self.old.writer;
           spare = self.new.spare;
         }) }
         ensures spared { procedure.pending ≡ Pending.Tone → OnErr result (self.old.spare ≡ 0) }
         ensures err { OnErr result (self.new ≡ self.old) }
     {
-        let pending = procedure.pending;
-        let packet = pending.packet(self.alloc, &mut self.room, self.text.as_slice())?;
-        procedure.give(self.text.as_slice().len(), now);
+        let packet = procedure.pending.packet(self.alloc, &mut self.room)?;
+        procedure.give(false, now);
         self.procedure = procedure;
-        self.text.pass(self.alloc, pending.text_octets());
         Ok(Some(packet))
     }
 }
 
-/// The text of a page of a job, counted from 0, under a DCS.
-fn write_text<S: RowStore>(
-    alloc: Global,
-    job: &Job<S>,
-    page: u32,
-    dcs: Dcs,
-) -> Result<Octets, NoMemory>
-    requires { page < length job.now.pages }
-    ensures text { IfOk result (λ octets. (writes : Writing) → IsWriting writes → octets ≡ text_at writes job.now page dcs) }
-    ensures some { IfOk result (λ octets. 0 < length octets) }
-{
-    let page = &job.pages().as_slice()[page as usize];
-    let octets = write_page(alloc, page, dcs.coding(), dcs.least_bits())?;
-    note_octets(octets.as_slice());
-    Ok(octets)
-}
-
-/// Each number of a slice of octets is one.
-fn note_octets(octets: &[u8])
-    ensures { AreOctets octets.now }
-{
-    let _ = octets;
+/// A writer where no text is given. It takes no memory.
+fn writer_of_none(alloc: Global) -> PageWriter {
+    PageWriter::new(alloc, NO_FORMAT, Coding::Mh, 0)
 }

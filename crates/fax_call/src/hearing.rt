@@ -36,12 +36,12 @@ impl Caller {
         Ok(())
     }
 
-    /// Hears the slots. An `Err` leaves what is left of the text, and the room.
+    /// Hears the slots. An `Err` leaves the writer of the text, and the room.
     fn hear_slots(&mut self, decided: &Decided<'_>, now: u64) -> Result<(), NoMemory>
         ensures heard { OnOk result ((writes : Writing) (job : JobValue) (heard : List SlotShown) (core : Calling)
             → IsReached writes job heard core self.old → Hears writes job (slots_in decided.now) now heard core self.new) }
         ensures job { (job : JobValue) → IsJobOfCall self.old.procedure job → IsJobOfCall self.new.procedure job }
-        ensures text { self.new.text ≡ self.old.text }
+        ensures writer { self.new.writer ≡ self.old.writer }
         ensures spare { self.new.spare ≡ self.old.spare }
         ensures no_packet { decided.now.packets ≡ [] → IsOk result }
     {
@@ -56,10 +56,10 @@ impl Caller {
 
     /// Hears pieces, in the order of time.
     fn hear_all(&mut self, pieces: &[Piece<'_>], now: u64)
-        ensures heard { (writes : Writing) (job : JobValue) (core : Calling) → Follows writes job core self.old.text self.old.procedure
-            → Follows writes job (came_all core (pieces_shown pieces.now) now) self.new.text self.new.procedure }
+        ensures heard { (writes : Writing) (job : JobValue) (core : Calling) → Follows writes job core self.old.writer self.old.procedure
+            → Follows writes job (came_all core (pieces_shown pieces.now) now) self.new.writer self.new.procedure }
         ensures tracked { self.new.tracked ≡ self.old.tracked }
-        ensures text { self.new.text ≡ self.old.text }
+        ensures writer { self.new.writer ≡ self.old.writer }
         ensures spare { self.new.spare ≡ self.old.spare }
         ensures job { (job : JobValue) → IsJobOfCall self.old.procedure job → IsJobOfCall self.new.procedure job }
     {
@@ -71,7 +71,7 @@ impl Caller {
         ensures heard { (writes : Writing) (job : JobValue) (now : ℕ) (heard : List SlotShown) (core : Calling)
             → IsReached writes job heard core self.old → Hears writes job (lost_slots count) now heard core self.new }
         ensures procedure { self.new.procedure ≡ self.old.procedure }
-        ensures text { self.new.text ≡ self.old.text }
+        ensures writer { self.new.writer ≡ self.old.writer }
         ensures spare { self.new.spare ≡ self.old.spare }
     {
         self.signals.lose(count);

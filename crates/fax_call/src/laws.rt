@@ -2,7 +2,8 @@
 //! over one unchanged job, whatever the called machine answers.
 ghost use Rattle.fax_call.specs.Delivery.{TellsWhatWasAnswered};
 ghost use Rattle.fax_call.specs.Emission.{EmitsThePages};
-ghost use Rattle.fax_call.specs.Given.{GivesClosedPackets};
+ghost use Rattle.fax_call.specs.Given.{GivesClosedPackets, GivesOneKind, TellsOneKind};
+ghost use Rattle.fax_call.specs.GivenSignals.{GivesChecksAndPages};
 ghost use Rattle.fax_call.specs.GivingUp.{TellsWhyItGaveUp};
 ghost use Rattle.fax_call.specs.Numbers.{NumbersAreFixed};
 ghost use Rattle.fax_call.specs.Refusals.{EndsByRefusal, NoneIsLacking};
@@ -57,4 +58,20 @@ pub fn texts_are_one()
 /// those that were given.
 pub fn gives_closed_packets()
     ensures { GivesClosedPackets }
+{}
+
+/// Each DCS that is given in a call without EOM has the format of the job, and all of them have one coding.
+pub fn gives_one_kind()
+    ensures { GivesOneKind }
+{}
+
+/// Who hears all packets of a call, and no EOM among them, hears no DCS of another format or coding.
+pub fn tells_one_kind()
+    ensures { TellsOneKind }
+{}
+
+/// Each high-speed signal that a call gives to its end is a training check, or it means a page of the job under the DCS given
+/// last before it.
+pub fn gives_checks_and_pages()
+    ensures { GivesChecksAndPages }
 {}

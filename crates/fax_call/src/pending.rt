@@ -1,10 +1,11 @@
 //! What waits.
-ghost use Rattle.std.specs.Prelude.{◌≡◌, ◌≢◌, ◌≤◌, ◌<◌, ◌*◌, ◌/◌, length, take, replicate, IfOk, OnErr};
+ghost use Rattle.std.specs.Prelude.{◌≡◌, ◌≢◌, ◌≤◌, ◌<◌, ◌*◌, ◌/◌, length, replicate, IfOk, OnErr};
 ghost use Rattle.fax_ifp.specs.WrittenPackets.{written_indicator, written_message, image_fields};
 ghost use Rattle.fax_call.specs.Replies.{written, part_length, check_length, Part};
-ghost use Rattle.fax_call.specs.Kept.{frame_text, frame_behind, packet_of, pending_behind, check_part, text_part, FitsMessage, FitsPending};
-ghost use Rattle.fax_call.specs.Following.{HasText, text_octets};
+ghost use Rattle.fax_call.specs.Kept.{frame_text, frame_behind, packet_of, pending_behind, check_part, FitsMessage, FitsPending};
 ghost use Rattle.fax_frames.specs.Rates.{kind_of};
+ghost use Rattle.fax_frames.specs.declared.dcs.Dcs.{Dcs as DcsShown};
+ghost use Rattle.fax_frames.specs.declared.writing.Plain.{Plain as PlainShown};
 
 use crate::room::Room;
 use fax_bits::{NoMemory, Octets};
@@ -66,13 +67,13 @@ pub(crate) enum Pending {
 }
 
 impl Pending {
-    /// The next packet, where this is left of the text. An indicator takes no memory where there is room for it. An
-    /// `Err` leaves the room as it was.
-    pub fn packet(self, alloc: Global, room: &mut Room, text: &[u8]) -> Result<Octets, NoMemory>
+    /// The next packet, where it is none of a text. An indicator takes no memory where there is room for it. An `Err` leaves
+    /// the room as it was.
+    pub fn packet(self, alloc: Global, room: &mut Room) -> Result<Octets, NoMemory>
         requires some { self ≢ Pending.Nothing }
         requires fits { FitsPending self }
-        requires text { HasText self text.now }
-        ensures packet { IfOk result (λ octets. octets ≡ written (packet_of self text.now)) }
+        requires other { (dcs : DcsShown) (asks : PlainShown) → self ≢ Pending.Text dcs asks }
+        ensures packet { IfOk result (λ octets. octets ≡ written (packet_of self)) }
         ensures spared { self ≡ Pending.Tone → OnErr result (room.old ≡ 0) }
         ensures err { OnErr result (room.new ≡ room.old) }
     {
@@ -84,24 +85,14 @@ impl Pending {
             Pending::Training(dcs) => indicator(alloc, room, dcs.rate.training(true)),
             Pending::Check(dcs, given) => check_packet(alloc, dcs, given),
             Pending::Image(dcs) => indicator(alloc, room, dcs.rate.training(false)),
-            Pending::Text(dcs, _) => text_packet(alloc, dcs, text),
+            Pending::Text(..) => unreachable!(),
         }
     }
 
-    /// How many octets of a text the next packet has at most.
-    pub fn text_octets(self) -> usize
-        ensures { result ≡ text_octets self }
-    {
-        match self {
-            Pending::Text(dcs, _) => usize::from(part_length(dcs)),
-            _ => 0,
-        }
-    }
-
-    /// What waits behind it, where so many octets were left of the text, and this is the command behind the page due.
-    pub fn behind(self, left: usize, command: Plain) -> Pending
+    /// What waits behind it, where it may be the last packet of a text, and this is the command behind the page due.
+    pub fn behind(self, is_last: bool, command: Plain) -> Pending
         requires { FitsPending self }
-        ensures behind { result ≡ pending_behind self command left }
+        ensures behind { result ≡ pending_behind self command is_last }
         ensures fits { FitsPending result }
     {
         match self {
@@ -118,8 +109,8 @@ impl Pending {
                 }
             }
             Pending::Image(dcs) => Pending::Text(dcs, command),
-            Pending::Text(dcs, asks) => {
-                if left <= usize::from(part_length(dcs)) {
+            Pending::Text(_, asks) => {
+                if is_last {
                     Pending::Preamble(Message::Plain(asks))
                 } else {
                     self
@@ -173,19 +164,6 @@ fn zeros(count: u16) -> &'static [u8]
     ensures { result.now ≡ replicate count 0 }
 {
     &ZEROS[..usize::from(count)]
-}
-
-/// The next packet of a text, of which this is left.
-fn text_packet(alloc: Global, dcs: Dcs, text: &[u8]) -> Result<Octets, NoMemory>
-    requires { 1 ≤ length text.now }
-    ensures { IfOk result (λ octets. octets ≡ written (text_part dcs text.now)) }
-{
-    let part = usize::from(part_length(dcs));
-    if text.len() <= part {
-        write_image(alloc, dcs.rate.kind(), true, text)
-    } else {
-        write_image(alloc, dcs.rate.kind(), false, &text[..part])
-    }
 }
 
 /// The packet of an indicator: one octet, which takes no memory where there is room for it. An `Err` leaves the room as it

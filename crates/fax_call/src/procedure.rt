@@ -2,6 +2,7 @@
 //! and takes no memory.
 ghost use Rattle.std.specs.Prelude.{◌≡◌, ◌≢◌, ◌↔◌, ◌≤◌, ◌<◌, IsTrue, List, ℕ, length, Option, None, Some, if◌then◌else◌, false};
 ghost use Rattle.fax_jobs.specs.Jobs.{JobValue, IsJob};
+ghost use Rattle.fax_pagestore.specs.Writers.{WriterValue};
 ghost use Rattle.fax_call.specs.Writings.{Writing};
 ghost use Rattle.fax_call.specs.Replies.{turn_behind};
 ghost use Rattle.fax_call.specs.Calls.{formats_of};
@@ -40,7 +41,7 @@ pub(crate) struct Procedure {
 }
 
 /// The format of a calling side that was not started yet.
-const NO_FORMAT: Format = Format {
+pub(crate) const NO_FORMAT: Format = Format {
     width: Width::W1728,
     fine: false,
 };
@@ -49,7 +50,7 @@ impl Procedure {
     /// No call is on, and none was.
     pub fn new() -> Self
         ensures fit { IsFit result }
-        ensures follows { (writes : Writing) (job : JobValue) (text : List ℕ) → Follows writes job (new_calling result.format) text result }
+        ensures follows { (writes : Writing) (job : JobValue) (writer : WriterValue) → Follows writes job (new_calling result.format) writer result }
         ensures pending { result.pending ≡ Pending.Nothing }
         ensures idle { result.state ≡ State.Idle }
         ensures outcome { result.outcome ≡ None }
@@ -74,7 +75,7 @@ impl Procedure {
         ensures fit { IsFit self.new }
         ensures pending { self.new.pending ≡ Pending.Tone }
         ensures job { (job : JobValue) → IsJob job → job.format ≡ format → length job.pages ≡ pages → IsJobOfCall self.new job }
-        ensures started { (writes others : Writing) (job other : JobValue) (core : Calling) (text left : List ℕ) → Follows others other core text self.old
+        ensures started { (writes others : Writing) (job other : JobValue) (core : Calling) (writer left : WriterValue) → Follows others other core writer self.old
             → job.format ≡ format → length job.pages ≡ pages → Follows writes job (started core job now) left self.new }
     {
         let mut t1 = Timer::new();
@@ -132,7 +133,7 @@ impl Procedure {
         ensures fit { IsFit self.new }
         ensures pending { self.new.pending ≡ pending_of (command_kept self.old) decided }
         ensures stays { decided ≡ Move.Stay → self.new ≡ self.old }
-        ensures made { (writes : Writing) (job : JobValue) (core : Calling) (text left : List ℕ) → Follows writes job core text self.old
+        ensures made { (writes : Writing) (job : JobValue) (core : Calling) (writer left : WriterValue) → Follows writes job core writer self.old
             → Follows writes job (moved core (move_shown now decided)) left self.new }
     {
         match decided {
@@ -188,9 +189,9 @@ impl Procedure {
         ensures fit { IsFit self.new }
         ensures idle { self.old.state ≡ State.Idle → self.new ≡ self.old }
         ensures job { (job : JobValue) → IsJobOfCall self.old job → IsJobOfCall self.new job }
-        ensures text { (text : List ℕ) → HasText self.old.pending text → HasText self.new.pending text }
-        ensures heard { (writes : Writing) (job : JobValue) (core : Calling) (text : List ℕ) → Follows writes job core text self.old
-            → Follows writes job (came_all core (pieces_shown pieces.now) now) text self.new }
+        ensures text { (writer : WriterValue) → HasText self.old.pending writer → HasText self.new.pending writer }
+        ensures heard { (writes : Writing) (job : JobValue) (core : Calling) (writer : WriterValue) → Follows writes job core writer self.old
+            → Follows writes job (came_all core (pieces_shown pieces.now) now) writer self.new }
     {
         for piece in pieces {
             self.hear(piece, now);
@@ -201,10 +202,10 @@ impl Procedure {
     fn hear(&mut self, piece: &Piece<'_>, now: u64)
         requires { IsFit self.old }
         ensures fit { IsFit self.new }
-        ensures text { (text : List ℕ) → HasText self.old.pending text → HasText self.new.pending text }
+        ensures text { (writer : WriterValue) → HasText self.old.pending writer → HasText self.new.pending writer }
         ensures idle { self.old.state ≡ State.Idle → self.new ≡ self.old }
-        ensures heard { (writes : Writing) (job : JobValue) (core : Calling) (text : List ℕ) → Follows writes job core text self.old
-            → Follows writes job (came core (piece_of piece.now) now) text self.new }
+        ensures heard { (writes : Writing) (job : JobValue) (core : Calling) (writer : WriterValue) → Follows writes job core writer self.old
+            → Follows writes job (came core (piece_of piece.now) now) writer self.new }
     {
         let Piece::Frame(octets) = piece else {
             return;
@@ -221,7 +222,7 @@ impl Procedure {
     /// Whether a packet is given now: one waits, and the pace lets it through.
     pub fn gives(&self, now: u64) -> bool
         requires { IsFit self.now }
-        ensures gives { (writes : Writing) (job : JobValue) (core : Calling) (text : List ℕ) → Follows writes job core text self.now
+        ensures gives { (writes : Writing) (job : JobValue) (core : Calling) (writer : WriterValue) → Follows writes job core writer self.now
             → result ≡ gives_now core now }
         ensures waits { IsTrue result → self.now.pending ≢ Pending.Nothing }
     {
@@ -235,9 +236,9 @@ impl Procedure {
         ensures waiting { self.old.pending ≢ Pending.Nothing → self.new ≡ self.old }
         ensures idle { self.old.state ≡ State.Idle → self.new ≡ self.old }
         ensures job { (job : JobValue) → IsJobOfCall self.old job → IsJobOfCall self.new job }
-        ensures text { (text : List ℕ) → HasText self.old.pending text → HasText self.new.pending text }
-        ensures acted { (writes : Writing) (job : JobValue) (core : Calling) (text : List ℕ) → Follows writes job core text self.old
-            → Follows writes job (timed core now) text self.new }
+        ensures text { (writer : WriterValue) → HasText self.old.pending writer → HasText self.new.pending writer }
+        ensures acted { (writes : Writing) (job : JobValue) (core : Calling) (writer : WriterValue) → Follows writes job core writer self.old
+            → Follows writes job (timed core now) writer self.new }
     {
         if self.is_waiting() {
             return;
@@ -246,14 +247,14 @@ impl Procedure {
         self.make(decided, now);
     }
 
-    /// The next packet is given, and what waits behind it is due, where this many octets were left of a text.
-    pub fn give(&mut self, left: usize, now: u64)
+    /// The next packet is given, and what waits behind it is due. Where that is a packet of a text it may be the last one.
+    pub fn give(&mut self, is_last: bool, now: u64)
         requires { IsFit self.old }
         ensures fit { IsFit self.new }
-        ensures given { self.new ≡ given_by self.old left now }
+        ensures given { self.new ≡ given_by self.old is_last now }
     {
         self.pace.given(now);
-        self.pending = self.pending.behind(left, self.command());
+        self.pending = self.pending.behind(is_last, self.command());
         if self.pending == Pending::Nothing {
             self.finish_reply(now);
         }

@@ -1,60 +1,64 @@
-//! The text of a page while it is sent.
-ghost use Rattle.std.specs.Prelude.{◌≡◌, [], drop, length};
+//! The text of a page, packet by packet.
+ghost use Rattle.std.specs.Prelude.{ℕ, List, false, ◌≡◌, ◌<◌, ◌≤◌, drop, length, nat_le, IfOk, OnOk, OnErr};
+ghost use Rattle.fax_pagestore.specs.Writers.{HasLeft, HasMore};
+ghost use Rattle.fax_call.specs.Replies.{written, part_length};
+ghost use Rattle.fax_call.specs.Kept.{text_part};
+ghost use Rattle.fax_call.specs.Following.{HasTextLeft};
+ghost use Rattle.fax_call.specs.Writings.{Writing, IsWriting};
 
-use fax_bits::Octets;
+use crate::pending::part_length;
+use fax_bits::{NoMemory, Octets};
+use fax_frames::Dcs;
+use fax_ifp::put_image;
+use fax_jobs::Job;
+use fax_pagestore::{Page, PageWriter, RowStore};
 use std::alloc::Global;
-use std::marker::Model;
 
-/// What is left of the text of a page that is sent, seen as these octets.
+/// A packet of the text of a page.
 #[derive(Drop)]
-pub(crate) struct TextLeft {
-    octets: Octets,
-    given: usize,
+pub(crate) struct TextPacket {
+    pub octets: Octets,
+    /// Whether nothing is left of the text behind it.
+    pub is_last: bool,
 }
 
-impl Model for TextLeft {
-    ghost use Rattle.std.specs.Prelude.{List, ℕ, ◌≤◌, drop, length};
+/// How many octets a packet has more than the image's own.
+const IMAGE_HEAD: usize = 5;
 
-    ghost Value = { List ℕ };
-
-    ghost view = { λ t. drop t.given t.octets };
-
-    ghost invariant = { λ t. t.given ≤ length t.octets };
+/// A writer of the text of a page of a job, counted from 0, under a DCS: in its coding, with its least bits of a line. It
+/// takes no memory.
+pub(crate) fn writer_of<S: RowStore>(alloc: Global, job: &Job<S>, page: u32, dcs: Dcs) -> PageWriter
+    requires { page < length job.now.pages }
+    ensures left { (writes : Writing) → IsWriting writes → HasTextLeft writes job.now page dcs 0 result }
+    ensures more { HasMore result }
+{
+    let format = job.pages().as_slice()[page as usize].format();
+    PageWriter::new(alloc, format, dcs.coding(), dcs.least_bits())
 }
 
-impl TextLeft {
-    /// Nothing is left. It takes no memory.
-    pub fn none(alloc: Global) -> Self
-        ensures { result ≡ [] }
-    {
-        TextLeft {
-            octets: Octets::from_vec(Vec::new(alloc)),
-            given: 0,
-        }
-    }
-
-    /// All of these octets are left.
-    pub fn all(octets: Octets) -> Self
-        ensures { result ≡ octets }
-    {
-        TextLeft { octets, given: 0 }
-    }
-
-    /// What is left.
-    pub fn as_slice(&self) -> &[u8]
-        ensures { result.now ≡ self.now }
-    {
-        &self.octets.as_slice()[self.given..]
-    }
-
-    /// So many octets are given, or all that were left. It takes no memory, and keeps none where nothing is left.
-    pub fn pass(&mut self, alloc: Global, count: usize)
-        ensures { self.new ≡ drop count self.old }
-    {
-        if count < self.octets.as_slice().len() - self.given {
-            self.given += count;
-        } else {
-            *self = TextLeft::none(alloc);
-        }
-    }
+/// The next packet of the text of a page that is given under a DCS. Its memory is taken before the writer moves on, so that
+/// an `Err` changes nothing.
+pub(crate) fn text_packet<S: RowStore>(
+    alloc: Global,
+    writer: &mut PageWriter,
+    page: &Page<S>,
+    dcs: Dcs,
+) -> Result<TextPacket, NoMemory>
+    requires { HasMore writer.old }
+    ensures packet { IfOk result (λ packet. (left : List ℕ) → HasLeft page.now left writer.old → packet.octets ≡ written (text_part dcs left)) }
+    ensures last { IfOk result (λ packet. (left : List ℕ) → HasLeft page.now left writer.old → packet.is_last ≡ nat_le (length left) (part_length dcs)) }
+    ensures left { OnOk result ((left : List ℕ) → HasLeft page.now left writer.old → HasLeft page.now (drop (part_length dcs) left) writer.new) }
+    ensures more { IfOk result (λ packet. packet.is_last ≡ false → HasMore writer.new) }
+    ensures short { IfOk result (λ packet. length packet.octets ≤ 100) }
+    ensures err { OnErr result (writer.new ≡ writer.old) }
+{
+    let part = usize::from(part_length(dcs));
+    let mut packet = Vec::with_capacity(alloc, IMAGE_HEAD + part)?;
+    let octets = writer.next(page, part)?;
+    let is_last = writer.ended();
+    put_image(&mut packet, dcs.rate.kind(), is_last, octets.as_slice());
+    Ok(TextPacket {
+        octets: Octets::from_vec(packet),
+        is_last,
+    })
 }

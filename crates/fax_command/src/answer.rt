@@ -21,13 +21,10 @@ use crate::putting::{put_hex_line, put_lines, put_picture};
 use crate::status::Status;
 use crate::stream::{Sink, WriteFault};
 use fax_bits::{NoMemory, Octets};
-use fax_pagestore::{PackedRows, Page, PageFault, RowStore, read_page, write_page};
+use fax_pagestore::{MOST_ROWS, PackedRows, Page, PageFault, RowStore, read_page, write_page};
 use fax_runcodes::Width;
 use hex::FromHexError;
 use std::alloc::Global;
-
-/// The most rows of a page.
-const MOST_ROWS: u32 = 20_000;
 
 /// The line for want of memory, which takes none.
 pub const MEMORY_LINE: &[u8] = b"fault memory\n";

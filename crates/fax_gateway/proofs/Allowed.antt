@@ -11,6 +11,7 @@ use Rattle.fax_call.specs.Emission.{Emission, Mark, Gave, emitted_at, elements_g
 use Rattle.fax_call.specs.Refusals.{Allows, EndsImage}
 use Rattle.fax_call.proofs.Emitted.{emits_the_pages}
 use Rattle.fax_call.proofs.Lacking.{none_is_lacking}
+use Rattle.fax_gateway.specs.Setups.{Setup}
 use Rattle.fax_gateway.specs.Events.{Tick, Given, clock}
 use Rattle.fax_gateway.specs.CalledLegs.{CalledLeg, begun_core, core_of, calls, told_by, told_called}
 use Rattle.fax_gateway.specs.Sides.{Sides, book_of, in_tick}
@@ -119,32 +120,32 @@ packet_allowed writes l now old packet w is given =
     record { l = l; is_leg = refl; n = k.n; is_page = k.is_page; dis = r.2; taken = r.3; allows = subst (λ (p : PageValue). Allows r.2 p.format) same r.4 })
     (each_is_last l.job e.0 (EndsImage es marks) es marks (λ k. k) (subst (λ (ms : List Mark). Emits l.job ms e.0) here e.1))
 
-in_call_allowed : (writes : Writing) (l : CalledLeg) (now : ℕ) (sending : Option JobValue) (marks : List Mark) → IsWriting writes → IsJob l.job → InCall writes l sending marks →
-    EachEmission (IsAllowed writes (Some l)) marks (elements_told (told_by l.given (calls writes l now).given))
-in_call_allowed writes l now sending marks w is i = by (calls writes l now).given refl (ticked_fits writes l.job (core_of writes l) now i.fits).given
+in_call_allowed : (setup : Setup) (writes : Writing) (l : CalledLeg) (now : ℕ) (sending : Option JobValue) (marks : List Mark) → IsWriting writes → IsJob l.job → InCall writes l sending marks →
+    EachEmission (IsAllowed writes (Some l)) marks (elements_told (told_by setup l.given (calls writes l now).given))
+in_call_allowed setup writes l now sending marks w is i = by (calls writes l now).given refl (ticked_fits writes l.job (core_of writes l) now i.fits).given
   where
-    by : (o : Option Packet) → (calls writes l now).given ≡ o → FitGiven o → EachEmission (IsAllowed writes (Some l)) marks (elements_told (told_by l.given o))
+    by : (o : Option Packet) → (calls writes l now).given ≡ o → FitGiven o → EachEmission (IsAllowed writes (Some l)) marks (elements_told (told_by setup l.given o))
     by None e f = tt
     by (Some packet) e f =
-        subst (EachEmission (IsAllowed writes (Some l)) marks) (sym (told_back l.given (written packet) i.short f))
+        subst (EachEmission (IsAllowed writes (Some l)) marks) (sym (told_back setup l.given (written packet) i.short f))
         (subst (λ (ms : List Mark). EachEmission (IsAllowed writes (Some l)) ms (elements.elements_in (packet_of (written packet)))) (sym i.marks_are) (packet_allowed writes l now i.old packet w is e))
 
-by_leg : (writes : Writing) (now : ℕ) (leg : Option CalledLeg) (sending : Option JobValue) (P : ℕ → PageValue → Type 0) (marks : List Mark) → IsWriting writes → IfHolds P sending → IfInCall writes leg sending marks →
-    EachEmission (IsAllowed writes leg) marks (elements_told (told_called writes leg now))
-by_leg writes now None sending P marks w h i = tt
-by_leg writes now (Some l) sending P marks w h i = by l.entered i.sends
+by_leg : (setup : Setup) (writes : Writing) (now : ℕ) (leg : Option CalledLeg) (sending : Option JobValue) (P : ℕ → PageValue → Type 0) (marks : List Mark) → IsWriting writes → IfHolds P sending → IfInCall writes leg sending marks →
+    EachEmission (IsAllowed writes leg) marks (elements_told (told_called setup writes leg now))
+by_leg setup writes now None sending P marks w h i = tt
+by_leg setup writes now (Some l) sending P marks w h i = by l.entered i.sends
   where
     by : (b : Bool) → sending ≡ (if◌then◌else◌ {A = Option JobValue} b None (Some l.job)) →
-        EachEmission (IsAllowed writes (Some l)) marks (elements_told (if◌then◌else◌ {A = Option (List ℕ)} b None (told_by l.given (calls writes l now).given)))
+        EachEmission (IsAllowed writes (Some l)) marks (elements_told (if◌then◌else◌ {A = Option (List ℕ)} b None (told_by setup l.given (calls writes l now).given)))
     by true e = tt
-    by false e = in_call_allowed writes l now sending marks w (subst (IfHolds P) e h).is_job i
+    by false e = in_call_allowed setup writes l now sending marks w (subst (IfHolds P) e h).is_job i
 
 pub none_lacking : NoneIsLacking
-none_lacking writes earlier at given w t =
+none_lacking setup writes earlier at given w t =
     let now : ℕ = max at (clock earlier) in
-    let z : Sides = in_tick writes earlier at in
-    let old : List Mark = leg_marks writes earlier in
-    let marks : List Mark = marks_before writes earlier at old in
+    let z : Sides = in_tick setup writes earlier at in
+    let old : List Mark = leg_marks setup writes earlier in
+    let marks : List Mark = marks_before setup writes earlier at old in
     subst (λ (told : Option (List ℕ)). EachEmission (IsAllowed writes z.leg) marks (elements_told told)) (sym (ap (λ (g : Given). g.on_called) t.0))
-    (by_leg writes now z.leg (book_of z).sending (WasConfirmedIn (Tick at given ∷ earlier)) marks w
-    (held (WasConfirmedIn (Tick at given ∷ earlier)) z.steps (tick_holds writes earlier at given t)).sending (before_call writes earlier at old (in_call writes earlier t.1)))
+    (by_leg setup writes now z.leg (book_of z).sending (WasConfirmedIn setup (Tick at given ∷ earlier)) marks w
+    (held (WasConfirmedIn setup (Tick at given ∷ earlier)) z.steps (tick_holds setup writes earlier at given t)).sending (before_call setup writes earlier at old (in_call setup writes earlier t.1)))

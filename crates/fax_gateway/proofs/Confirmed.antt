@@ -11,6 +11,7 @@ use Rattle.fax_jobs.specs.Pasts.{Step}
 use Rattle.fax_answer.specs.Replies.{ConfirmedPage, Waiting, mcf_packet}
 use Rattle.fax_answer.proofs.Confirmations.{gives_confirmations}
 use Rattle.fax_call.specs.Writings.{Writing}
+use Rattle.fax_gateway.specs.Setups.{Setup}
 use Rattle.fax_gateway.specs.Events.{Event, Ring, FromCalling, FromCalled, Tick, Given, clock}
 use Rattle.fax_gateway.specs.CallingLegs.{CallingLeg, core_of, calling_leg, idle_after, answers, told_calling, confirmed_by}
 use Rattle.fax_gateway.specs.CalledLegs.{is_free, outcome_told, delivered_told}
@@ -23,8 +24,8 @@ use Rattle.fax_gateway.proofs.LegsRead.{leg_is_read}
 use Rattle.fax_gateway.proofs.Replied.{IfNeat, neat_of, ticked_neat, told_mcf}
 
 -- what was confirmed in a trace was confirmed in what comes after it
-pub was_later : (e : Event) (trace : List Event) (call : ℕ) (page : PageValue) → WasConfirmedIn trace call page → WasConfirmedIn (e ∷ trace) call page
-was_later e trace call page w =
+pub was_later : (setup : Setup) (e : Event) (trace : List Event) (call : ℕ) (page : PageValue) → WasConfirmedIn setup trace call page → WasConfirmedIn setup (e ∷ trace) call page
+was_later setup e trace call page w =
     record {
       later = e ∷ w.later;
       at = w.at;
@@ -46,23 +47,23 @@ pub given_with : (o : Option Waiting) (c : ConfirmedPage) → confirmed_by o ≡
 given_with None c h = cc
 given_with (Some w) c h = (w, refl, h)
 
-told_in : (l : CallingLeg) (now : ℕ) (w : Waiting) → IfNeat (Some l) → (answers l now).given ≡ Some w → w.packet ≡ mcf_packet → gives_mcf (told_calling (Some l) now) ≡ true
-told_in l now w n is e = told_mcf l.given (answers l now).given w n.short (ticked_neat (core_of l) now n.core).given is e
+told_in : (setup : Setup) (l : CallingLeg) (now : ℕ) (w : Waiting) → IfNeat (Some l) → (answers l now).given ≡ Some w → w.packet ≡ mcf_packet → gives_mcf (told_calling setup (Some l) now) ≡ true
+told_in setup l now w n is e = told_mcf setup l.given (answers l now).given w n.short (ticked_neat (core_of l) now n.core).given is e
 
-pub confirmed_now : (writes : Writing) (earlier : List Event) (at : ℕ) (given : Given) (l : CallingLeg) (c : ConfirmedPage) → IsTrace writes (Tick at given ∷ earlier) →
-    calling_leg earlier ≡ Some l → confirmed_by (answers l (max at (clock earlier))).given ≡ Some c → WasConfirmedIn (Tick at given ∷ earlier) l.number c.page
-confirmed_now writes earlier at given l c t is h =
+pub confirmed_now : (setup : Setup) (writes : Writing) (earlier : List Event) (at : ℕ) (given : Given) (l : CallingLeg) (c : ConfirmedPage) → IsTrace setup writes (Tick at given ∷ earlier) →
+    calling_leg setup earlier ≡ Some l → confirmed_by (answers l (max at (clock earlier))).given ≡ Some c → WasConfirmedIn setup (Tick at given ∷ earlier) l.number c.page
+confirmed_now setup writes earlier at given l c t is h =
     let now : ℕ = max at (clock earlier) in
     let g = given_with (answers l now).given c h in
-    let r = gives_confirmations l.before l.begun now l.events g.0 c (leg_is_read writes earlier l t.1 is) g.1 g.2 in
+    let r = gives_confirmations l.before l.begun now l.events g.0 c (leg_is_read setup writes earlier l t.1 is) g.1 g.2 in
     record {
       later = [];
       at = at;
       given = given;
       earlier = earlier;
       split = refl;
-      mcf = ap (λ (g : Given). gives_mcf g.on_calling) t.0 ∙ ap (λ (o : Option CallingLeg). gives_mcf (told_calling o now)) is
-          ∙ told_in l now g.0 (subst IfNeat is (neat_of earlier)) g.1 r.0;
+      mcf = ap (λ (g : Given). gives_mcf g.on_calling) t.0 ∙ ap (λ (o : Option CallingLeg). gives_mcf (told_calling setup o now)) is
+          ∙ told_in setup l now g.0 (subst IfNeat is (neat_of setup earlier)) g.1 r.0;
       leg = l;
       is_leg = is;
       in_call = refl;
@@ -76,8 +77,8 @@ confirmed_now writes earlier at given l c t is h =
 means_one : (format : Format) (coding : Coding) (octets : List ℕ) (page : PageValue) → MeansPage format coding octets page → IsPage page
 means_one format coding octets page m = subst (λ (f : Format). AreRows (elements_of f.width) page.rows) (sym m.0) m.1.are_rows
 
-pub page_is : (trace : List Event) (call : ℕ) (page : PageValue) → WasConfirmedIn trace call page → IsPage page
-page_is trace call page w = subst IsPage w.same_page (means_one _ _ _ w.confirmed.page w.confirmation.confirmation.means)
+pub page_is : (setup : Setup) (trace : List Event) (call : ℕ) (page : PageValue) → WasConfirmedIn setup trace call page → IsPage page
+page_is setup trace call page w = subst IsPage w.same_page (means_one _ _ _ w.confirmed.page w.confirmation.confirmation.means)
 
 -- what the steps confirm
 ends_hold : (P : ℕ → PageValue → Type 0) (b : Bool) (steps : List Step) → StepsHold P steps → StepsHold P (ends_if b steps)
@@ -88,21 +89,21 @@ confirms_hold : (P : ℕ → PageValue → Type 0) (number : ℕ) (o : Option Co
 confirms_hold P number None steps f h = h
 confirms_hold P number (Some c) steps f h = ((f c refl).0, ((f c refl).1, h))
 
-tick_hold : (writes : Writing) (earlier : List Event) (at : ℕ) (given : Given) (o : Option CallingLeg) (steps : List Step) → IsTrace writes (Tick at given ∷ earlier) → calling_leg earlier ≡ o →
-    StepsHold (WasConfirmedIn (Tick at given ∷ earlier)) steps → StepsHold (WasConfirmedIn (Tick at given ∷ earlier)) (heard_in_tick o (max at (clock earlier)) steps)
-tick_hold writes earlier at given None steps t is h = h
-tick_hold writes earlier at given (Some l) steps t is h =
+tick_hold : (setup : Setup) (writes : Writing) (earlier : List Event) (at : ℕ) (given : Given) (o : Option CallingLeg) (steps : List Step) → IsTrace setup writes (Tick at given ∷ earlier) → calling_leg setup earlier ≡ o →
+    StepsHold (WasConfirmedIn setup (Tick at given ∷ earlier)) steps → StepsHold (WasConfirmedIn setup (Tick at given ∷ earlier)) (heard_in_tick o (max at (clock earlier)) steps)
+tick_hold setup writes earlier at given None steps t is h = h
+tick_hold setup writes earlier at given (Some l) steps t is h =
     let trace : List Event = Tick at given ∷ earlier in
-    let P : ℕ → PageValue → Type 0 = WasConfirmedIn trace in
+    let P : ℕ → PageValue → Type 0 = WasConfirmedIn setup trace in
     let a = answers l (max at (clock earlier)) in
     ends_hold P a.ended (confirms_if l.number (confirmed_by a.given) steps)
     (confirms_hold P l.number (confirmed_by a.given) steps
-    (λ c e. let w : WasConfirmedIn trace l.number c.page = confirmed_now writes earlier at given l c t is e in (w, page_is trace l.number c.page w)) h)
+    (λ c e. let w : WasConfirmedIn setup trace l.number c.page = confirmed_now setup writes earlier at given l c t is e in (w, page_is setup trace l.number c.page w)) h)
 
-sends_hold : (P : ℕ → PageValue → Type 0) (writes : Writing) (now : ℕ) (s : Sides) → StepsHold P s.steps → StepsHold P (sends_if writes now s).steps
-sends_hold P writes now s h = by (is_free s.leg)
+sends_hold : (setup : Setup) (P : ℕ → PageValue → Type 0) (writes : Writing) (now : ℕ) (s : Sides) → StepsHold P s.steps → StepsHold P (sends_if setup writes now s).steps
+sends_hold setup P writes now s h = by (is_free s.leg)
   where
-    by : (b : Bool) → StepsHold P (if◌then◌else◌ {A = Sides} b (sends writes now s) s).steps
+    by : (b : Bool) → StepsHold P (if◌then◌else◌ {A = Sides} b (sends setup writes now s) s).steps
     by true = h
     by false = h
 
@@ -110,35 +111,35 @@ enters_hold : (P : ℕ → PageValue → Type 0) (delivered : ℕ) (o : Option O
 enters_hold P delivered None steps h = h
 enters_hold P delivered (Some outcome) steps h = h
 
-pub tick_holds_from : (writes : Writing) (earlier : List Event) (at : ℕ) (given : Given) → IsTrace writes (Tick at given ∷ earlier) → StepsHold (WasConfirmedIn (Tick at given ∷ earlier)) (sides writes earlier).steps →
-    StepsHold (WasConfirmedIn (Tick at given ∷ earlier)) (in_tick writes earlier at).steps
-tick_holds_from writes earlier at given t h =
-    let P : ℕ → PageValue → Type 0 = WasConfirmedIn (Tick at given ∷ earlier) in
+pub tick_holds_from : (setup : Setup) (writes : Writing) (earlier : List Event) (at : ℕ) (given : Given) → IsTrace setup writes (Tick at given ∷ earlier) → StepsHold (WasConfirmedIn setup (Tick at given ∷ earlier)) (sides setup writes earlier).steps →
+    StepsHold (WasConfirmedIn setup (Tick at given ∷ earlier)) (in_tick setup writes earlier at).steps
+tick_holds_from setup writes earlier at given t h =
+    let P : ℕ → PageValue → Type 0 = WasConfirmedIn setup (Tick at given ∷ earlier) in
     let now : ℕ = max at (clock earlier) in
-    let s : Sides = sides writes earlier in
-    sends_hold P writes now (record s { steps = heard_in_tick (calling_leg earlier) now s.steps })
-    (tick_hold writes earlier at given (calling_leg earlier) s.steps t refl h)
+    let s : Sides = sides setup writes earlier in
+    sends_hold setup P writes now (record s { steps = heard_in_tick (calling_leg setup earlier) now s.steps })
+    (tick_hold setup writes earlier at given (calling_leg setup earlier) s.steps t refl h)
 
-event_holds : (writes : Writing) (e : Event) (earlier : List Event) → IsTrace writes (e ∷ earlier) → StepsHold (WasConfirmedIn (e ∷ earlier)) (sides writes earlier).steps →
-    StepsHold (WasConfirmedIn (e ∷ earlier)) (sides writes (e ∷ earlier)).steps
-event_holds writes (Ring at n) earlier t h = h
-event_holds writes (FromCalling octets at decided read) earlier t h =
-    ends_hold (WasConfirmedIn (FromCalling octets at decided read ∷ earlier)) (not (idle_after (calling_leg earlier)) && idle_after (calling_leg (FromCalling octets at decided read ∷ earlier))) (sides writes earlier).steps h
-event_holds writes (FromCalled octets at decided) earlier t h = h
-event_holds writes (Tick at given) earlier t h =
-    let P : ℕ → PageValue → Type 0 = WasConfirmedIn (Tick at given ∷ earlier) in
+event_holds : (setup : Setup) (writes : Writing) (e : Event) (earlier : List Event) → IsTrace setup writes (e ∷ earlier) → StepsHold (WasConfirmedIn setup (e ∷ earlier)) (sides setup writes earlier).steps →
+    StepsHold (WasConfirmedIn setup (e ∷ earlier)) (sides setup writes (e ∷ earlier)).steps
+event_holds setup writes (Ring at n) earlier t h = h
+event_holds setup writes (FromCalling octets at decided read) earlier t h =
+    ends_hold (WasConfirmedIn setup (FromCalling octets at decided read ∷ earlier)) (not (idle_after (calling_leg setup earlier)) && idle_after (calling_leg setup (FromCalling octets at decided read ∷ earlier))) (sides setup writes earlier).steps h
+event_holds setup writes (FromCalled octets at decided) earlier t h = h
+event_holds setup writes (Tick at given) earlier t h =
+    let P : ℕ → PageValue → Type 0 = WasConfirmedIn setup (Tick at given ∷ earlier) in
     let now : ℕ = max at (clock earlier) in
-    let z : Sides = in_tick writes earlier at in
-    enters_hold P (delivered_told writes z.leg now) (outcome_told writes z.leg now) z.steps (tick_holds_from writes earlier at given t h)
+    let z : Sides = in_tick setup writes earlier at in
+    enters_hold P (delivered_told writes z.leg now) (outcome_told writes z.leg now) z.steps (tick_holds_from setup writes earlier at given t h)
 
-pub steps_hold : (writes : Writing) (trace : List Event) → IsTrace writes trace → StepsHold (WasConfirmedIn trace) (sides writes trace).steps
-steps_hold writes [] t = tt
-steps_hold writes (e ∷ earlier) t =
-    event_holds writes e earlier t
-    (steps_map (WasConfirmedIn earlier) (WasConfirmedIn (e ∷ earlier)) (sides writes earlier).steps (λ call page w. was_later e earlier call page w) (steps_hold writes earlier t.1))
+pub steps_hold : (setup : Setup) (writes : Writing) (trace : List Event) → IsTrace setup writes trace → StepsHold (WasConfirmedIn setup trace) (sides setup writes trace).steps
+steps_hold setup writes [] t = tt
+steps_hold setup writes (e ∷ earlier) t =
+    event_holds setup writes e earlier t
+    (steps_map (WasConfirmedIn setup earlier) (WasConfirmedIn setup (e ∷ earlier)) (sides setup writes earlier).steps (λ call page w. was_later setup e earlier call page w) (steps_hold setup writes earlier t.1))
 
 -- the same in a tick, when the called leg is served
-pub tick_holds : (writes : Writing) (earlier : List Event) (at : ℕ) (given : Given) → IsTrace writes (Tick at given ∷ earlier) → StepsHold (WasConfirmedIn (Tick at given ∷ earlier)) (in_tick writes earlier at).steps
-tick_holds writes earlier at given t =
-    tick_holds_from writes earlier at given t
-    (steps_map (WasConfirmedIn earlier) (WasConfirmedIn (Tick at given ∷ earlier)) (sides writes earlier).steps (λ call page w. was_later (Tick at given) earlier call page w) (steps_hold writes earlier t.1))
+pub tick_holds : (setup : Setup) (writes : Writing) (earlier : List Event) (at : ℕ) (given : Given) → IsTrace setup writes (Tick at given ∷ earlier) → StepsHold (WasConfirmedIn setup (Tick at given ∷ earlier)) (in_tick setup writes earlier at).steps
+tick_holds setup writes earlier at given t =
+    tick_holds_from setup writes earlier at given t
+    (steps_map (WasConfirmedIn setup earlier) (WasConfirmedIn setup (Tick at given ∷ earlier)) (sides setup writes earlier).steps (λ call page w. was_later setup (Tick at given) earlier call page w) (steps_hold setup writes earlier t.1))

@@ -11,6 +11,7 @@ use Rattle.fax_answer.specs.Table.{Reading}
 use Rattle.fax_answer.specs.Replies.{ConfirmedPage}
 use Rattle.fax_answer.specs.Calls.{Answering, Ticked}
 use Rattle.fax_call.specs.Writings.{Writing}
+use Rattle.fax_gateway.specs.Setups.{Setup}
 use Rattle.fax_gateway.specs.Events.{Event, Ring, FromCalling, FromCalled, Tick, Given, clock, rings}
 use Rattle.fax_gateway.specs.CallingLegs.{CallingLeg, core_of, is_idle, idle_after, leg_with, calling_after, calling_leg, answers, confirmed_by}
 use Rattle.fax_gateway.specs.CalledLegs.{is_free, outcome_told, delivered_told}
@@ -111,15 +112,15 @@ abbrev number_of : Option CallingLeg → ℕ
 number_of None = 0
 number_of (Some l) = l.number
 
-heard_so : (o : Option CallingLeg) (now at : ℕ) (given : Given) (calls : List (List Confirmation)) (steps : List Step) → IfRests o → So (not (idle_after o)) calls (after_steps new_past steps) (number_of o) →
-    So (not (idle_after (calling_after o now (Tick at given)))) (with_confirmed (confirmed_at o now) calls) (after_steps new_past (heard_in_tick o now steps)) (number_of (calling_after o now (Tick at given)))
-heard_so None now at given calls steps r s = s
-heard_so (Some l) now at given calls steps r s = tick_so l now calls steps r s
+heard_so : (setup : Setup) (o : Option CallingLeg) (now at : ℕ) (given : Given) (calls : List (List Confirmation)) (steps : List Step) → IfRests o → So (not (idle_after o)) calls (after_steps new_past steps) (number_of o) →
+    So (not (idle_after (calling_after setup o now (Tick at given)))) (with_confirmed (confirmed_at o now) calls) (after_steps new_past (heard_in_tick o now steps)) (number_of (calling_after setup o now (Tick at given)))
+heard_so setup None now at given calls steps r s = s
+heard_so setup (Some l) now at given calls steps r s = tick_so l now calls steps r s
 
-if_sends_so : (writes : Writing) (now : ℕ) (s : Sides) (on : Bool) (calls : List (List Confirmation)) (number : ℕ) → So on calls (past_of s) number → So on calls (past_of (sends_if writes now s)) number
-if_sends_so writes now s on calls number k = by (is_free s.leg)
+if_sends_so : (setup : Setup) (writes : Writing) (now : ℕ) (s : Sides) (on : Bool) (calls : List (List Confirmation)) (number : ℕ) → So on calls (past_of s) number → So on calls (past_of (sends_if setup writes now s)) number
+if_sends_so setup writes now s on calls number k = by (is_free s.leg)
   where
-    by : (b : Bool) → So on calls (past_of (if◌then◌else◌ {A = Sides} b (sends writes now s) s)) number
+    by : (b : Bool) → So on calls (past_of (if◌then◌else◌ {A = Sides} b (sends setup writes now s) s)) number
     by true = sends_so on calls (past_of s) number k
     by false = k
 
@@ -132,11 +133,11 @@ with_number : (l : CallingLeg) (now : ℕ) (read : Reading) (r : Result Datagram
 with_number l now read (Ok d) = refl
 with_number l now read (Err f) = refl
 
-came_so : (o : Option CallingLeg) (now : ℕ) (octets : List ℕ) (at : ℕ) (decided : Bool) (read : Reading) (calls : List (List Confirmation)) (steps : List Step) → So (not (idle_after o)) calls (after_steps new_past steps) (number_of o) →
-    let new : Option CallingLeg = calling_after o now (FromCalling octets at decided read) in
+came_so : (setup : Setup) (o : Option CallingLeg) (now : ℕ) (octets : List ℕ) (at : ℕ) (decided : Bool) (read : Reading) (calls : List (List Confirmation)) (steps : List Step) → So (not (idle_after o)) calls (after_steps new_past steps) (number_of o) →
+    let new : Option CallingLeg = calling_after setup o now (FromCalling octets at decided read) in
     So (not (idle_after new)) calls (after_steps new_past (ends_if (not (idle_after o) && idle_after new) steps)) (number_of new)
-came_so None now octets at decided read calls steps s = s
-came_so (Some l) now octets at decided read calls steps s = by (is_idle (core_of l).state) refl s
+came_so setup None now octets at decided read calls steps s = s
+came_so setup (Some l) now octets at decided read calls steps s = by (is_idle (core_of l).state) refl s
   where
     m : CallingLeg
     m = leg_with l now read (datagram_of octets)
@@ -151,50 +152,50 @@ came_so (Some l) now octets at decided read calls steps s = by (is_idle (core_of
         (ends_so idle calls steps l.number s)
 
 -- a ring
-rings_are : (trace : List Event) → rings trace ≡ length (calls_of trace)
-rings_are [] = refl
-rings_are (Ring at n ∷ earlier) = let e : rings earlier ≡ length (calls_of earlier) = rings_are earlier in omega arith
-rings_are (FromCalling octets at d read ∷ earlier) = rings_are earlier
-rings_are (FromCalled octets at d ∷ earlier) = rings_are earlier
-rings_are (Tick at given ∷ earlier) = rings_are earlier ∙ sym (by (confirmed_at (calling_leg earlier) (clock (Tick at given ∷ earlier))) (calls_of earlier))
+rings_are : (setup : Setup) (trace : List Event) → rings trace ≡ length (calls_of setup trace)
+rings_are setup [] = refl
+rings_are setup (Ring at n ∷ earlier) = let e : rings earlier ≡ length (calls_of setup earlier) = rings_are setup earlier in omega arith
+rings_are setup (FromCalling octets at d read ∷ earlier) = rings_are setup earlier
+rings_are setup (FromCalled octets at d ∷ earlier) = rings_are setup earlier
+rings_are setup (Tick at given ∷ earlier) = rings_are setup earlier ∙ sym (by (confirmed_at (calling_leg setup earlier) (clock (Tick at given ∷ earlier))) (calls_of setup earlier))
   where
     by : (o : Option ConfirmedPage) (calls : List (List Confirmation)) → length (with_confirmed o calls) ≡ length calls
     by None calls = refl
     by (Some c) [] = refl
     by (Some c) (cs ∷ calls) = refl
 
-begun_so : (o : Option CallingLeg) (now at number : ℕ) (calls : List (List Confirmation)) (past : Past) → number ≡ length calls → So false calls past (number_of o) →
-    So (not (idle_after (calling_after o now (Ring at number)))) ([] ∷ calls) past (number_of (calling_after o now (Ring at number)))
-begun_so None now at number calls past e s =
+begun_so : (setup : Setup) (o : Option CallingLeg) (now at number : ℕ) (calls : List (List Confirmation)) (past : Past) → number ≡ length calls → So false calls past (number_of o) →
+    So (not (idle_after (calling_after setup o now (Ring at number)))) ([] ∷ calls) past (number_of (calling_after setup o now (Ring at number)))
+begun_so setup None now at number calls past e s =
     record { old = past; since = []; past_is = refl; in_call = tt; same = refl; none_open = s.1; before = s.0; number_is = e }
-begun_so (Some l) now at number calls past e s =
+begun_so setup (Some l) now at number calls past e s =
     record { old = past; since = []; past_is = refl; in_call = tt; same = refl; none_open = s.1; before = s.0; number_is = e }
 
-book_so : (writes : Writing) (trace : List Event) → IsTrace writes trace → So (not (idle_after (calling_leg trace))) (calls_of trace) (past_of (sides writes trace)) (number_of (calling_leg trace))
-book_so writes [] t = (refl, refl)
-book_so writes (Ring at n ∷ earlier) t =
-    let o : Option CallingLeg = calling_leg earlier in
-    begun_so o (clock (Ring at n ∷ earlier)) at n (calls_of earlier) (past_of (sides writes earlier)) (t.0.0 ∙ rings_are earlier)
-    (subst (λ (b : Bool). So (not b) (calls_of earlier) (past_of (sides writes earlier)) (number_of o)) t.0.2 (book_so writes earlier t.1))
-book_so writes (FromCalling octets at decided read ∷ earlier) t =
-    came_so (calling_leg earlier) (clock (FromCalling octets at decided read ∷ earlier)) octets at decided read (calls_of earlier) (sides writes earlier).steps (book_so writes earlier t.1)
-book_so writes (FromCalled octets at decided ∷ earlier) t = by (calling_leg earlier) (book_so writes earlier t.1)
+book_so : (setup : Setup) (writes : Writing) (trace : List Event) → IsTrace setup writes trace → So (not (idle_after (calling_leg setup trace))) (calls_of setup trace) (past_of (sides setup writes trace)) (number_of (calling_leg setup trace))
+book_so setup writes [] t = (refl, refl)
+book_so setup writes (Ring at n ∷ earlier) t =
+    let o : Option CallingLeg = calling_leg setup earlier in
+    begun_so setup o (clock (Ring at n ∷ earlier)) at n (calls_of setup earlier) (past_of (sides setup writes earlier)) (t.0.0 ∙ rings_are setup earlier)
+    (subst (λ (b : Bool). So (not b) (calls_of setup earlier) (past_of (sides setup writes earlier)) (number_of o)) t.0.2 (book_so setup writes earlier t.1))
+book_so setup writes (FromCalling octets at decided read ∷ earlier) t =
+    came_so setup (calling_leg setup earlier) (clock (FromCalling octets at decided read ∷ earlier)) octets at decided read (calls_of setup earlier) (sides setup writes earlier).steps (book_so setup writes earlier t.1)
+book_so setup writes (FromCalled octets at decided ∷ earlier) t = by (calling_leg setup earlier) (book_so setup writes earlier t.1)
   where
-    by : (o : Option CallingLeg) → So (not (idle_after o)) (calls_of earlier) (past_of (sides writes earlier)) (number_of o) →
-        let new : Option CallingLeg = calling_after o (clock (FromCalled octets at decided ∷ earlier)) (FromCalled octets at decided) in
-        So (not (idle_after new)) (calls_of earlier) (past_of (sides writes earlier)) (number_of new)
+    by : (o : Option CallingLeg) → So (not (idle_after o)) (calls_of setup earlier) (past_of (sides setup writes earlier)) (number_of o) →
+        let new : Option CallingLeg = calling_after setup o (clock (FromCalled octets at decided ∷ earlier)) (FromCalled octets at decided) in
+        So (not (idle_after new)) (calls_of setup earlier) (past_of (sides setup writes earlier)) (number_of new)
     by None s = s
     by (Some l) s = s
-book_so writes (Tick at given ∷ earlier) t =
+book_so setup writes (Tick at given ∷ earlier) t =
     let now : ℕ = max at (clock earlier) in
-    let o : Option CallingLeg = calling_leg earlier in
-    let new : Option CallingLeg = calling_leg (Tick at given ∷ earlier) in
-    let s : Sides = sides writes earlier in
-    let z : Sides = in_tick writes earlier at in
-    let calls : List (List Confirmation) = with_confirmed (confirmed_at o now) (calls_of earlier) in
+    let o : Option CallingLeg = calling_leg setup earlier in
+    let new : Option CallingLeg = calling_leg setup (Tick at given ∷ earlier) in
+    let s : Sides = sides setup writes earlier in
+    let z : Sides = in_tick setup writes earlier at in
+    let calls : List (List Confirmation) = with_confirmed (confirmed_at o now) (calls_of setup earlier) in
     enters_so (delivered_told writes z.leg now) (outcome_told writes z.leg now) z.steps (not (idle_after new)) calls (number_of new)
-    (if_sends_so writes now (record s { steps = heard_in_tick o now s.steps }) (not (idle_after new)) calls (number_of new)
-    (heard_so o now at given (calls_of earlier) s.steps (rests_of earlier) (book_so writes earlier t.1)))
+    (if_sends_so setup writes now (record s { steps = heard_in_tick o now s.steps }) (not (idle_after new)) calls (number_of new)
+    (heard_so setup o now at given (calls_of setup earlier) s.steps (rests_of setup earlier) (book_so setup writes earlier t.1)))
 
 book_is : (on : Bool) (calls : List (List Confirmation)) (past : Past) (number : ℕ) → So on calls past number → IsBookOf on calls past
 book_is false calls past number s = s
@@ -213,5 +214,5 @@ book_is true (cs ∷ calls) past number s =
     }
 
 pub jobs_are_cut : JobsAreCut
-jobs_are_cut writes trace t =
-    book_is (not (idle_after (calling_leg trace))) (calls_of trace) (past_of (sides writes trace)) (number_of (calling_leg trace)) (book_so writes trace t)
+jobs_are_cut setup writes trace t =
+    book_is (not (idle_after (calling_leg setup trace))) (calls_of setup trace) (past_of (sides setup writes trace)) (number_of (calling_leg setup trace)) (book_so setup writes trace t)

@@ -6,6 +6,7 @@ use Rattle.std.proofs.lemmas.List.Elements.{All-head, All-tail}
 use mir.Val.{bool_byte}
 use Rattle.std.proofs.lemmas.Bool.{false≢true}
 use Rattle.std.proofs.Math.Nat.{lt_of_not-le}
+use Rattle.fax_gateway.specs.Setups.{Setup}
 use Rattle.fax_gateway.specs.declared.driven.Driven.{Driven}
 use Rattle.std.proofs.lemmas.List.Sums.{sum_by-append, sum_by-cons, count_by-le-length}
 use Rattle.std.proofs.lemmas.Grind.{flat_map-append}
@@ -71,32 +72,32 @@ carries_more older newer a b c first second = record {
       omega arith;
 }
 
-pub reached_more : (writes : Writing) (older newer : List Entry) (trace : List Event) (g : GatewayValue) → IsReachedBy writes (events newer ++ (events older ++ trace)) g → IsReachedBy writes (events (newer ++ older) ++ trace) g
-reached_more writes older newer trace g r =
-    subst (λ (t : List Event). IsReachedBy writes t g) (sym (append_assoc (events newer) (events older) trace) ∙ ap (λ (l : List Event). l ++ trace) (sym (flat_map-append events_in newer older))) r
+pub reached_more : (setup : Setup) (writes : Writing) (older newer : List Entry) (trace : List Event) (g : GatewayValue) → IsReachedBy setup writes (events newer ++ (events older ++ trace)) g → IsReachedBy setup writes (events (newer ++ older) ++ trace) g
+reached_more setup writes older newer trace g r =
+    subst (λ (t : List Event). IsReachedBy setup writes t g) (sym (append_assoc (events newer) (events older) trace) ∙ ap (λ (l : List Event). l ++ trace) (sym (flat_map-append events_in newer older))) r
 
-pub wanting_more : (writes : Writing) (older newer : List Entry) (trace : List Event) → AreWanting writes trace older → AreWanting writes (events older ++ trace) newer → AreWanting writes trace (newer ++ older)
-wanting_more writes older [] trace first second = first
-wanting_more writes older (e ∷ newer) trace first second = (
-  subst (λ (t : List Event). IsWanting writes t e) (sym (append_assoc (events newer) (events older) trace) ∙ ap (λ (l : List Event). l ++ trace) (sym (flat_map-append events_in newer older))) second.0,
-  wanting_more writes older newer trace first second.1,
+pub wanting_more : (setup : Setup) (writes : Writing) (older newer : List Entry) (trace : List Event) → AreWanting setup writes trace older → AreWanting setup writes (events older ++ trace) newer → AreWanting setup writes trace (newer ++ older)
+wanting_more setup writes older [] trace first second = first
+wanting_more setup writes older (e ∷ newer) trace first second = (
+  subst (λ (t : List Event). IsWanting setup writes t e) (sym (append_assoc (events newer) (events older) trace) ∙ ap (λ (l : List Event). l ++ trace) (sym (flat_map-append events_in newer older))) second.0,
+  wanting_more setup writes older newer trace first second.1,
 )
 
 pub happens_more :
-    (writes : Writing) (older newer : List Entry) (trace : List Event) (g h : GatewayValue) (a b c : Known)
-    → Happens writes older trace g a b → Happens writes newer (events older ++ trace) h b c → Happens writes (newer ++ older) trace h a c
-happens_more writes older newer trace g h a b c first second = record {
-  reached = reached_more writes older newer trace h second.reached;
-  wanting = wanting_more writes older newer trace first.wanting second.wanting;
+    (setup : Setup) (writes : Writing) (older newer : List Entry) (trace : List Event) (g h : GatewayValue) (a b c : Known)
+    → Happens setup writes older trace g a b → Happens setup writes newer (events older ++ trace) h b c → Happens setup writes (newer ++ older) trace h a c
+happens_more setup writes older newer trace g h a b c first second = record {
+  reached = reached_more setup writes older newer trace h second.reached;
+  wanting = wanting_more setup writes older newer trace first.wanting second.wanting;
   carried = carries_more older newer a b c first.carried second.carried;
 }
 
 pub steps_more :
-    (writes : Writing) (older newer : List Entry) (trace : List Event) (earlier : List Entry) (g h : GatewayValue) (a b c : Known) (d e : DriverValue)
-    → Steps writes older trace earlier g a b d → Steps writes newer (events older ++ trace) (older ++ earlier) h b c e
-    → Steps writes (newer ++ older) trace earlier h a c e
-steps_more writes older newer trace earlier g h a b c d e first second = record {
-  happens = happens_more writes older newer trace g h a b c first.happens second.happens;
+    (setup : Setup) (writes : Writing) (older newer : List Entry) (trace : List Event) (earlier : List Entry) (g h : GatewayValue) (a b c : Known) (d e : DriverValue)
+    → Steps setup writes older trace earlier g a b d → Steps setup writes newer (events older ++ trace) (older ++ earlier) h b c e
+    → Steps setup writes (newer ++ older) trace earlier h a c e
+steps_more setup writes older newer trace earlier g h a b c d e first second = record {
+  happens = happens_more setup writes older newer trace g h a b c first.happens second.happens;
   made = subst (λ (l : List Entry). HasMade l e) (sym (append_assoc newer older earlier)) second.made;
 }
 
@@ -105,9 +106,9 @@ steps_more writes older newer trace earlier g h a b c d e first second = record 
 pub carries_none : (a : Known) → Carries [] a a
 carries_none a = record { received = grows_none a.received; sent = grows_none a.sent; failures = λ _. omega arith }
 
-pub steps_none : (writes : Writing) (trace : List Event) (earlier : List Entry) (g : GatewayValue) (a : Known) (d : DriverValue)
-    → IsReachedBy writes trace g → HasMade earlier d → Steps writes [] trace earlier g a a d
-steps_none writes trace earlier g a d reached made = record { happens = record { reached = reached; wanting = tt; carried = carries_none a }; made = made }
+pub steps_none : (setup : Setup) (writes : Writing) (trace : List Event) (earlier : List Entry) (g : GatewayValue) (a : Known) (d : DriverValue)
+    → IsReachedBy setup writes trace g → HasMade earlier d → Steps setup writes [] trace earlier g a a d
+steps_none setup writes trace earlier g a d reached made = record { happens = record { reached = reached; wanting = tt; carried = carries_none a }; made = made }
 
 -- an entry that the wire does not see
 pub carries_unseen : (e : Entry) (a : Known) → receipts_in e ≡ [] → sent_in e ≡ [] → is_failed_receive e ≡ false → is_failed_send e ≡ false → Carries (e ∷ []) a a
@@ -214,29 +215,29 @@ pub must_decide : (decides : Bool) (r : Result Bool NoMemory) (fault : NoMemory)
 must_decide true r fault is sure = refl
 must_decide false r fault is sure = let e : r ≡ Ok false = sure refl in cc
 
-abbrev pub HandsOn : Writing → List Event → Side → List ℕ → ℕ → Bool → GatewayValue → Type 0
-HandsOn writes trace at octets now accepted g = (e : Entry) × Comes at now e × IsHanded accepted at octets e × IsWanting writes trace e × IsReachedBy writes (events (e ∷ []) ++ trace) g
+abbrev pub HandsOn : Setup → Writing → List Event → Side → List ℕ → ℕ → Bool → GatewayValue → Type 0
+HandsOn setup writes trace at octets now accepted g = (e : Entry) × Comes at now e × IsHanded accepted at octets e × IsWanting setup writes trace e × IsReachedBy setup writes (events (e ∷ []) ++ trace) g
 
 pub hands_on_calling :
-    (writes : Writing) (trace : List Event) (octets : List ℕ) (now : ℕ) (old new : GatewayValue) (r : Result Bool NoMemory)
-    → IfOk r (λ decided. (writes : Writing) (trace : List Event) → IsReachedBy writes trace old → HearsFrom writes trace octets now decided new)
-    → ((writes : Writing) (trace : List Event) → IsReachedBy writes trace old → decided_calling (calling_leg trace) octets ≡ false → r ≡ Ok false)
-    → OnErr r (new ≡ old) → IsReachedBy writes trace old → HandsOn writes trace side.Calling octets now (is_ok r) new
-hands_on_calling writes trace octets now old new (Ok decided) heard memory err reached =
-    let h = heard writes trace reached in
+    (setup : Setup) (writes : Writing) (trace : List Event) (octets : List ℕ) (now : ℕ) (old new : GatewayValue) (r : Result Bool NoMemory)
+    → IfOk r (λ decided. (setup : Setup) (writes : Writing) (trace : List Event) → IsReachedBy setup writes trace old → HearsFrom setup writes trace octets now decided new)
+    → ((setup : Setup) (writes : Writing) (trace : List Event) → IsReachedBy setup writes trace old → decided_calling (calling_leg setup trace) octets ≡ false → r ≡ Ok false)
+    → OnErr r (new ≡ old) → IsReachedBy setup writes trace old → HandsOn setup writes trace side.Calling octets now (is_ok r) new
+hands_on_calling setup writes trace octets now old new (Ok decided) heard memory err reached =
+    let h = heard setup writes trace reached in
     (Accepts (FromCalling octets now decided h.read), (refl, refl), record { receipt = refl; refused = refl; none_sent = refl; received = refl; sends_none = refl }, tt, h.reached)
-hands_on_calling writes trace octets now old new (Err fault) heard memory err reached =
-    (RefusesDatagram side.Calling octets, refl, record { receipt = refl; refused = refl; none_sent = refl; received = refl; sends_none = refl }, must_decide _ (Err fault) fault refl (memory writes trace reached), subst (λ (g : GatewayValue). IsReachedBy writes trace g) (sym err) reached)
+hands_on_calling setup writes trace octets now old new (Err fault) heard memory err reached =
+    (RefusesDatagram side.Calling octets, refl, record { receipt = refl; refused = refl; none_sent = refl; received = refl; sends_none = refl }, must_decide _ (Err fault) fault refl (memory setup writes trace reached), subst (λ (g : GatewayValue). IsReachedBy setup writes trace g) (sym err) reached)
 
 pub hands_on_called :
-    (writes : Writing) (trace : List Event) (octets : List ℕ) (now : ℕ) (old new : GatewayValue) (r : Result Bool NoMemory)
-    → IfOk r (λ decided. (writes : Writing) (trace : List Event) → IsReachedBy writes trace old → IsReachedBy writes (FromCalled octets now decided ∷ trace) new)
-    → ((writes : Writing) (trace : List Event) → IsReachedBy writes trace old → decided_called writes (sides writes trace).leg octets ≡ false → r ≡ Ok false)
-    → OnErr r (new ≡ old) → IsReachedBy writes trace old → HandsOn writes trace side.Called octets now (is_ok r) new
-hands_on_called writes trace octets now old new (Ok decided) heard memory err reached =
-    (Accepts (FromCalled octets now decided), (refl, refl), record { receipt = refl; refused = refl; none_sent = refl; received = refl; sends_none = refl }, tt, heard writes trace reached)
-hands_on_called writes trace octets now old new (Err fault) heard memory err reached =
-    (RefusesDatagram side.Called octets, refl, record { receipt = refl; refused = refl; none_sent = refl; received = refl; sends_none = refl }, must_decide _ (Err fault) fault refl (memory writes trace reached), subst (λ (g : GatewayValue). IsReachedBy writes trace g) (sym err) reached)
+    (setup : Setup) (writes : Writing) (trace : List Event) (octets : List ℕ) (now : ℕ) (old new : GatewayValue) (r : Result Bool NoMemory)
+    → IfOk r (λ decided. (setup : Setup) (writes : Writing) (trace : List Event) → IsReachedBy setup writes trace old → IsReachedBy setup writes (FromCalled octets now decided ∷ trace) new)
+    → ((setup : Setup) (writes : Writing) (trace : List Event) → IsReachedBy setup writes trace old → decided_called writes (sides setup writes trace).leg octets ≡ false → r ≡ Ok false)
+    → OnErr r (new ≡ old) → IsReachedBy setup writes trace old → HandsOn setup writes trace side.Called octets now (is_ok r) new
+hands_on_called setup writes trace octets now old new (Ok decided) heard memory err reached =
+    (Accepts (FromCalled octets now decided), (refl, refl), record { receipt = refl; refused = refl; none_sent = refl; received = refl; sends_none = refl }, tt, heard setup writes trace reached)
+hands_on_called setup writes trace octets now old new (Err fault) heard memory err reached =
+    (RefusesDatagram side.Called octets, refl, record { receipt = refl; refused = refl; none_sent = refl; received = refl; sends_none = refl }, must_decide _ (Err fault) fault refl (memory setup writes trace reached), subst (λ (g : GatewayValue). IsReachedBy setup writes trace g) (sym err) reached)
 
 -- ---- sends
 
@@ -245,21 +246,21 @@ pub sends_no_event : (at : Side) (given : Option (List ℕ)) (log : List Entry) 
 sends_no_event at None log is = ap events is
 sends_no_event at (Some octets) log (fails, is) = ap events is
 
-pub sends_want_nothing : (writes : Writing) (trace : List Event) (at : Side) (given : Option (List ℕ)) (log : List Entry) → IsSent at given log → AreWanting writes trace log
-sends_want_nothing writes trace at None log is = subst (λ (l : List Entry). AreWanting writes trace l) (sym is) tt
-sends_want_nothing writes trace at (Some octets) log (fails, is) = subst (λ (l : List Entry). AreWanting writes trace l) (sym is) (tt, tt)
+pub sends_want_nothing : (setup : Setup) (writes : Writing) (trace : List Event) (at : Side) (given : Option (List ℕ)) (log : List Entry) → IsSent at given log → AreWanting setup writes trace log
+sends_want_nothing setup writes trace at None log is = subst (λ (l : List Entry). AreWanting setup writes trace l) (sym is) tt
+sends_want_nothing setup writes trace at (Some octets) log (fails, is) = subst (λ (l : List Entry). AreWanting setup writes trace l) (sym is) (tt, tt)
 
 pub is_sent : (at : Side) (given : Option (List ℕ)) (o octets : List ℕ) (fails : Bool) → given ≡ Some o → octets ≡ o → IsSent at given (Sends at octets fails ∷ [])
 is_sent at given o octets fails is same =
     subst (λ (x : Option (List ℕ)). IsSent at x (Sends at octets fails ∷ [])) (sym is) (fails, ap (λ (y : List ℕ). Sends at y fails ∷ []) same)
 
 pub steps_send :
-    (writes : Writing) (at : Side) (given : Option (List ℕ)) (log : List Entry) (trace : List Event) (earlier : List Entry) (g : GatewayValue) (a b : Known) (d : DriverValue)
-    → IsSent at given log → Carries log a b → HasMade (log ++ earlier) d → IsReachedBy writes trace g → Steps writes log trace earlier g a b d
-steps_send writes at given log trace earlier g a b d is carried made reached = record {
+    (setup : Setup) (writes : Writing) (at : Side) (given : Option (List ℕ)) (log : List Entry) (trace : List Event) (earlier : List Entry) (g : GatewayValue) (a b : Known) (d : DriverValue)
+    → IsSent at given log → Carries log a b → HasMade (log ++ earlier) d → IsReachedBy setup writes trace g → Steps setup writes log trace earlier g a b d
+steps_send setup writes at given log trace earlier g a b d is carried made reached = record {
   happens = record {
-    reached = subst (λ (l : List Event). IsReachedBy writes (l ++ trace) g) (sym (sends_no_event at given log is)) reached;
-    wanting = sends_want_nothing writes trace at given log is;
+    reached = subst (λ (l : List Event). IsReachedBy setup writes (l ++ trace) g) (sym (sends_no_event at given log is)) reached;
+    wanting = sends_want_nothing setup writes trace at given log is;
     carried = carried;
   };
   made = made;
@@ -326,29 +327,29 @@ counts_whole p start rings rounds all few =
 
 -- a ring is not seen by the wire, nor by the driver
 pub steps_ring :
-    (writes : Writing) (due : Bool) (now : ℕ) (log : List Entry) (trace : List Event) (earlier : List Entry) (g : GatewayValue) (a : Known) (d : DriverValue)
-    → IsRingIf due now log → IsReachedBy writes (events log ++ trace) g → HasMade earlier d → Steps writes log trace earlier g a a d
-steps_ring writes false now log trace earlier g a d is reached made = record {
-  happens = record { reached = reached; wanting = subst (λ (l : List Entry). AreWanting writes trace l) (sym is) tt; carried = subst (λ (l : List Entry). Carries l a a) (sym is) (carries_none a) };
+    (setup : Setup) (writes : Writing) (due : Bool) (now : ℕ) (log : List Entry) (trace : List Event) (earlier : List Entry) (g : GatewayValue) (a : Known) (d : DriverValue)
+    → IsRingIf due now log → IsReachedBy setup writes (events log ++ trace) g → HasMade earlier d → Steps setup writes log trace earlier g a a d
+steps_ring setup writes false now log trace earlier g a d is reached made = record {
+  happens = record { reached = reached; wanting = subst (λ (l : List Entry). AreWanting setup writes trace l) (sym is) tt; carried = subst (λ (l : List Entry). Carries l a a) (sym is) (carries_none a) };
   made = subst (λ (l : List Entry). HasMade (l ++ earlier) d) (sym is) made;
 }
-steps_ring writes true now log trace earlier g a d (inl (number, is)) reached made = record {
-  happens = record { reached = reached; wanting = subst (λ (l : List Entry). AreWanting writes trace l) (sym is) (tt, tt); carried = subst (λ (l : List Entry). Carries l a a) (sym is) (carries_unseen (Accepts (Ring now number)) a refl refl refl refl) };
+steps_ring setup writes true now log trace earlier g a d (inl (number, is)) reached made = record {
+  happens = record { reached = reached; wanting = subst (λ (l : List Entry). AreWanting setup writes trace l) (sym is) (tt, tt); carried = subst (λ (l : List Entry). Carries l a a) (sym is) (carries_unseen (Accepts (Ring now number)) a refl refl refl refl) };
   made = subst (λ (l : List Entry). HasMade (l ++ earlier) d) (sym is) (made_unseen earlier (Accepts (Ring now number)) d refl refl refl refl made);
 }
-steps_ring writes true now log trace earlier g a d (inr is) reached made = record {
-  happens = record { reached = reached; wanting = subst (λ (l : List Entry). AreWanting writes trace l) (sym is) (tt, tt); carried = subst (λ (l : List Entry). Carries l a a) (sym is) (carries_unseen RefusesRing a refl refl refl refl) };
+steps_ring setup writes true now log trace earlier g a d (inr is) reached made = record {
+  happens = record { reached = reached; wanting = subst (λ (l : List Entry). AreWanting setup writes trace l) (sym is) (tt, tt); carried = subst (λ (l : List Entry). Carries l a a) (sym is) (carries_unseen RefusesRing a refl refl refl refl) };
   made = subst (λ (l : List Entry). HasMade (l ++ earlier) d) (sym is) (made_unseen earlier RefusesRing d refl refl refl refl made);
 }
 
 -- a ring, by its result
 pub rings_so :
-    (writes : Writing) (trace : List Event) (now : ℕ) (old new : GatewayValue) (r : Result ℕ RingFault)
-    → IfOk r (λ number. (writes : Writing) (trace : List Event) → IsReachedBy writes trace old → IsReachedBy writes (Ring now number ∷ trace) new)
-    → OnErr r (new ≡ old) → IsReachedBy writes trace old
-    → (log : List Entry) × IsRing now log × (count_by is_refused_ring log ≡ cond (is_err r) 1 0) × IsReachedBy writes (events log ++ trace) new
-rings_so writes trace now old new (Ok number) rung err reached = (Accepts (Ring now number) ∷ [], inl (number, refl), refl, rung writes trace reached)
-rings_so writes trace now old new (Err fault) rung err reached = (RefusesRing ∷ [], inr refl, refl, subst (λ (g : GatewayValue). IsReachedBy writes trace g) (sym err) reached)
+    (setup : Setup) (writes : Writing) (trace : List Event) (now : ℕ) (old new : GatewayValue) (r : Result ℕ RingFault)
+    → IfOk r (λ number. (setup : Setup) (writes : Writing) (trace : List Event) → IsReachedBy setup writes trace old → IsReachedBy setup writes (Ring now number ∷ trace) new)
+    → OnErr r (new ≡ old) → IsReachedBy setup writes trace old
+    → (log : List Entry) × IsRing now log × (count_by is_refused_ring log ≡ cond (is_err r) 1 0) × IsReachedBy setup writes (events log ++ trace) new
+rings_so setup writes trace now old new (Ok number) rung err reached = (Accepts (Ring now number) ∷ [], inl (number, refl), refl, rung setup writes trace reached)
+rings_so setup writes trace now old new (Err fault) rung err reached = (RefusesRing ∷ [], inr refl, refl, subst (λ (g : GatewayValue). IsReachedBy setup writes trace g) (sym err) reached)
 
 -- what a run tells
 pub tells :
@@ -431,38 +432,38 @@ byte_is false = refl
 
 -- ---- a round
 
-pub record Rounds (writes : Writing) (start : ℕ) (rings : List ℕ) (rounds : List (List Entry)) (trace : List Event) (g : GatewayValue) (a b : Known) (d : DriverValue) (refused : ℕ) : Type 0 where
+pub record Rounds (setup : Setup) (writes : Writing) (start : ℕ) (rings : List ℕ) (rounds : List (List Entry)) (trace : List Event) (g : GatewayValue) (a b : Known) (d : DriverValue) (refused : ℕ) : Type 0 where
   pub are : AreRounds start rings rounds
-  pub happens : Happens writes (log_of rounds) trace g a b
+  pub happens : Happens setup writes (log_of rounds) trace g a b
   pub made : HasMade (log_of rounds) d
   pub refused_is : refused ≡ count_by is_refused_ring (log_of rounds)
 
 pub round_more :
-    (writes : Writing) (start turn_number now : ℕ) (rings : List ℕ) (due : Bool) (rounds : List (List Entry)) (ring turn : List Entry) (trace : List Event)
+    (setup : Setup) (writes : Writing) (start turn_number now : ℕ) (rings : List ℕ) (due : Bool) (rounds : List (List Entry)) (ring turn : List Entry) (trace : List Event)
     (g h i : GatewayValue) (a b c : Known) (d e : DriverValue) (refused k : ℕ)
     → AreRounds start rings rounds → length rounds ≡ turn_number → failed_in_a_row (receipts (log_of rounds)) < most_failed
-    → Happens writes (log_of rounds) trace g a b → HasMade (log_of rounds) d → refused ≡ count_by is_refused_ring (log_of rounds)
+    → Happens setup writes (log_of rounds) trace g a b → HasMade (log_of rounds) d → refused ≡ count_by is_refused_ring (log_of rounds)
     → now ≡ moment_of start turn_number → due ≡ list_any (λ t. nat_eq t turn_number) rings
-    → IsRingIf due now ring → count_by is_refused_ring ring ≡ k → IsReachedBy writes (events ring ++ (events (log_of rounds) ++ trace)) h
-    → IsTurn now turn → Happens writes turn (events ring ++ (events (log_of rounds) ++ trace)) i b c → HasMade (turn ++ (ring ++ log_of rounds)) e
-    → Rounds writes start rings ((turn ++ ring) ∷ rounds) trace i a c e (refused + k)
-round_more writes start turn_number now rings due rounds ring turn trace g h i a b c d e refused k all many goes happens made same at_moment is_due rung counted_ring reached turned happened did =
+    → IsRingIf due now ring → count_by is_refused_ring ring ≡ k → IsReachedBy setup writes (events ring ++ (events (log_of rounds) ++ trace)) h
+    → IsTurn now turn → Happens setup writes turn (events ring ++ (events (log_of rounds) ++ trace)) i b c → HasMade (turn ++ (ring ++ log_of rounds)) e
+    → Rounds setup writes start rings ((turn ++ ring) ∷ rounds) trace i a c e (refused + k)
+round_more setup writes start turn_number now rings due rounds ring turn trace g h i a b c d e refused k all many goes happens made same at_moment is_due rung counted_ring reached turned happened did =
     let log : List Entry = log_of rounds in
-    let first = (steps_ring writes due now ring (events log ++ trace) log h b d rung reached made).happens in
-    let round = happens_more writes ring turn (events log ++ trace) h i b b c first happened in
+    let first = (steps_ring setup writes due now ring (events log ++ trace) log h b d rung reached made).happens in
+    let round = happens_more setup writes ring turn (events log ++ trace) h i b b c first happened in
     let place : IsRound (moment_of start turn_number) (list_any (λ t. nat_eq t turn_number) rings) (turn ++ ring) =
     subst (λ (n : ℕ). IsRound n (list_any (λ t. nat_eq t turn_number) rings) (turn ++ ring)) at_moment
     (subst (λ (x : Bool). IsRound now x (turn ++ ring)) is_due (ring, turn, refl, rung, turned)) in
     record {
       are = (subst (λ (n : ℕ). IsRound (moment_of start n) (list_any (λ t. nat_eq t n) rings) (turn ++ ring)) (sym many) place, goes, all);
-      happens = happens_more writes log (turn ++ ring) trace g i a b c happens round;
+      happens = happens_more setup writes log (turn ++ ring) trace g i a b c happens round;
       made = subst (λ (l : List Entry). HasMade l e) (sym (append_assoc turn ring log)) did;
       refused_is = round_counts now ring turn log refused k turned counted_ring same;
     }
 
-pub ring_made : (writes : Writing) (due : Bool) (now : ℕ) (ring log : List Entry) (trace : List Event) (g : GatewayValue) (a : Known) (d : DriverValue)
-    → IsRingIf due now ring → IsReachedBy writes (events ring ++ trace) g → HasMade log d → HasMade (ring ++ log) d
-ring_made writes due now ring log trace g a d rung reached made = (steps_ring writes due now ring trace log g a d rung reached made).made
+pub ring_made : (setup : Setup) (writes : Writing) (due : Bool) (now : ℕ) (ring log : List Entry) (trace : List Event) (g : GatewayValue) (a : Known) (d : DriverValue)
+    → IsRingIf due now ring → IsReachedBy setup writes (events ring ++ trace) g → HasMade log d → HasMade (ring ++ log) d
+ring_made setup writes due now ring log trace g a d rung reached made = (steps_ring setup writes due now ring trace log g a d rung reached made).made
 
 pub has_failed : (row : ℕ) → (IsTrue false ↔ (row < most_failed)) → most_failed ≤ row
 has_failed row h =

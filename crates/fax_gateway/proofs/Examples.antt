@@ -1,7 +1,7 @@
 -- A trace worked through on the definitions: a ring and four ticks, with all that a gateway answers. The newest event stands
 -- first.
 use Rattle.std.proofs.Common.{◌≡◌, ℕ, List, [], ◌∷◌, Option, Some, None, refl, ap}
-use Rattle.std.proofs.Common.{lit<}
+use Rattle.std.proofs.Common.{arith, lit<}
 use Rattle.fax_bits.specs.Bits as bits
 use Rattle.fax_udptl.specs.Datagrams.{datagram_of, packet_at, packets_at, length_at, secondaries_at, written_length, written_packet, written_datagram}
 use Rattle.fax_ifp.specs.Elements.{Field}
@@ -10,6 +10,7 @@ use Rattle.fax_ifp.specs.Packets.{packet_of, fields_at}
 use Rattle.fax_ifp.specs.WrittenPackets.{written_behind}
 use Rattle.fax_call.specs.Writings.{Writing, IsWriting}
 use Rattle.fax_call.proofs.Texts.{pages_have_texts}
+use Rattle.fax_gateway.specs.Setups.{Setup}
 use Rattle.fax_gateway.specs.Events.{Event, Ring, Tick, Given}
 use Rattle.fax_gateway.specs.Traces.{IsTrace}
 use Rattle.fax_gateway.specs.Told.{elements_told}
@@ -33,12 +34,16 @@ rung = Ring 0 0 ∷ []
 identifies : List Event
 identifies = Tick 80 (gives (Some dis)) ∷ Tick 40 (gives (Some preamble)) ∷ Tick 20 (gives None) ∷ Tick 0 (gives (Some ced)) ∷ rung
 
-is_trace : (writes : Writing) → IsTrace writes identifies
+-- the usual setup
+abbrev pub usual : Setup
+usual = record { redundancy = 3; few = omega arith }
+
+is_trace : (writes : Writing) → IsTrace usual writes identifies
 unfolding identifies rung ced preamble dis gives written_datagram written_packet written_length written_behind
 is_trace writes = (refl, (refl, (refl, (refl, ((refl, lit< tt, refl), tt)))))
 
 -- so the premises of the laws are met
-premises : (writes : Writing) × IsWriting writes × IsTrace writes identifies
+premises : (writes : Writing) × IsWriting writes × IsTrace usual writes identifies
 premises = (pages_have_texts.0, pages_have_texts.1, is_trace pages_have_texts.0)
 
 -- the DIS is read back from what was given
@@ -47,6 +52,6 @@ unfolding dis datagram_of packet_at packets_at length_at secondaries_at packet_o
 tells_dis = refl
 
 -- a gateway that gives nothing has no trace behind a ring
-gives_nothing : (writes : Writing) → IsTrace writes (Tick 0 (gives None) ∷ rung) → ⊥
+gives_nothing : (setup : Setup) (writes : Writing) → IsTrace setup writes (Tick 0 (gives None) ∷ rung) → ⊥
 unfolding rung gives
-gives_nothing writes t = let e = ap (λ (g : Given). g.on_calling) t.0 in cc
+gives_nothing setup writes t = let e = ap (λ (g : Given). g.on_calling) t.0 in cc

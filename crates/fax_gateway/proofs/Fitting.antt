@@ -18,6 +18,7 @@ use Rattle.fax_call.specs.Replies.{Packet, Part, written, Due, One, Text, parts_
 use Rattle.fax_call.specs.Table.{Move, Stays, Trains, Sends, AsksAgain, Turns, Closes, HangsUp}
 use Rattle.fax_call.specs.Calls.{Calling, moved, Taken, taken, taken_text, text_at, after_giving, given_first, paced, timed, Ticked, ticked}
 use Rattle.fax_call.specs.Emission.{Mark, marks_given, gave_all}
+use Rattle.fax_gateway.specs.Setups.{Setup}
 use Rattle.fax_gateway.specs.Legs.{sent}
 use Rattle.fax_gateway.specs.CalledLegs.{told_by, packets_given}
 use Rattle.fax_gateway.specs.Told.{elements_read, elements_told}
@@ -28,14 +29,14 @@ short_take zero ps h = tt
 short_take (suc n) [] h = tt
 short_take (suc n) (p ∷ ps) h = (h.0, short_take n ps h.1)
 
-few : (ps : List (List ℕ)) → length (take 3 ps) ≤ 16383
-few ps = grind (arith, length-take)
+few : (n : ℕ) (ps : List (List ℕ)) → n ≤ 8 → length (take n ps) ≤ 16383
+few n ps h = grind (arith, length-take)
 
 number_fits : (n : ℕ) → n % 65536 < 65536
 number_fits n = omega arith
 
-pub told_back : (given : List (List ℕ)) (packet : List ℕ) → AreShort given → length packet ≤ 16383 → elements_told (Some (sent given packet)) ≡ elements.elements_in (packet_of packet)
-told_back given packet s p = ap elements_read (datagram_back (datagram_for given packet) (number_fits (length given)) p (short_take 3 given s) (few given))
+pub told_back : (setup : Setup) (given : List (List ℕ)) (packet : List ℕ) → AreShort given → length packet ≤ 16383 → elements_told (Some (sent setup given packet)) ≡ elements.elements_in (packet_of packet)
+told_back setup given packet s p = ap elements_read (datagram_back (datagram_for setup.redundancy given packet) (number_fits (length given)) p (short_take setup.redundancy given s) (few setup.redundancy given setup.few))
 
 -- what waits fits
 abbrev pub IsFit : Due → Type 0
@@ -145,7 +146,7 @@ short_given None given f s = s
 short_given (Some p) given f s = (f, s)
 
 -- so the marks are those of what is given
-pub marks_back : (given : List (List ℕ)) (o : Option Packet) (marks : List Mark) → AreShort given → FitGiven o →
-    gave_all (elements_told (told_by given o)) marks ≡ marks_given o marks
-marks_back given None marks s f = refl
-marks_back given (Some p) marks s f = ap (λ (es : List elements.Element). gave_all es marks) (told_back given (written p) s f)
+pub marks_back : (setup : Setup) (given : List (List ℕ)) (o : Option Packet) (marks : List Mark) → AreShort given → FitGiven o →
+    gave_all (elements_told (told_by setup given o)) marks ≡ marks_given o marks
+marks_back setup given None marks s f = refl
+marks_back setup given (Some p) marks s f = ap (λ (es : List elements.Element). gave_all es marks) (told_back setup given (written p) s f)

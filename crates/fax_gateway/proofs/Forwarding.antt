@@ -14,6 +14,7 @@ use Rattle.fax_call.specs.Replies.{Signals, written, calling_tone}
 use Rattle.fax_call.specs.Calls.{Calling, started, Ticked, given_first, Ticks}
 use Rattle.fax_call.specs.Emission.{Emission, Mark, Gave, emitted_at, elements_given, gave_all, marks_given, marks_after, IsPageOf, IsAnswered, replied, EmitsBy, Emits}
 use Rattle.fax_call.proofs.Emitted.{emits_the_pages}
+use Rattle.fax_gateway.specs.Setups.{Setup}
 use Rattle.fax_gateway.specs.Events.{Event, Given, clock}
 use Rattle.fax_gateway.specs.Legs.{sent}
 use Rattle.fax_gateway.specs.CallingLegs.{calling_leg}
@@ -61,22 +62,22 @@ each_emission P Q marks [] f p = tt
 each_emission P Q marks (e ∷ es) f p = (if_emits P Q marks (emitted_at (elements_given marks) e) f p.0, each_emission P Q (Gave e ∷ marks) es f p.1)
 
 -- what a tick gives in the call of a job
-in_order : (writes : Writing) (l : CalledLeg) (now : ℕ) (sending : Option JobValue) (marks : List Mark) → IsWriting writes → IsJob l.job → InCall writes l sending marks →
-    EachEmission (IsSent l.job) marks (elements_told (told_by l.given (calls writes l now).given))
-in_order writes l now sending marks w is i =
+in_order : (setup : Setup) (writes : Writing) (l : CalledLeg) (now : ℕ) (sending : Option JobValue) (marks : List Mark) → IsWriting writes → IsJob l.job → InCall writes l sending marks →
+    EachEmission (IsSent l.job) marks (elements_told (told_by setup l.given (calls writes l now).given))
+in_order setup writes l now sending marks w is i =
     let t : Ticked = calls writes l now in
     let f : FitTick t = ticked_fits writes l.job (core_of writes l) now i.fits in
-    let same : gave_all (elements_told (told_by l.given t.given)) marks ≡ marks_given t.given (marks_after writes l.job i.old (begun_core l) l.events) =
-    marks_back l.given t.given marks i.short f.given ∙ ap (marks_given t.given) i.marks_are in
+    let same : gave_all (elements_told (told_by setup l.given t.given)) marks ≡ marks_given t.given (marks_after writes l.job i.old (begun_core l) l.events) =
+    marks_back setup l.given t.given marks i.short f.given ∙ ap (marks_given t.given) i.marks_are in
     let e = emits_the_pages writes l.job i.old l.before l.begun (Ticks now ∷ l.events) w is in
-    (sent_all l.job (elements_told (told_by l.given t.given)) marks e.0 (subst (λ (ms : List Mark). Emits l.job ms e.0) (sym same) e.1)).each
+    (sent_all l.job (elements_told (told_by setup l.given t.given)) marks e.0 (subst (λ (ms : List Mark). Emits l.job ms e.0) (sym same) e.1)).each
 
 -- the job was being sent before the tick
-goes_on : (writes : Writing) (earlier : List Event) (now : ℕ) (l : CalledLeg) (book : Book) (marks : List Mark) → IsWriting writes → book.sending ≡ Some l.job →
-    Holds (WasConfirmedIn earlier) l.job → InCall writes l book.sending marks →
-    EachEmission (IsForwarded earlier book) marks (elements_told (told_by l.given (calls writes l now).given))
-goes_on writes earlier now l book marks w is h i =
-    each_emission (IsSent l.job) (IsForwarded earlier book) marks (elements_told (told_by l.given (calls writes l now).given))
+goes_on : (setup : Setup) (writes : Writing) (earlier : List Event) (now : ℕ) (l : CalledLeg) (book : Book) (marks : List Mark) → IsWriting writes → book.sending ≡ Some l.job →
+    Holds (WasConfirmedIn setup earlier) l.job → InCall writes l book.sending marks →
+    EachEmission (IsForwarded setup earlier book) marks (elements_told (told_by setup l.given (calls writes l now).given))
+goes_on setup writes earlier now l book marks w is h i =
+    each_emission (IsSent l.job) (IsForwarded setup earlier book) marks (elements_told (told_by setup l.given (calls writes l now).given))
     (λ ms x p. record {
       job = l.job;
       is_sending = is;
@@ -85,64 +86,64 @@ goes_on writes earlier now l book marks w is h i =
       last = p.last;
       emitted = p.emitted;
       answered = p.answered;
-      confirmed = page_at (WasConfirmedIn earlier l.job.call) l.job.pages p.n p.is_page.page h.pages p.is_page.is_page;
+      confirmed = page_at (WasConfirmedIn setup earlier l.job.call) l.job.pages p.n p.is_page.page h.pages p.is_page.is_page;
     })
-    (in_order writes l now book.sending marks w h.is_job i)
+    (in_order setup writes l now book.sending marks w h.is_job i)
 
-still : (writes : Writing) (earlier : List Event) (now : ℕ) (leg : Option CalledLeg) (book : Book) (marks : List Mark) → IsWriting writes →
-    IfHolds (WasConfirmedIn earlier) book.sending → IfInCall writes leg book.sending marks →
-    EachEmission (IsForwarded earlier book) marks (elements_told (told_called writes leg now))
-still writes earlier now None book marks w h i = tt
-still writes earlier now (Some l) book marks w h i = by l.entered i.sends
+still : (setup : Setup) (writes : Writing) (earlier : List Event) (now : ℕ) (leg : Option CalledLeg) (book : Book) (marks : List Mark) → IsWriting writes →
+    IfHolds (WasConfirmedIn setup earlier) book.sending → IfInCall writes leg book.sending marks →
+    EachEmission (IsForwarded setup earlier book) marks (elements_told (told_called setup writes leg now))
+still setup writes earlier now None book marks w h i = tt
+still setup writes earlier now (Some l) book marks w h i = by l.entered i.sends
   where
     by : (b : Bool) → book.sending ≡ (if◌then◌else◌ {A = Option JobValue} b None (Some l.job)) →
-        EachEmission (IsForwarded earlier book) marks (elements_told (if◌then◌else◌ {A = Option (List ℕ)} b None (told_by l.given (calls writes l now).given)))
+        EachEmission (IsForwarded setup earlier book) marks (elements_told (if◌then◌else◌ {A = Option (List ℕ)} b None (told_by setup l.given (calls writes l now).given)))
     by true e = tt
-    by false e = goes_on writes earlier now l book marks w e (subst (IfHolds (WasConfirmedIn earlier)) e h) i
+    by false e = goes_on setup writes earlier now l book marks w e (subst (IfHolds (WasConfirmedIn setup earlier)) e h) i
 
 -- a call that begins gives the tone of a calling terminal at most
-tone_back : elements_told (Some (sent [] (written (Signals (indicator_code Cng))))) ≡ elements.Signal (indicator_code Cng) ∷ []
+tone_back : (setup : Setup) → elements_told (Some (sent setup [] (written (Signals (indicator_code Cng))))) ≡ elements.Signal (indicator_code Cng) ∷ []
 unfolding packet_of bits.bit packets.fields_behind
-tone_back = told_back [] (written (Signals (indicator_code Cng))) tt (omega arith)
+tone_back setup = told_back setup [] (written (Signals (indicator_code Cng))) tt (omega arith)
 
-begins_none : (P : List Mark → Emission → Type 0) (writes : Writing) (job : JobValue) (before : Calling) (now : ℕ) (marks : List Mark) →
-    EachEmission P marks (elements_told (told_called writes (Some (begun_leg job before now)) now))
-begins_none P writes job before now marks = by (pace_allows before.last now)
+begins_none : (setup : Setup) (P : List Mark → Emission → Type 0) (writes : Writing) (job : JobValue) (before : Calling) (now : ℕ) (marks : List Mark) →
+    EachEmission P marks (elements_told (told_called setup writes (Some (begun_leg job before now)) now))
+begins_none setup P writes job before now marks = by (pace_allows before.last now)
   where
     core : Calling
     core = started before job now
 
-    by : (t : Bool) → EachEmission P marks (elements_told (told_by [] (if◌then◌else◌ {A = Ticked} t (given_first writes job core now calling_tone) (record { core = core; given = None })).given))
-    by true = subst (EachEmission P marks) (sym tone_back) (tt, tt)
+    by : (t : Bool) → EachEmission P marks (elements_told (told_by setup [] (if◌then◌else◌ {A = Ticked} t (given_first writes job core now calling_tone) (record { core = core; given = None })).given))
+    by true = subst (EachEmission P marks) (sym (tone_back setup)) (tt, tt)
     by false = tt
 
-free_none : (P : List Mark → Emission → Type 0) (writes : Writing) (leg : Option CalledLeg) (o : Option JobValue) (now : ℕ) (marks : List Mark) → is_free leg ≡ true →
-    EachEmission P marks (elements_told (told_called writes (leg_of o (core_left writes leg) now leg) now))
-free_none P writes leg (Some job) now marks f = begins_none P writes job (core_left writes leg) now marks
-free_none P writes None None now marks f = tt
-free_none P writes (Some l) None now marks f =
-    subst (λ (b : Bool). EachEmission P marks (elements_told (if◌then◌else◌ {A = Option (List ℕ)} b None (told_by l.given (calls writes l now).given)))) (sym f) tt
+free_none : (setup : Setup) (P : List Mark → Emission → Type 0) (writes : Writing) (leg : Option CalledLeg) (o : Option JobValue) (now : ℕ) (marks : List Mark) → is_free leg ≡ true →
+    EachEmission P marks (elements_told (told_called setup writes (leg_of o (core_left setup writes leg) now leg) now))
+free_none setup P writes leg (Some job) now marks f = begins_none setup P writes job (core_left setup writes leg) now marks
+free_none setup P writes None None now marks f = tt
+free_none setup P writes (Some l) None now marks f =
+    subst (λ (b : Bool). EachEmission P marks (elements_told (if◌then◌else◌ {A = Option (List ℕ)} b None (told_by setup l.given (calls writes l now).given)))) (sym f) tt
 
 -- a tick
-at_tick : (writes : Writing) (earlier : List Event) (now : ℕ) (s : Sides) (old : List Mark) → IsWriting writes →
-    IfHolds (WasConfirmedIn earlier) (book_of s).sending → IfInCall writes s.leg (book_of s).sending old →
-    EachEmission (IsForwarded earlier (book_of (sends_if writes now s))) (begun_if (is_free s.leg) (book_of (sends_if writes now s)).sending old) (elements_told (told_called writes (sends_if writes now s).leg now))
-at_tick writes earlier now s old w h i = by (is_free s.leg) refl
+at_tick : (setup : Setup) (writes : Writing) (earlier : List Event) (now : ℕ) (s : Sides) (old : List Mark) → IsWriting writes →
+    IfHolds (WasConfirmedIn setup earlier) (book_of s).sending → IfInCall writes s.leg (book_of s).sending old →
+    EachEmission (IsForwarded setup earlier (book_of (sends_if setup writes now s))) (begun_if (is_free s.leg) (book_of (sends_if setup writes now s)).sending old) (elements_told (told_called setup writes (sends_if setup writes now s).leg now))
+at_tick setup writes earlier now s old w h i = by (is_free s.leg) refl
   where
     by : (b : Bool) → is_free s.leg ≡ b →
-        let z : Sides = if◌then◌else◌ {A = Sides} b (sends writes now s) s in
-        EachEmission (IsForwarded earlier (book_of z)) (begun_if b (book_of z).sending old) (elements_told (told_called writes z.leg now))
-    by true e = free_none (IsForwarded earlier (book_of (sends writes now s))) writes s.leg (book_of (sends writes now s)).sending now (begun_if true (book_of (sends writes now s)).sending old) e
-    by false e = still writes earlier now s.leg (book_of s) old w h i
+        let z : Sides = if◌then◌else◌ {A = Sides} b (sends setup writes now s) s in
+        EachEmission (IsForwarded setup earlier (book_of z)) (begun_if b (book_of z).sending old) (elements_told (told_called setup writes z.leg now))
+    by true e = free_none setup (IsForwarded setup earlier (book_of (sends setup writes now s))) writes s.leg (book_of (sends setup writes now s)).sending now (begun_if true (book_of (sends setup writes now s)).sending old) e
+    by false e = still setup writes earlier now s.leg (book_of s) old w h i
 
 pub forwards : ForwardsWhatItConfirmed
-forwards writes earlier at given w t =
+forwards setup writes earlier at given w t =
     let now : ℕ = max at (clock earlier) in
-    let s : Sides = sides writes earlier in
-    let z : Sides = record s { steps = heard_in_tick (calling_leg earlier) now s.steps } in
-    let old : List Mark = leg_marks writes earlier in
-    let same : (book_of z).sending ≡ (book_of s).sending = heard_sends (calling_leg earlier) now s.steps in
-    subst (λ (told : Option (List ℕ)). EachEmission (IsForwarded earlier (book_of (in_tick writes earlier at))) (marks_before writes earlier at old) (elements_told told)) (sym (ap (λ (g : Given). g.on_called) t.0))
-    (at_tick writes earlier now z old w
-    (subst (IfHolds (WasConfirmedIn earlier)) (sym same) (held (WasConfirmedIn earlier) s.steps (steps_hold writes earlier t.1)).sending)
-    (subst (λ (o : Option JobValue). IfInCall writes s.leg o old) (sym same) (in_call writes earlier t.1)))
+    let s : Sides = sides setup writes earlier in
+    let z : Sides = record s { steps = heard_in_tick (calling_leg setup earlier) now s.steps } in
+    let old : List Mark = leg_marks setup writes earlier in
+    let same : (book_of z).sending ≡ (book_of s).sending = heard_sends (calling_leg setup earlier) now s.steps in
+    subst (λ (told : Option (List ℕ)). EachEmission (IsForwarded setup earlier (book_of (in_tick setup writes earlier at))) (marks_before setup writes earlier at old) (elements_told told)) (sym (ap (λ (g : Given). g.on_called) t.0))
+    (at_tick setup writes earlier now z old w
+    (subst (IfHolds (WasConfirmedIn setup earlier)) (sym same) (held (WasConfirmedIn setup earlier) s.steps (steps_hold setup writes earlier t.1)).sending)
+    (subst (λ (o : Option JobValue). IfInCall writes s.leg o old) (sym same) (in_call setup writes earlier t.1)))

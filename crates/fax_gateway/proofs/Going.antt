@@ -14,19 +14,19 @@ known None k = (None, refl)
 known (Some q) k = k
 
 pub goes_on : TracesGoOn
-goes_on writes earlier t =
+goes_on setup writes earlier t =
     record {
       ring = λ at idle few. ((refl, few, idle), t);
       from_calling = λ octets at k.
-          let r = known (question (calling_leg earlier) (max at (clock earlier)) octets) k in
-          (decided_calling (calling_leg earlier) octets, r.0, ((refl, r.1), t));
-      from_called = λ octets at. (decided_called writes (sides writes earlier).leg octets, (refl, t));
+          let r = known (question (calling_leg setup earlier) (max at (clock earlier)) octets) k in
+          (decided_calling (calling_leg setup earlier) octets, r.0, ((refl, r.1), t));
+      from_called = λ octets at. (decided_called writes (sides setup writes earlier).leg octets, (refl, t));
       tick = λ at.
           let now : ℕ = max at (clock earlier) in
           let given : Given = record {
-            on_calling = told_calling (calling_leg earlier) now;
-            on_called = told_called writes (in_tick writes earlier at).leg now;
-            report = told_report writes (in_tick writes earlier at).leg now;
+            on_calling = told_calling setup (calling_leg setup earlier) now;
+            on_called = told_called setup writes (in_tick setup writes earlier at).leg now;
+            report = told_report writes (in_tick setup writes earlier at).leg now;
           } in
           (given, (refl, t));
     }

@@ -24,6 +24,7 @@ use Rattle.fax_call.specs.Calls as call_calls
 use Rattle.fax_call.specs.Calls.{Calling}
 use Rattle.fax_call.specs.Delivery.{is_over}
 use Rattle.fax_call.specs.Reached as call
+use Rattle.fax_gateway.specs.Setups.{Setup}
 use Rattle.fax_gateway.specs.declared.called.CalledSide.{CalledSide}
 use Rattle.fax_gateway.specs.Legs.{new_pieces, decides, decided_by}
 use Rattle.fax_gateway.specs.CallingLegs as calling_legs
@@ -92,17 +93,17 @@ abbrev heard_by : Bool → CallingLeg → ℕ → Reading → Result DatagramVal
 heard_by b l now read r = if b then Some l else Some (calling_legs.leg_with l now read r)
 
 -- where no call is on, nothing is heard: so one is on
-pub decided_on_calling : (leg : Option CallingLeg) (octets : List ℕ) (x : DecidedValue) (old : CallingValue) (receiver : Option ℕ) (b : Bool) → idle_after leg ≡ false → IsCalling leg old
+pub decided_on_calling : (setup : Setup) (leg : Option CallingLeg) (octets : List ℕ) (x : DecidedValue) (old : CallingValue) (receiver : Option ℕ) (b : Bool) → idle_after leg ≡ false → IsCalling setup leg old
     → Takes octets old.leg.receiver receiver x → b ≡ nat_lt 0 (length (slots_in x)) → b ≡ decided_calling leg octets
-decided_on_calling None octets x old receiver b off r t e = cc
-decided_on_calling (Some l) octets x old receiver b off r t e =
+decided_on_calling setup None octets x old receiver b off r t e = cc
+decided_on_calling setup (Some l) octets x old receiver b off r t e =
     e ∙ sym (some_slots l.arrived t.datagram x (t.decides l.arrived r.on_leg.receiver))
     ∙ sym (ap (λ (b : Bool). decided_by b l.arrived (datagram_of octets)) off ∙ ap (λ (r : Result DatagramValue UdptlFault). decided_by false l.arrived r) t.is)
 
-leg_hears : (l : CallingLeg) (now : ℕ) (d : DatagramValue) (x : DecidedValue) (old new : CallingValue) → IsCalling (Some l) old → Decides l.arrived d x → IsAfter (d ∷ l.arrived) new.leg.receiver
+leg_hears : (setup : Setup) (l : CallingLeg) (now : ℕ) (d : DatagramValue) (x : DecidedValue) (old new : CallingValue) → IsCalling setup (Some l) old → Decides l.arrived d x → IsAfter (d ∷ l.arrived) new.leg.receiver
     → new.number ≡ old.number → new.leg.sender ≡ old.leg.sender → (h : answer.Hears (slots_in x) now (newest_slots l.arrived) (calling_legs.core_of l) new.kept)
-    → IsCalling (Some (calling_legs.leg_with l now h.read (Ok d))) new
-leg_hears l now d x old new r n after number sender h =
+    → IsCalling setup (Some (calling_legs.leg_with l now h.read (Ok d))) new
+leg_hears setup l now d x old new r n after number sender h =
     let given : new_pieces l.arrived d ≡ h.given = pieces_new l.arrived d x h.given n h.pieces in
     let core : calling_legs.core_of (calling_legs.leg_with l now h.read (Ok d)) ≡ came_all h.read (calling_legs.core_of l) h.given now =
     comes_core (rung l.before l.begun) (new_pieces l.arrived d) now h.read l.events ∙ ap (λ (ps : List Piece). came_all h.read (calling_legs.core_of l) ps now) given in
@@ -111,14 +112,14 @@ leg_hears l now d x old new r n after number sender h =
       core =
           subst (λ (a : Answering). answer.IsReached (newest_slots (d ∷ l.arrived)) a new.kept) (sym core)
           (subst (λ (ss : List Slot). answer.IsReached ss (came_all h.read (calling_legs.core_of l) h.given now) new.kept) (sym (newest_more l.arrived d x n)) h.reached);
-      on_leg = record { receiver = after; sender = subst (λ (s : SenderValue). HasSent l.given s) (sym sender) r.on_leg.sender };
+      on_leg = record { receiver = after; sender = subst (λ (s : SenderValue). HasSent setup.redundancy l.given s) (sym sender) r.on_leg.sender };
     }
 
-pub hears_calling : (leg : Option CallingLeg) (now : ℕ) (octets : List ℕ) (x : DecidedValue) (old new : CallingValue) → idle_after leg ≡ false → IsCalling leg old → Takes octets old.leg.receiver new.leg.receiver x
+pub hears_calling : (setup : Setup) (leg : Option CallingLeg) (now : ℕ) (octets : List ℕ) (x : DecidedValue) (old new : CallingValue) → idle_after leg ≡ false → IsCalling setup leg old → Takes octets old.leg.receiver new.leg.receiver x
     → new.number ≡ old.number → new.leg.sender ≡ old.leg.sender → ((heard : List Slot) (core : Answering) → answer.IsReached heard core old.kept → answer.Hears (slots_in x) now heard core new.kept)
-    → HearsCalling leg now octets new
-hears_calling None now octets x old new off r t number sender f = cc
-hears_calling (Some l) now octets x old new off r t number sender f =
+    → HearsCalling setup leg now octets new
+hears_calling setup None now octets x old new off r t number sender f = cc
+hears_calling setup (Some l) now octets x old new off r t number sender f =
     let h = f (newest_slots l.arrived) (calling_legs.core_of l) r.core in
     let n : Decides l.arrived t.datagram x = t.decides l.arrived r.on_leg.receiver in
     let given : new_pieces l.arrived t.datagram ≡ h.given = pieces_new l.arrived t.datagram x h.given n h.pieces in
@@ -130,7 +131,7 @@ hears_calling (Some l) now octets x old new off r t number sender f =
     record {
       read = h.read;
       right = subst (λ (q : Option Question). IsRead q h.read) (sym asks) h.right;
-      calling = subst (λ (o : Option CallingLeg). IsCalling o new) (sym brings) (leg_hears l now t.datagram x old new r n (t.after l.arrived r.on_leg.receiver) number sender h);
+      calling = subst (λ (o : Option CallingLeg). IsCalling setup o new) (sym brings) (leg_hears setup l now t.datagram x old new r n (t.after l.arrived r.on_leg.receiver) number sender h);
     }
 
 -- THE CALLED SIDE
@@ -153,21 +154,21 @@ abbrev OnCall : Writing → Option CalledLeg → Type 0
 OnCall writes None = ⊥
 OnCall writes (Some l) = is_over (called_legs.core_of writes l).state ≡ false
 
-on_called : (writes : Writing) (leg : Option CalledLeg) (side : CalledSide) → IsCalled writes leg side → (side.caller.procedure.state ≡ Idle → ⊥) → OnCall writes leg
-on_called writes None side r off = off (r.core (record { call = 0; format = side.caller.procedure.format; pages = [] })).follows.state
-on_called writes (Some l) side r off = on_call (called_legs.core_of writes l).state (λ e. off (r.core.follows.state ∙ e))
+on_called : (setup : Setup) (writes : Writing) (leg : Option CalledLeg) (side : CalledSide) → IsCalled setup writes leg side → (side.caller.procedure.state ≡ Idle → ⊥) → OnCall writes leg
+on_called setup writes None side r off = off (r.core (record { call = 0; format = side.caller.procedure.format; pages = [] })).follows.state
+on_called setup writes (Some l) side r off = on_call (called_legs.core_of writes l).state (λ e. off (r.core.follows.state ∙ e))
 
-pub decided_on_called : (writes : Writing) (leg : Option CalledLeg) (octets : List ℕ) (x : DecidedValue) (old : CalledSide) (receiver : Option ℕ) (b : Bool) → (old.caller.procedure.state ≡ Idle → ⊥) → IsCalled writes leg old
+pub decided_on_called : (setup : Setup) (writes : Writing) (leg : Option CalledLeg) (octets : List ℕ) (x : DecidedValue) (old : CalledSide) (receiver : Option ℕ) (b : Bool) → (old.caller.procedure.state ≡ Idle → ⊥) → IsCalled setup writes leg old
     → Takes octets old.leg.receiver receiver x → b ≡ nat_lt 0 (length (slots_in x)) → b ≡ decided_called writes leg octets
-decided_on_called writes None octets x old receiver b off r t e = absurd (on_called writes None old r off)
-decided_on_called writes (Some l) octets x old receiver b off r t e =
+decided_on_called setup writes None octets x old receiver b off r t e = absurd (on_called setup writes None old r off)
+decided_on_called setup writes (Some l) octets x old receiver b off r t e =
     e ∙ sym (some_slots l.arrived t.datagram x (t.decides l.arrived r.on_leg.receiver))
-    ∙ sym (ap (λ (b : Bool). decided_by b l.arrived (datagram_of octets)) (on_called writes (Some l) old r off) ∙ ap (λ (r : Result DatagramValue UdptlFault). decided_by false l.arrived r) t.is)
+    ∙ sym (ap (λ (b : Bool). decided_by b l.arrived (datagram_of octets)) (on_called setup writes (Some l) old r off) ∙ ap (λ (r : Result DatagramValue UdptlFault). decided_by false l.arrived r) t.is)
 
-leg_hears_called : (writes : Writing) (l : CalledLeg) (now : ℕ) (d : DatagramValue) (x : DecidedValue) (old new : CalledSide) → IsCalled writes (Some l) old → Decides l.arrived d x → IsAfter (d ∷ l.arrived) new.leg.receiver
+leg_hears_called : (setup : Setup) (writes : Writing) (l : CalledLeg) (now : ℕ) (d : DatagramValue) (x : DecidedValue) (old new : CalledSide) → IsCalled setup writes (Some l) old → Decides l.arrived d x → IsAfter (d ∷ l.arrived) new.leg.receiver
     → new.leg.sender ≡ old.leg.sender → call.Hears writes l.job (slots_in x) now (newest_slots l.arrived) (called_legs.core_of writes l) new.caller
-    → IsCalled writes (Some (called_legs.leg_with (Ok d) now l)) new
-leg_hears_called writes l now d x old new r n after sender h =
+    → IsCalled setup writes (Some (called_legs.leg_with (Ok d) now l)) new
+leg_hears_called setup writes l now d x old new r n after sender h =
     let given : new_pieces l.arrived d ≡ h.given = pieces_new l.arrived d x h.given n h.pieces in
     let core : called_legs.core_of writes (called_legs.leg_with (Ok d) now l) ≡ call_calls.came_all (called_legs.core_of writes l) h.given now =
     came_core writes l.job (begun_core l) (new_pieces l.arrived d) now l.events ∙ ap (λ (ps : List Piece). call_calls.came_all (called_legs.core_of writes l) ps now) given in
@@ -175,16 +176,16 @@ leg_hears_called writes l now d x old new r n after sender h =
       core =
           subst (λ (a : Calling). call.IsReached writes l.job (newest_slots (d ∷ l.arrived)) a new.caller) (sym core)
           (subst (λ (ss : List Slot). call.IsReached writes l.job ss (call_calls.came_all (called_legs.core_of writes l) h.given now) new.caller) (sym (newest_more l.arrived d x n)) h.reached);
-      on_leg = record { receiver = after; sender = subst (λ (s : SenderValue). HasSent l.given s) (sym sender) r.on_leg.sender };
+      on_leg = record { receiver = after; sender = subst (λ (s : SenderValue). HasSent setup.redundancy l.given s) (sym sender) r.on_leg.sender };
     }
 
-pub hears_called : (writes : Writing) (leg : Option CalledLeg) (now : ℕ) (octets : List ℕ) (x : DecidedValue) (old new : CalledSide) → (old.caller.procedure.state ≡ Idle → ⊥) → IsCalled writes leg old → Takes octets old.leg.receiver new.leg.receiver x
+pub hears_called : (setup : Setup) (writes : Writing) (leg : Option CalledLeg) (now : ℕ) (octets : List ℕ) (x : DecidedValue) (old new : CalledSide) → (old.caller.procedure.state ≡ Idle → ⊥) → IsCalled setup writes leg old → Takes octets old.leg.receiver new.leg.receiver x
     → new.leg.sender ≡ old.leg.sender → ((writes : Writing) (job : JobValue) (heard : List Slot) (core : Calling) → call.IsReached writes job heard core old.caller → call.Hears writes job (slots_in x) now heard core new.caller)
-    → IsCalled writes (option_map (hears writes octets now) leg) new
-hears_called writes None now octets x old new off r t sender f = absurd (on_called writes None old r off)
-hears_called writes (Some l) now octets x old new off r t sender f =
+    → IsCalled setup writes (option_map (hears writes octets now) leg) new
+hears_called setup writes None now octets x old new off r t sender f = absurd (on_called setup writes None old r off)
+hears_called setup writes (Some l) now octets x old new off r t sender f =
     let h = f writes l.job (newest_slots l.arrived) (called_legs.core_of writes l) r.core in
     let n : Decides l.arrived t.datagram x = t.decides l.arrived r.on_leg.receiver in
     let brings : hears_by (is_over (called_legs.core_of writes l).state) l now (datagram_of octets) ≡ called_legs.leg_with (Ok t.datagram) now l =
-    ap (λ (b : Bool). hears_by b l now (datagram_of octets)) (on_called writes (Some l) old r off) ∙ ap (λ (r : Result DatagramValue UdptlFault). hears_by false l now r) t.is in
-    subst (λ (k : CalledLeg). IsCalled writes (Some k) new) (sym brings) (leg_hears_called writes l now t.datagram x old new r n (t.after l.arrived r.on_leg.receiver) sender h)
+    ap (λ (b : Bool). hears_by b l now (datagram_of octets)) (on_called setup writes (Some l) old r off) ∙ ap (λ (r : Result DatagramValue UdptlFault). hears_by false l now r) t.is in
+    subst (λ (k : CalledLeg). IsCalled setup writes (Some k) new) (sym brings) (leg_hears_called setup writes l now t.datagram x old new r n (t.after l.arrived r.on_leg.receiver) sender h)

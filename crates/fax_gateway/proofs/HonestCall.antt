@@ -12,6 +12,7 @@ use Rattle.fax_ifp.specs.Packets.{packet_of, fields_at}
 use Rattle.fax_ifp.specs.WrittenPackets.{written_behind}
 use Rattle.fax_answer.specs.Orders.{order_of}
 use Rattle.fax_answer.specs.Sent.{pages_accepted}
+use Rattle.fax_gateway.specs.Setups.{Setup}
 use Rattle.fax_gateway.specs.Legs.{new_pieces, decides}
 use Rattle.fax_gateway.specs.CallingLegs.{CallingLeg, core_of, calling_leg}
 use Rattle.fax_gateway.proofs.WholeCall.{script, comes, tick, blank}
@@ -81,10 +82,10 @@ begins : BeginsAtFirst arrivals
 begins = refl
 
 -- they are the datagrams that came, and a page is accepted
-arrive : option_map (λ (l : CallingLeg). l.arrived) (calling_leg (reverse script)) ≡ Some (datagrams arrivals)
+arrive : (setup : Setup) → option_map (λ (l : CallingLeg). l.arrived) (calling_leg setup (reverse script)) ≡ Some (datagrams arrivals)
 unfolding script comes tick blank new_pieces decides newest_slots slots datagram_of packet_at packets_at length_at secondaries_at packet_of fields_at order_of bits.bit packets.fields_behind packets.field_at packets.octets_at written_datagram written_packet written_length written_behind
-arrive = refl
+arrive setup = refl
 
-accepts : option_map (λ (l : CallingLeg). pages_accepted (core_of l).history) (calling_leg (reverse script)) ≡ Some (record { format = record { width = W1728; fine = false }; rows = [] } ∷ [])
+accepts : (setup : Setup) → option_map (λ (l : CallingLeg). pages_accepted (core_of l).history) (calling_leg setup (reverse script)) ≡ Some (record { format = record { width = W1728; fine = false }; rows = [] } ∷ [])
 unfolding script comes tick blank new_pieces decides newest_slots slots datagram_of packet_at packets_at length_at secondaries_at packet_of fields_at order_of bits.bit packets.fields_behind packets.field_at packets.octets_at written_datagram written_packet written_length written_behind
-accepts = refl
+accepts setup = refl

@@ -14,6 +14,7 @@ use Rattle.fax_answer.specs.Calls.{Answering, rung, says_goodbye, identifies_aga
 use Rattle.fax_answer.specs.Readings.{comes_all}
 use Rattle.fax_answer.specs.Following.{Rests}
 use Rattle.fax_answer.proofs.Rests.{rests_after, ticked_rests}
+use Rattle.fax_gateway.specs.Setups.{Setup}
 use Rattle.fax_gateway.specs.Events.{Event, Ring, FromCalling, FromCalled, Tick, clock}
 use Rattle.fax_gateway.specs.Legs.{new_pieces}
 use Rattle.fax_gateway.specs.CallingLegs.{CallingLeg, core_of, is_idle, leg_with, calling_after, calling_leg}
@@ -33,23 +34,23 @@ leg_rests : (l : CallingLeg) (now : ℕ) (read : Reading) (r : Result DatagramVa
 leg_rests l now read (Err f) n = n
 leg_rests l now read (Ok d) n = comes_rests (rung l.before l.begun) (new_pieces l.arrived d) now read l.events n
 
-step_rests : (o : Option CallingLeg) (now : ℕ) (e : Event) → IfRests o → IfRests (calling_after o now e)
-step_rests None now (Ring at number) n = tt
-step_rests None now (FromCalling octets at decided read) n = tt
-step_rests None now (FromCalled octets at decided) n = tt
-step_rests None now (Tick at given) n = tt
-step_rests (Some l) now (Ring at number) n = tt
-step_rests (Some l) now (FromCalling octets at decided read) n = by (is_idle (core_of l).state)
+step_rests : (setup : Setup) (o : Option CallingLeg) (now : ℕ) (e : Event) → IfRests o → IfRests (calling_after setup o now e)
+step_rests setup None now (Ring at number) n = tt
+step_rests setup None now (FromCalling octets at decided read) n = tt
+step_rests setup None now (FromCalled octets at decided) n = tt
+step_rests setup None now (Tick at given) n = tt
+step_rests setup (Some l) now (Ring at number) n = tt
+step_rests setup (Some l) now (FromCalling octets at decided read) n = by (is_idle (core_of l).state)
   where
     by : (t : Bool) → IfRests (if t then Some l else Some (leg_with l now read (datagram_of octets)))
     by true = n
     by false = leg_rests l now read (datagram_of octets) n
-step_rests (Some l) now (FromCalled octets at decided) n = n
-step_rests (Some l) now (Tick at given) n = ticked_rests (core_of l) now n
+step_rests setup (Some l) now (FromCalled octets at decided) n = n
+step_rests setup (Some l) now (Tick at given) n = ticked_rests (core_of l) now n
 
-pub rests_of : (trace : List Event) → IfRests (calling_leg trace)
-rests_of [] = tt
-rests_of (e ∷ earlier) = step_rests (calling_leg earlier) (clock (e ∷ earlier)) e (rests_of earlier)
+pub rests_of : (setup : Setup) (trace : List Event) → IfRests (calling_leg setup trace)
+rests_of setup [] = tt
+rests_of setup (e ∷ earlier) = step_rests setup (calling_leg setup earlier) (clock (e ∷ earlier)) e (rests_of setup earlier)
 
 idle_is : (s : State) → is_idle s ≡ true → s ≡ Idle
 idle_is Idle h = refl

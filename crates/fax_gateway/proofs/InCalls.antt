@@ -14,6 +14,7 @@ use Rattle.fax_call.specs.Writings.{Writing}
 use Rattle.fax_call.specs.Calls.{Calling, heard, Ticked, CallEvent, Comes, after_events}
 use Rattle.fax_call.specs.Delivery.{is_over}
 use Rattle.fax_call.specs.Emission.{Mark, gave_all, marks_heard, marks_given, marks_after}
+use Rattle.fax_gateway.specs.Setups.{Setup}
 use Rattle.fax_gateway.specs.Events.{Event, Ring, FromCalling, FromCalled, Tick, Given, clock}
 use Rattle.fax_gateway.specs.Legs.{new_pieces}
 use Rattle.fax_gateway.specs.CallingLegs.{CallingLeg, calling_leg, idle_after, answers, confirmed_by}
@@ -78,17 +79,17 @@ free_sends writes None sending marks f i = i
 free_sends writes (Some l) sending marks f i = i.sends ∙ ap (λ (b : Bool). if◌then◌else◌ {A = Option JobValue} b None (Some l.job)) f
 
 -- a job's call begins
-begins_call : (writes : Writing) (leg : Option CalledLeg) (o : Option JobValue) (now : ℕ) (marks : List Mark) → IfInCall writes leg None marks → IfInCall writes (leg_of o (core_left writes leg) now leg) o (begun_if true o marks)
-begins_call writes leg None now marks i = i
-begins_call writes leg (Some job) now marks i = record { sends = refl; old = marks; marks_are = refl; fits = (omega arith, tt); short = tt }
+begins_call : (setup : Setup) (writes : Writing) (leg : Option CalledLeg) (o : Option JobValue) (now : ℕ) (marks : List Mark) → IfInCall writes leg None marks → IfInCall writes (leg_of o (core_left setup writes leg) now leg) o (begun_if true o marks)
+begins_call setup writes leg None now marks i = i
+begins_call setup writes leg (Some job) now marks i = record { sends = refl; old = marks; marks_are = refl; fits = (omega arith, tt); short = tt }
 
-pub sends_call : (writes : Writing) (now : ℕ) (s : Sides) (marks : List Mark) → IfInCall writes s.leg (book_of s).sending marks →
-    IfInCall writes (sends_if writes now s).leg (book_of (sends_if writes now s)).sending (begun_if (is_free s.leg) (book_of (sends_if writes now s)).sending marks)
-sends_call writes now s marks i = by (is_free s.leg) refl
+pub sends_call : (setup : Setup) (writes : Writing) (now : ℕ) (s : Sides) (marks : List Mark) → IfInCall writes s.leg (book_of s).sending marks →
+    IfInCall writes (sends_if setup writes now s).leg (book_of (sends_if setup writes now s)).sending (begun_if (is_free s.leg) (book_of (sends_if setup writes now s)).sending marks)
+sends_call setup writes now s marks i = by (is_free s.leg) refl
   where
     by : (b : Bool) → is_free s.leg ≡ b →
-        IfInCall writes (if◌then◌else◌ {A = Sides} b (sends writes now s) s).leg (book_of (if◌then◌else◌ {A = Sides} b (sends writes now s) s)).sending (begun_if b (book_of (if◌then◌else◌ {A = Sides} b (sends writes now s) s)).sending marks)
-    by true e = begins_call writes s.leg (sending_of (Sends ∷ s.steps)) now marks (subst (λ (o : Option JobValue). IfInCall writes s.leg o marks) (free_sends writes s.leg (book_of s).sending marks e i) i)
+        IfInCall writes (if◌then◌else◌ {A = Sides} b (sends setup writes now s) s).leg (book_of (if◌then◌else◌ {A = Sides} b (sends setup writes now s) s)).sending (begun_if b (book_of (if◌then◌else◌ {A = Sides} b (sends setup writes now s) s)).sending marks)
+    by true e = begins_call setup writes s.leg (sending_of (Sends ∷ s.steps)) now marks (subst (λ (o : Option JobValue). IfInCall writes s.leg o marks) (free_sends writes s.leg (book_of s).sending marks e i) i)
     by false e = i
 
 -- the called leg is served
@@ -100,17 +101,17 @@ enters_sends : (job : JobValue) (delivered : ℕ) (o : Option Outcome) (steps : 
 enters_sends job delivered None steps e = e
 enters_sends job delivered (Some outcome) steps e = let past : Past = after_steps new_past steps in ended_sends past.book.sending past outcome delivered refl
 
-abbrev served_marks : Writing → Option CalledLeg → ℕ → List Mark → List Mark
-served_marks writes leg now marks = gave_all (elements_told (told_called writes leg now)) marks
+abbrev served_marks : Setup → Writing → Option CalledLeg → ℕ → List Mark → List Mark
+served_marks setup writes leg now marks = gave_all (elements_told (told_called setup writes leg now)) marks
 
-serves_call : (writes : Writing) (l : CalledLeg) (now : ℕ) (steps : List Step) (marks : List Mark) → InCall writes l (sending_of steps) marks →
-    InCall writes (leg_ticked writes now l) (sending_of (enters (delivered_told writes (Some l) now) (outcome_told writes (Some l) now) steps)) (served_marks writes (Some l) now marks)
-serves_call writes l now steps marks i = by l.entered i.sends
+serves_call : (setup : Setup) (writes : Writing) (l : CalledLeg) (now : ℕ) (steps : List Step) (marks : List Mark) → InCall writes l (sending_of steps) marks →
+    InCall writes (leg_ticked writes now l) (sending_of (enters (delivered_told writes (Some l) now) (outcome_told writes (Some l) now) steps)) (served_marks setup writes (Some l) now marks)
+serves_call setup writes l now steps marks i = by l.entered i.sends
   where
     by : (b : Bool) → sending_of steps ≡ (if◌then◌else◌ {A = Option JobValue} b None (Some l.job)) →
         InCall writes (if◌then◌else◌ {A = CalledLeg} b l (with_tick (calls writes l now) now l))
         (sending_of (enters (delivered_told writes (Some l) now) (if◌then◌else◌ {A = Option Outcome} b None (outcome_of (calls writes l now).core)) steps))
-        (gave_all (elements_told (if◌then◌else◌ {A = Option (List ℕ)} b None (told_by l.given (calls writes l now).given))) marks)
+        (gave_all (elements_told (if◌then◌else◌ {A = Option (List ℕ)} b None (told_by setup l.given (calls writes l now).given))) marks)
     by true e = i
     by false e =
         let t : Ticked = calls writes l now in
@@ -118,15 +119,15 @@ serves_call writes l now steps marks i = by l.entered i.sends
         record {
           sends = enters_sends l.job (delivered_told writes (Some l) now) (outcome_of t.core) steps e;
           old = i.old;
-          marks_are = marks_back l.given t.given marks i.short f.given ∙ ap (marks_given t.given) i.marks_are;
+          marks_are = marks_back setup l.given t.given marks i.short f.given ∙ ap (marks_given t.given) i.marks_are;
           fits = f.core;
           short = short_given t.given l.given f.given i.short;
         }
 
-serves_if : (writes : Writing) (leg : Option CalledLeg) (now : ℕ) (steps : List Step) (marks : List Mark) → IfInCall writes leg (sending_of steps) marks →
-    IfInCall writes (option_map (leg_ticked writes now) leg) (sending_of (enters (delivered_told writes leg now) (outcome_told writes leg now) steps)) (served_marks writes leg now marks)
-serves_if writes None now steps marks i = i
-serves_if writes (Some l) now steps marks i = serves_call writes l now steps marks i
+serves_if : (setup : Setup) (writes : Writing) (leg : Option CalledLeg) (now : ℕ) (steps : List Step) (marks : List Mark) → IfInCall writes leg (sending_of steps) marks →
+    IfInCall writes (option_map (leg_ticked writes now) leg) (sending_of (enters (delivered_told writes leg now) (outcome_told writes leg now) steps)) (served_marks setup writes leg now marks)
+serves_if setup writes None now steps marks i = i
+serves_if setup writes (Some l) now steps marks i = serves_call setup writes l now steps marks i
 
 -- a datagram comes
 record Hears (writes : Writing) (job : JobValue) (old : List Mark) (a : Calling) (events : List CallEvent) (marks : List Mark) : Type 0 where
@@ -159,26 +160,26 @@ hears_call writes (Some l) now octets sending marks i = by (is_over (core_of wri
     by false = with_call writes l now (datagram_of octets) sending marks i
 
 -- over a trace
-pub before_call : (writes : Writing) (earlier : List Event) (at : ℕ) (marks : List Mark) → IfInCall writes (sides writes earlier).leg (book_of (sides writes earlier)).sending marks →
-    IfInCall writes (in_tick writes earlier at).leg (book_of (in_tick writes earlier at)).sending (marks_before writes earlier at marks)
-before_call writes earlier at marks i =
+pub before_call : (setup : Setup) (writes : Writing) (earlier : List Event) (at : ℕ) (marks : List Mark) → IfInCall writes (sides setup writes earlier).leg (book_of (sides setup writes earlier)).sending marks →
+    IfInCall writes (in_tick setup writes earlier at).leg (book_of (in_tick setup writes earlier at)).sending (marks_before setup writes earlier at marks)
+before_call setup writes earlier at marks i =
     let now : ℕ = max at (clock earlier) in
-    let s : Sides = sides writes earlier in
-    let z : Sides = record s { steps = heard_in_tick (calling_leg earlier) now s.steps } in
-    sends_call writes now z marks (same_sending writes s.leg (book_of z).sending (book_of s).sending marks (heard_sends (calling_leg earlier) now s.steps) i)
+    let s : Sides = sides setup writes earlier in
+    let z : Sides = record s { steps = heard_in_tick (calling_leg setup earlier) now s.steps } in
+    sends_call setup writes now z marks (same_sending writes s.leg (book_of z).sending (book_of s).sending marks (heard_sends (calling_leg setup earlier) now s.steps) i)
 
-pub in_call : (writes : Writing) (trace : List Event) → IsTrace writes trace → IfInCall writes (sides writes trace).leg (book_of (sides writes trace)).sending (leg_marks writes trace)
-in_call writes [] t = refl
-in_call writes (Ring at n ∷ earlier) t = in_call writes earlier t.1
-in_call writes (FromCalling octets at decided read ∷ earlier) t =
-    let s : Sides = sides writes earlier in
-    same_sending writes s.leg _ (book_of s).sending (leg_marks writes earlier)
-    (ends_sends (not (idle_after (calling_leg earlier)) && idle_after (calling_leg (FromCalling octets at decided read ∷ earlier))) s.steps) (in_call writes earlier t.1)
-in_call writes (FromCalled octets at decided ∷ earlier) t =
-    let s : Sides = sides writes earlier in hears_call writes s.leg (clock (FromCalled octets at decided ∷ earlier)) octets (book_of s).sending (leg_marks writes earlier) (in_call writes earlier t.1)
-in_call writes (Tick at given ∷ earlier) t =
+pub in_call : (setup : Setup) (writes : Writing) (trace : List Event) → IsTrace setup writes trace → IfInCall writes (sides setup writes trace).leg (book_of (sides setup writes trace)).sending (leg_marks setup writes trace)
+in_call setup writes [] t = refl
+in_call setup writes (Ring at n ∷ earlier) t = in_call setup writes earlier t.1
+in_call setup writes (FromCalling octets at decided read ∷ earlier) t =
+    let s : Sides = sides setup writes earlier in
+    same_sending writes s.leg _ (book_of s).sending (leg_marks setup writes earlier)
+    (ends_sends (not (idle_after (calling_leg setup earlier)) && idle_after (calling_leg setup (FromCalling octets at decided read ∷ earlier))) s.steps) (in_call setup writes earlier t.1)
+in_call setup writes (FromCalled octets at decided ∷ earlier) t =
+    let s : Sides = sides setup writes earlier in hears_call writes s.leg (clock (FromCalled octets at decided ∷ earlier)) octets (book_of s).sending (leg_marks setup writes earlier) (in_call setup writes earlier t.1)
+in_call setup writes (Tick at given ∷ earlier) t =
     let now : ℕ = max at (clock earlier) in
-    let z : Sides = in_tick writes earlier at in
-    let marks : List Mark = marks_before writes earlier at (leg_marks writes earlier) in
+    let z : Sides = in_tick setup writes earlier at in
+    let marks : List Mark = marks_before setup writes earlier at (leg_marks setup writes earlier) in
     subst (λ (told : Option (List ℕ)). IfInCall writes (serves writes now z).leg (book_of (serves writes now z)).sending (gave_all (elements_told told) marks)) (sym (ap (λ (g : Given). g.on_called) t.0))
-    (serves_if writes z.leg now z.steps marks (before_call writes earlier at (leg_marks writes earlier) (in_call writes earlier t.1)))
+    (serves_if setup writes z.leg now z.steps marks (before_call setup writes earlier at (leg_marks setup writes earlier) (in_call setup writes earlier t.1)))

@@ -1,7 +1,7 @@
 mod Allowed
 mod Confirmed
 mod Cutting
-mod DrivingLemmas
+pub mod DrivingLemmas
 mod Examples
 mod Fitting
 mod Forwarding
@@ -22,4 +22,7 @@ mod States
 mod Steps
 mod Ticking
 mod WholeCall
+mod Chained
+mod Relayed
 pub mod SentPages
+mod Zeros

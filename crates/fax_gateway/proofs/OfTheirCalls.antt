@@ -4,6 +4,7 @@ use Rattle.fax_pagestore.specs.Pages.{PageValue}
 use Rattle.fax_jobs.specs.declared.outcome.Outcome.{Outcome}
 use Rattle.fax_jobs.specs.Jobs.{JobValue}
 use Rattle.fax_jobs.specs.Pasts.{Step, Confirms, CallEnds, Sends, Ends, Past, new_past, ended_if, after_steps, as_list, jobs_of}
+use Rattle.fax_gateway.specs.Setups.{Setup}
 use Rattle.fax_gateway.specs.Events.{Event}
 use Rattle.fax_gateway.specs.Sides.{past_of, sides}
 use Rattle.fax_gateway.specs.Forwards.{WasConfirmedIn}
@@ -33,22 +34,22 @@ all_ended P (Ends outcome delivered ∷ before) h =
     let past : Past = after_steps new_past before in ended_hold P past.book.sending past outcome delivered (all_ended P before h) (held P before h).sending
 
 -- as the law says it
-pages_are : (trace : List Event) (call : ℕ) (pages : List PageValue) → EachPage (WasConfirmedIn trace call) pages → AreConfirmedIn trace call pages
-pages_are trace call [] e = tt
-pages_are trace call (page ∷ pages) e = (e.0, pages_are trace call pages e.1)
+pages_are : (setup : Setup) (trace : List Event) (call : ℕ) (pages : List PageValue) → EachPage (WasConfirmedIn setup trace call) pages → AreConfirmedIn setup trace call pages
+pages_are setup trace call [] e = tt
+pages_are setup trace call (page ∷ pages) e = (e.0, pages_are setup trace call pages e.1)
 
-jobs_are : (trace : List Event) (jobs : List JobValue) → AllHold (WasConfirmedIn trace) jobs → AreOfTheirCalls trace jobs
-jobs_are trace [] a = tt
-jobs_are trace (job ∷ jobs) a = (record { is_job = a.0.is_job; confirmed = pages_are trace job.call job.pages a.0.pages }, jobs_are trace jobs a.1)
+jobs_are : (setup : Setup) (trace : List Event) (jobs : List JobValue) → AllHold (WasConfirmedIn setup trace) jobs → AreOfTheirCalls setup trace jobs
+jobs_are setup trace [] a = tt
+jobs_are setup trace (job ∷ jobs) a = (record { is_job = a.0.is_job; confirmed = pages_are setup trace job.call job.pages a.0.pages }, jobs_are setup trace jobs a.1)
 
 pub of_their_calls : JobsAreOfTheirCalls
-of_their_calls writes trace t =
-    let P : ℕ → PageValue → Type 0 = WasConfirmedIn trace in
-    let steps : List Step = (sides writes trace).steps in
-    let past : Past = past_of (sides writes trace) in
-    let h : StepsHold P steps = steps_hold writes trace t in
+of_their_calls setup writes trace t =
+    let P : ℕ → PageValue → Type 0 = WasConfirmedIn setup trace in
+    let steps : List Step = (sides setup writes trace).steps in
+    let past : Past = past_of (sides setup writes trace) in
+    let h : StepsHold P steps = steps_hold setup writes trace t in
     let b : BookHolds P past.book = held P steps h in (
-      jobs_are trace (jobs_of past) (both_hold P past.ended (as_list past.book.sending ++ past.book.waiting) (all_ended P steps h)
+      jobs_are setup trace (jobs_of past) (both_hold P past.ended (as_list past.book.sending ++ past.book.waiting) (all_ended P steps h)
           (both_hold P (as_list past.book.sending) past.book.waiting (list_holds P past.book.sending b.sending) b.waiting)),
-      jobs_are trace (as_list past.book.open_job) (list_holds P past.book.open_job b.open_job),
+      jobs_are setup trace (as_list past.book.open_job) (list_holds P past.book.open_job b.open_job),
     )

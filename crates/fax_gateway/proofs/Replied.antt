@@ -22,6 +22,7 @@ use Rattle.fax_answer.specs.Replies.{ConfirmedPage, Waiting, silent, called_tone
 use Rattle.fax_answer.specs.Calls.{Answering, rung, dis_reply, says_goodbye, identifies_again, identifies_anew, timed_in, timed, Ticked, given_first, ticked, CallEvent, Comes, after_events}
 use Rattle.fax_answer.specs.Readings.{comes_all}
 use Rattle.fax_call.specs.Emission.{ended_frame}
+use Rattle.fax_gateway.specs.Setups.{Setup}
 use Rattle.fax_gateway.specs.Events.{Event, Ring, FromCalling, FromCalled, Tick, clock}
 use Rattle.fax_gateway.specs.Legs.{new_pieces}
 use Rattle.fax_gateway.specs.CallingLegs.{CallingLeg, core_of, is_idle, answers, rung_leg, leg_with, packets_with, calling_after, calling_leg, told_by}
@@ -148,42 +149,42 @@ with_neat : (l : CallingLeg) (now : ℕ) (read : Reading) (r : Result DatagramVa
 with_neat l now read (Err f) n = n
 with_neat l now read (Ok d) n = record { core = comes_neat (rung l.before l.begun) (new_pieces l.arrived d) now read l.events n.core; short = n.short }
 
-step_neat : (o : Option CallingLeg) (now : ℕ) (e : Event) → IfNeat o → IfNeat (calling_after o now e)
-step_neat None now (Ring at number) n = rung_neat _ now number
-step_neat None now (FromCalling octets at decided read) n = tt
-step_neat None now (FromCalled octets at decided) n = tt
-step_neat None now (Tick at given) n = tt
-step_neat (Some l) now (Ring at number) n = rung_neat (core_of l) now number
-step_neat (Some l) now (FromCalling octets at decided read) n = by (is_idle (core_of l).state)
+step_neat : (setup : Setup) (o : Option CallingLeg) (now : ℕ) (e : Event) → IfNeat o → IfNeat (calling_after setup o now e)
+step_neat setup None now (Ring at number) n = rung_neat _ now number
+step_neat setup None now (FromCalling octets at decided read) n = tt
+step_neat setup None now (FromCalled octets at decided) n = tt
+step_neat setup None now (Tick at given) n = tt
+step_neat setup (Some l) now (Ring at number) n = rung_neat (core_of l) now number
+step_neat setup (Some l) now (FromCalling octets at decided read) n = by (is_idle (core_of l).state)
   where
     by : (t : Bool) → IfNeat (if t then Some l else Some (leg_with l now read (datagram_of octets)))
     by true = n
     by false = with_neat l now read (datagram_of octets) n
-step_neat (Some l) now (FromCalled octets at decided) n = n
-step_neat (Some l) now (Tick at given) n =
+step_neat setup (Some l) now (FromCalled octets at decided) n = n
+step_neat setup (Some l) now (Tick at given) n =
     let t : NeatTick (answers l now) = ticked_neat (core_of l) now n.core in
     record { core = t.core; short = short_with (answers l now).given l.given t.given n.short }
 
-pub neat_of : (trace : List Event) → IfNeat (calling_leg trace)
-neat_of [] = tt
-neat_of (e ∷ earlier) = step_neat (calling_leg earlier) (clock (e ∷ earlier)) e (neat_of earlier)
+pub neat_of : (setup : Setup) (trace : List Event) → IfNeat (calling_leg setup trace)
+neat_of setup [] = tt
+neat_of setup (e ∷ earlier) = step_neat setup (calling_leg setup earlier) (clock (e ∷ earlier)) e (neat_of setup earlier)
 
 -- the packet of the frame MCF gives it
 is_mcf : mcf_in mcf_packet ≡ true
 unfolding written_behind fields_at ended_frame packet_of bits.bit packets.fields_behind packets.field_at packets.octets_at
 is_mcf = refl
 
-pub told_mcf : (given : List (List ℕ)) (o : Option Waiting) (w : Waiting) → AreShort given → NeatGiven o → o ≡ Some w → w.packet ≡ mcf_packet → gives_mcf (told_by given o) ≡ true
-told_mcf given None w s n is e = cc
-told_mcf given (Some v) w s n is e =
+pub told_mcf : (setup : Setup) (given : List (List ℕ)) (o : Option Waiting) (w : Waiting) → AreShort given → NeatGiven o → o ≡ Some w → w.packet ≡ mcf_packet → gives_mcf (told_by setup given o) ≡ true
+told_mcf setup given None w s n is e = cc
+told_mcf setup given (Some v) w s n is e =
     let same : v ≡ w = cc in
-    ap (has_mcf []) (told_back given v.packet s n.short) ∙ ap mcf_in (ap (λ (x : Waiting). x.packet) same ∙ e) ∙ is_mcf
+    ap (has_mcf []) (told_back setup given v.packet s n.short) ∙ ap mcf_in (ap (λ (x : Waiting). x.packet) same ∙ e) ∙ is_mcf
 
 -- and no other packet does
-pub mcf_only : (given : List (List ℕ)) (o : Option Waiting) → AreShort given → NeatGiven o → gives_mcf (told_by given o) ≡ true → (w : Waiting) × (o ≡ Some w) × (w.packet ≡ mcf_packet)
-mcf_only given None s n h = cc
-mcf_only given (Some w) s n h = (w, refl, by n.only)
+pub mcf_only : (setup : Setup) (given : List (List ℕ)) (o : Option Waiting) → AreShort given → NeatGiven o → gives_mcf (told_by setup given o) ≡ true → (w : Waiting) × (o ≡ Some w) × (w.packet ≡ mcf_packet)
+mcf_only setup given None s n h = cc
+mcf_only setup given (Some w) s n h = (w, refl, by n.only)
   where
     by : (mcf_in w.packet ≡ false) ⊎ (w.packet ≡ mcf_packet) → w.packet ≡ mcf_packet
-    by (inl f) = let q : true ≡ false = sym h ∙ (ap (has_mcf []) (told_back given w.packet s n.short) ∙ f) in cc
+    by (inl f) = let q : true ≡ false = sym h ∙ (ap (has_mcf []) (told_back setup given w.packet s n.short) ∙ f) in cc
     by (inr e) = e

@@ -161,11 +161,11 @@ by_leg writes now (Some l) book P old marks after report w h i j e = by l.entere
     by false s k e = ended (outcome_of (calls writes l now).core) refl s k e
 
 pub reports_the_job : ReportsTheJob
-reports_the_job writes earlier at given report w t e =
+reports_the_job setup writes earlier at given report w t e =
     let now : ℕ = max at (clock earlier) in
-    let z : Sides = in_tick writes earlier at in
+    let z : Sides = in_tick setup writes earlier at in
     let trace : List Event = Tick at given ∷ earlier in
-    let old : List Mark = leg_marks writes earlier in
-    by_leg writes now z.leg (book_of z) (WasConfirmedIn trace) (marks_before writes earlier at old) (leg_marks writes trace) (book_of (sides writes trace)).sending report w
-    (held (WasConfirmedIn trace) z.steps (tick_holds writes earlier at given t)).sending
-    (before_call writes earlier at old (in_call writes earlier t.1)) (in_call writes trace t) (sym (ap (λ (g : Given). g.report) t.0) ∙ e)
+    let old : List Mark = leg_marks setup writes earlier in
+    by_leg writes now z.leg (book_of z) (WasConfirmedIn setup trace) (marks_before setup writes earlier at old) (leg_marks setup writes trace) (book_of (sides setup writes trace)).sending report w
+    (held (WasConfirmedIn setup trace) z.steps (tick_holds setup writes earlier at given t)).sending
+    (before_call setup writes earlier at old (in_call setup writes earlier t.1)) (in_call setup writes trace t) (sym (ap (λ (g : Given). g.report) t.0) ∙ e)

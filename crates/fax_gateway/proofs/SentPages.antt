@@ -22,6 +22,7 @@ use Rattle.fax_answer.specs.Readings.{comes_all}
 use Rattle.fax_answer.specs.Sent.{pieces_heard, page_accepted, RisesBy, Rises}
 use Rattle.fax_answer.proofs.Confirmations.{ticked_history}
 use Rattle.fax_answer.proofs.Rising.{confirms_signals}
+use Rattle.fax_gateway.specs.Setups.{Setup}
 use Rattle.fax_gateway.specs.Events.{Event, Ring, FromCalling, FromCalled, Tick, clock}
 use Rattle.fax_gateway.specs.Legs.{new_pieces}
 use Rattle.fax_gateway.specs.CallingLegs.{CallingLeg, core_of, is_idle, leg_with, calling_after, calling_leg}
@@ -71,26 +72,26 @@ none_newest : [] ≡ reverse (pieces (newest_slots []))
 unfolding newest_slots slots
 none_newest = refl
 
-step_heard : (o : Option CallingLeg) (now : ℕ) (e : Event) → HeardSo o → HeardSo (calling_after o now e)
-step_heard None now (Ring at n) h = none_newest
-step_heard (Some l) now (Ring at n) h = none_newest
-step_heard None now (FromCalling octets at decided read) h = tt
-step_heard (Some l) now (FromCalling octets at decided read) h = by (is_idle (core_of l).state)
+step_heard : (setup : Setup) (o : Option CallingLeg) (now : ℕ) (e : Event) → HeardSo o → HeardSo (calling_after setup o now e)
+step_heard setup None now (Ring at n) h = none_newest
+step_heard setup (Some l) now (Ring at n) h = none_newest
+step_heard setup None now (FromCalling octets at decided read) h = tt
+step_heard setup (Some l) now (FromCalling octets at decided read) h = by (is_idle (core_of l).state)
   where
     by : (t : Bool) → HeardSo (if t then Some l else Some (leg_with l now read (datagram_of octets)))
     by true = h
     by false = leg_heard l now read (datagram_of octets) h
-step_heard None now (FromCalled octets at decided) h = tt
-step_heard (Some l) now (FromCalled octets at decided) h = h
-step_heard None now (Tick at given) h = tt
-step_heard (Some l) now (Tick at given) h = ap pieces_heard (ticked_history (core_of l) now) ∙ h
+step_heard setup None now (FromCalled octets at decided) h = tt
+step_heard setup (Some l) now (FromCalled octets at decided) h = h
+step_heard setup None now (Tick at given) h = tt
+step_heard setup (Some l) now (Tick at given) h = ap pieces_heard (ticked_history (core_of l) now) ∙ h
 
-heard_so : (trace : List Event) → HeardSo (calling_leg trace)
-heard_so [] = tt
-heard_so (e ∷ earlier) = step_heard (calling_leg earlier) (clock (e ∷ earlier)) e (heard_so earlier)
+heard_so : (setup : Setup) (trace : List Event) → HeardSo (calling_leg setup trace)
+heard_so setup [] = tt
+heard_so setup (e ∷ earlier) = step_heard setup (calling_leg setup earlier) (clock (e ∷ earlier)) e (heard_so setup earlier)
 
-pub leg_heard_so : (trace : List Event) (l : CallingLeg) → calling_leg trace ≡ Some l → pieces_heard (core_of l).history ≡ reverse (pieces (newest_slots l.arrived))
-leg_heard_so trace l is = subst HeardSo is (heard_so trace)
+pub leg_heard_so : (setup : Setup) (trace : List Event) (l : CallingLeg) → calling_leg setup trace ≡ Some l → pieces_heard (core_of l).history ≡ reverse (pieces (newest_slots l.arrived))
+leg_heard_so setup trace l is = subst HeardSo is (heard_so setup trace)
 
 -- OVER AN HONEST SCHEDULE
 later_bound : (packets : List (List ℕ)) (h : List Entry) (b c : ℕ) → b ≤ c → Rises packets h b → Rises packets h c
@@ -102,12 +103,12 @@ later_bound packets (e ∷ h) b c l r = by (λ x. later_bound packets h b c l x)
     by f (Some page) x = let m : x.0 < b = x.1 in (x.0, omega arith, x.2, x.3)
 
 pub leg_confirms_signals : sent.ConfirmsSignals
-leg_confirms_signals writes trace l packets arrivals t is honest arrived =
+leg_confirms_signals setup writes trace l packets arrivals t is honest arrived =
     let part : ArePartOf packets arrivals = slots_are_a_part packets arrivals honest in
     let heard : pieces_heard (core_of l).history ≡ reverse (pieces (newest_slots (datagrams arrivals))) =
-    leg_heard_so trace l is ∙ ap (λ (ds : List DatagramValue). reverse (pieces (newest_slots ds))) arrived in
+    leg_heard_so setup trace l is ∙ ap (λ (ds : List DatagramValue). reverse (pieces (newest_slots ds))) arrived in
     later_bound packets (core_of l).history part.next (length packets) part.within
-    (confirms_signals l.before l.begun l.events packets part.next (newest_slots (datagrams arrivals)) (leg_is_read writes trace l t is) heard part.slots)
+    (confirms_signals l.before l.begun l.events packets part.next (newest_slots (datagrams arrivals)) (leg_is_read setup writes trace l t is) heard part.slots)
 
 or_whole : (packets : List (List ℕ)) (arrivals : List Arrival) (next n : ℕ) → (BeginsAtFirst arrivals → next ≡ n) → BeginsAtFirst arrivals ⊎ AreClosed packets → (next ≡ n) ⊎ AreClosed packets
 or_whole packets arrivals next n f (inl b) = inl (f b)
@@ -121,10 +122,10 @@ turned ps o h = by (has_onto ps [] o h)
     by (inr x) = absurd x
 
 pub leg_hears_sent_frames : sent.HearsSentFrames
-leg_hears_sent_frames writes trace l packets arrivals t is honest arrived w octets c =
+leg_hears_sent_frames setup writes trace l packets arrivals t is honest arrived w octets c =
     let part : ArePartOf packets arrivals = slots_are_a_part packets arrivals honest in
     let ss : List Slot = newest_slots (datagrams arrivals) in
     let heard : pieces_heard (core_of l).history ≡ reverse (pieces ss) =
-    leg_heard_so trace l is ∙ ap (λ (ds : List DatagramValue). reverse (pieces (newest_slots ds))) arrived in
+    leg_heard_so setup trace l is ∙ ap (λ (ds : List DatagramValue). reverse (pieces (newest_slots ds))) arrived in
     let has : Has (pieces ss) octets = turned (pieces ss) octets (subst (λ (ps : List Piece). Has ps octets) heard (contained (pieces_heard (core_of l).history) octets c.0 c.1 c.2)) in
     frames_are_sent packets part.next ss part.slots (or_whole packets arrivals part.next (length ss) part.whole w) octets (contains (pieces ss) octets has)

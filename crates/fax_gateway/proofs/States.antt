@@ -10,6 +10,7 @@ use Rattle.fax_jobs.proofs.Reporting.{reports_each_job}
 use Rattle.fax_answer.specs.Replies.{ConfirmedPage}
 use Rattle.fax_call.specs.Writings.{Writing}
 use Rattle.fax_call.specs.Emission.{Mark}
+use Rattle.fax_gateway.specs.Setups.{Setup}
 use Rattle.fax_gateway.specs.Events.{Event, Ring, FromCalling, FromCalled, Tick, Given, clock}
 use Rattle.fax_gateway.specs.CallingLegs.{CallingLeg, calling_leg, idle_after, answers, confirmed_by}
 use Rattle.fax_gateway.specs.CalledLegs.{CalledLeg, is_free, calls, outcome_of, outcome_told, delivered_told, report_by, told_report}
@@ -36,10 +37,10 @@ heard_report None now steps = refl
 heard_report (Some l) now steps =
     ends_report (answers l now).ended (confirms_if l.number (confirmed_by (answers l now).given) steps) ∙ confirms_report l.number (confirmed_by (answers l now).given) steps
 
-sends_report : (writes : Writing) (now : ℕ) (s : Sides) → reported_by (sends_if writes now s).steps ≡ reported_by s.steps
-sends_report writes now s = by (is_free s.leg)
+sends_report : (setup : Setup) (writes : Writing) (now : ℕ) (s : Sides) → reported_by (sends_if setup writes now s).steps ≡ reported_by s.steps
+sends_report setup writes now s = by (is_free s.leg)
   where
-    by : (b : Bool) → reported_by (if◌then◌else◌ {A = Sides} b (sends writes now s) s).steps ≡ reported_by s.steps
+    by : (b : Bool) → reported_by (if◌then◌else◌ {A = Sides} b (sends setup writes now s) s).steps ≡ reported_by s.steps
     by true = refl
     by false = refl
 
@@ -67,19 +68,19 @@ served_report writes (Some l) now steps marks i = by l.entered i.sends
     by true e = sym (append-nil (reported_by steps))
     by false e = enters_report l delivered (outcome_of (calls writes l now).core) steps e
 
-reported_are : (writes : Writing) (trace : List Event) → IsTrace writes trace → reported_by (sides writes trace).steps ≡ reports_given trace
-reported_are writes [] t = refl
-reported_are writes (Ring at n ∷ earlier) t = reported_are writes earlier t.1
-reported_are writes (FromCalling octets at decided read ∷ earlier) t =
-    ends_report (not (idle_after (calling_leg earlier)) && idle_after (calling_leg (FromCalling octets at decided read ∷ earlier))) (sides writes earlier).steps ∙ reported_are writes earlier t.1
-reported_are writes (FromCalled octets at decided ∷ earlier) t = reported_are writes earlier t.1
-reported_are writes (Tick at given ∷ earlier) t =
+reported_are : (setup : Setup) (writes : Writing) (trace : List Event) → IsTrace setup writes trace → reported_by (sides setup writes trace).steps ≡ reports_given trace
+reported_are setup writes [] t = refl
+reported_are setup writes (Ring at n ∷ earlier) t = reported_are setup writes earlier t.1
+reported_are setup writes (FromCalling octets at decided read ∷ earlier) t =
+    ends_report (not (idle_after (calling_leg setup earlier)) && idle_after (calling_leg setup (FromCalling octets at decided read ∷ earlier))) (sides setup writes earlier).steps ∙ reported_are setup writes earlier t.1
+reported_are setup writes (FromCalled octets at decided ∷ earlier) t = reported_are setup writes earlier t.1
+reported_are setup writes (Tick at given ∷ earlier) t =
     let now : ℕ = max at (clock earlier) in
-    let s : Sides = sides writes earlier in
-    let z : Sides = in_tick writes earlier at in
-    served_report writes z.leg now z.steps (marks_before writes earlier at (leg_marks writes earlier)) (before_call writes earlier at (leg_marks writes earlier) (in_call writes earlier t.1))
+    let s : Sides = sides setup writes earlier in
+    let z : Sides = in_tick setup writes earlier at in
+    served_report writes z.leg now z.steps (marks_before setup writes earlier at (leg_marks setup writes earlier)) (before_call setup writes earlier at (leg_marks setup writes earlier) (in_call setup writes earlier t.1))
     ∙ ap (λ (rs : List Report). rs ++ report_list (told_report writes z.leg now))
-    (sends_report writes now (record s { steps = heard_in_tick (calling_leg earlier) now s.steps }) ∙ heard_report (calling_leg earlier) now s.steps ∙ reported_are writes earlier t.1)
+    (sends_report setup writes now (record s { steps = heard_in_tick (calling_leg setup earlier) now s.steps }) ∙ heard_report (calling_leg setup earlier) now s.steps ∙ reported_are setup writes earlier t.1)
     ∙ ap (λ (r : Option Report). reports_given earlier ++ report_list r) (sym (ap (λ (g : Given). g.report) t.0))
 
 sending_is : (writes : Writing) (leg : Option CalledLeg) (sending : Option JobValue) (marks : List Mark) → IfInCall writes leg sending marks → sending ≡ job_sent leg
@@ -87,12 +88,12 @@ sending_is writes None sending marks i = i
 sending_is writes (Some l) sending marks i = i.sends
 
 pub have_states : JobsHaveStates
-have_states writes trace t =
-    let s : Sides = sides writes trace in
+have_states setup writes trace t =
+    let s : Sides = sides setup writes trace in
     let past : Past = past_of s in
     let r : HasReports past = reports_each_job s.steps in
-    let are : past.reported ≡ reports_given trace = reported_are writes trace t in
-    let e : past.book.sending ≡ job_sent s.leg = sending_is writes s.leg past.book.sending (leg_marks writes trace) (in_call writes trace t) in
+    let are : past.reported ≡ reports_given trace = reported_are setup writes trace t in
+    let e : past.book.sending ≡ job_sent s.leg = sending_is writes s.leg past.book.sending (leg_marks setup writes trace) (in_call setup writes trace t) in
     record {
       ended = past.ended;
       are_reported = subst (AreReported past.ended) are r.each;

@@ -4,6 +4,8 @@ use Rattle.fax_jobs.specs.Books.{Book, closed}
 use Rattle.fax_jobs.specs.Pasts.{Step, new_past, after_steps}
 use Rattle.fax_answer.specs.Table.{Reading}
 use Rattle.fax_call.specs.Writings.{Writing}
+use Rattle.fax_gateway.specs.Setups.{AreSet, Setup}
+use Rattle.fax_gateway.specs.declared.settings.Settings.{Settings}
 use Rattle.fax_gateway.specs.declared.called.CalledSide.{CalledSide}
 use Rattle.fax_gateway.specs.Events.{Event, FromCalling, clock}
 use Rattle.fax_gateway.specs.CallingLegs.{CallingLeg, idle_after, calling_after, calling_leg, decided_calling}
@@ -15,33 +17,34 @@ ended_book : (b : Bool) (steps : List Step) → (after_steps new_past (ends_if b
 ended_book true steps = refl
 ended_book false steps = refl
 
-heard_same : (leg : Option CallingLeg) (now : ℕ) (octets : List ℕ) (at : ℕ) (decided : Bool) (read : Reading) → heard_on leg now octets read ≡ calling_after leg now (FromCalling octets at decided read)
-heard_same None now octets at decided read = refl
-heard_same (Some l) now octets at decided read = refl
+heard_same : (setup : Setup) (leg : Option CallingLeg) (now : ℕ) (octets : List ℕ) (at : ℕ) (decided : Bool) (read : Reading) → heard_on setup leg now octets read ≡ calling_after setup leg now (FromCalling octets at decided read)
+heard_same setup None now octets at decided read = refl
+heard_same setup (Some l) now octets at decided read = refl
 
-pub hears_from : (writes : Writing) (trace : List Event) (octets : List ℕ) (at : ℕ) (decided ends : Bool) (old new : GatewayValue) → IsReachedBy writes trace old → new.clock ≡ max at old.clock → new.rings ≡ old.rings
-    → new.called ≡ old.called → decided ≡ decided_calling (calling_leg trace) octets → HearsCalling (calling_leg trace) new.clock octets new.calling
-    → ((leg : Option CallingLeg) → IsCalling leg new.calling → ends ≡ (not (idle_after (calling_leg trace)) && idle_after leg))
+pub hears_from : (setup : Setup) (writes : Writing) (trace : List Event) (octets : List ℕ) (at : ℕ) (decided ends : Bool) (old new : GatewayValue) → IsReachedBy setup writes trace old → new.clock ≡ max at old.clock → new.rings ≡ old.rings → new.settings ≡ old.settings
+    → new.called ≡ old.called → decided ≡ decided_calling (calling_leg setup trace) octets → HearsCalling setup (calling_leg setup trace) new.clock octets new.calling
+    → ((leg : Option CallingLeg) → IsCalling setup leg new.calling → ends ≡ (not (idle_after (calling_leg setup trace)) && idle_after leg))
     → new.book ≡ (if ends then closed old.book else old.book)
-    → HearsFrom writes trace octets at decided new
-hears_from writes trace octets at decided ends old new r later rung same answer hears ended book =
+    → HearsFrom setup writes trace octets at decided new
+hears_from setup writes trace octets at decided ends old new r later rung set same answer hears ended book =
     let now : new.clock ≡ max at (clock trace) = later ∙ ap (λ (m : ℕ). max at m) r.at in
-    let h : HearsCalling (calling_leg trace) (max at (clock trace)) octets new.calling = subst (λ (m : ℕ). HearsCalling (calling_leg trace) m octets new.calling) now hears in
-    let leg : IsCalling (calling_after (calling_leg trace) (max at (clock trace)) (FromCalling octets at decided h.read)) new.calling =
-    subst (λ (o : Option CallingLeg). IsCalling o new.calling) (heard_same (calling_leg trace) (max at (clock trace)) octets at decided h.read) h.calling in
-    let steps : List Step = (sides writes trace).steps in
-    let ends_is : Bool = not (idle_after (calling_leg trace)) && idle_after (calling_after (calling_leg trace) (max at (clock trace)) (FromCalling octets at decided h.read)) in
+    let h : HearsCalling setup (calling_leg setup trace) (max at (clock trace)) octets new.calling = subst (λ (m : ℕ). HearsCalling setup (calling_leg setup trace) m octets new.calling) now hears in
+    let leg : IsCalling setup (calling_after setup (calling_leg setup trace) (max at (clock trace)) (FromCalling octets at decided h.read)) new.calling =
+    subst (λ (o : Option CallingLeg). IsCalling setup o new.calling) (heard_same setup (calling_leg setup trace) (max at (clock trace)) octets at decided h.read) h.calling in
+    let steps : List Step = (sides setup writes trace).steps in
+    let ends_is : Bool = not (idle_after (calling_leg setup trace)) && idle_after (calling_after setup (calling_leg setup trace) (max at (clock trace)) (FromCalling octets at decided h.read)) in
     record {
       read = h.read;
       reached = record {
         is_trace = ((answer, h.right), r.is_trace);
         at = now;
+        set = subst (λ (x : Settings). AreSet setup x) (sym set) r.set;
         rung = rung ∙ r.rung;
         calling = leg;
-        called = subst (λ (s : CalledSide). IsCalled writes (sides writes trace).leg s) (sym same) r.called;
+        called = subst (λ (s : CalledSide). IsCalled setup writes (sides setup writes trace).leg s) (sym same) r.called;
         book =
             book ∙ ap (λ (b : Book). if ends then closed b else b) r.book
-            ∙ ap (λ (b : Bool). if b then closed (book_of (sides writes trace)) else book_of (sides writes trace)) (ended _ leg)
+            ∙ ap (λ (b : Bool). if b then closed (book_of (sides setup writes trace)) else book_of (sides setup writes trace)) (ended _ leg)
             ∙ sym (ended_book ends_is steps);
       };
     }

@@ -13,6 +13,8 @@ use Rattle.fax_call.specs.Writings.{Writing}
 use Rattle.fax_call.specs.Calls.{Ticked}
 use Rattle.fax_call.specs.Delivery.{is_over}
 use Rattle.fax_call.specs.Table.{Counts}
+use Rattle.fax_gateway.specs.Setups.{AreSet, Setup}
+use Rattle.fax_gateway.specs.declared.settings.Settings.{Settings}
 use Rattle.fax_gateway.specs.declared.called.CalledSide.{CalledSide}
 use Rattle.fax_gateway.specs.Events.{Event, Tick, Given, clock}
 use Rattle.fax_gateway.specs.CallingLegs.{CallingLeg, answers, confirmed_by, calling_after, calling_leg, told_calling}
@@ -42,20 +44,20 @@ heard_book (Some l) now number steps h =
     ends_book ended (confirms_if l.number c steps) ∙ ap (closed_if ended) (confirms_book l.number c steps) ∙ ap (λ (n : ℕ). closed_if ended (confirmed_if n c book)) h
 
 -- THE CALLED LEG is served: what this leaves and tells
-pub record Served (writes : Writing) (now : ℕ) (z : Sides) (side : CalledSide) (given : Option (List ℕ)) (told : Option Report) (left : Book) : Type 0 where
-  pub called : IsCalled writes (serves writes now z).leg side
-  pub datagram : given ≡ told_called writes z.leg now
+pub record Served (setup : Setup) (writes : Writing) (now : ℕ) (z : Sides) (side : CalledSide) (given : Option (List ℕ)) (told : Option Report) (left : Book) : Type 0 where
+  pub called : IsCalled setup writes (serves writes now z).leg side
+  pub datagram : given ≡ told_called setup writes z.leg now
   pub report : told ≡ told_report writes z.leg now
   pub book : left ≡ book_of (serves writes now z)
 
-outcome_is : (writes : Writing) (l : CalledLeg) (side : CalledSide) (now : ℕ) → IsCalled writes (Some (with_tick (calls writes l now) now l)) side → outcome_kept side.caller.procedure ≡ outcome_of (calls writes l now).core
-outcome_is writes l side now r =
+outcome_is : (setup : Setup) (writes : Writing) (l : CalledLeg) (side : CalledSide) (now : ℕ) → IsCalled setup writes (Some (with_tick (calls writes l now) now l)) side → outcome_kept side.caller.procedure ≡ outcome_of (calls writes l now).core
+outcome_is setup writes l side now r =
     let p : Procedure = side.caller.procedure in
     ap (λ (s : State). if◌then◌else◌ {A = Option Outcome} (is_over s) p.outcome None) r.core.follows.state
     ∙ ap (λ (o : Option Outcome). if◌then◌else◌ {A = Option Outcome} (is_over (calls writes l now).core.state) o None) r.core.follows.outcome
 
-delivered_is : (writes : Writing) (l : CalledLeg) (side : CalledSide) (now : ℕ) → IsCalled writes (Some (with_tick (calls writes l now) now l)) side → side.caller.procedure.counts.delivered ≡ (calls writes l now).core.counts.delivered
-delivered_is writes l side now r = ap (λ (c : Counts). c.delivered) r.core.follows.counts
+delivered_is : (setup : Setup) (writes : Writing) (l : CalledLeg) (side : CalledSide) (now : ℕ) → IsCalled setup writes (Some (with_tick (calls writes l now) now l)) side → side.caller.procedure.counts.delivered ≡ (calls writes l now).core.counts.delivered
+delivered_is setup writes l side now r = ap (λ (c : Counts). c.delivered) r.core.follows.counts
 
 entered_book : (o : Option JobValue) (job : JobValue) (past : Past) (outcome : Outcome) (delivered : ℕ) → o ≡ Some job → (pasts.ended_if o past outcome delivered).book ≡ ended past.book outcome delivered
 entered_book None job past outcome delivered e = cc
@@ -71,21 +73,21 @@ report_is l delivered None = refl
 report_is l delivered (Some outcome) = refl
 
 -- a job is being sent
-served_on : (writes : Writing) (now : ℕ) (steps : List Step) (l : CalledLeg) (side : CalledSide) (given : Option (List ℕ)) → l.entered ≡ false → (after_steps new_past steps).book.sending ≡ Some l.job
-    → IsCalled writes (Some (with_tick (calls writes l now) now l)) side → given ≡ told_by l.given (calls writes l now).given
-    → Served writes now (record { steps = steps; leg = Some l }) side given (report_if (Some l.job) (outcome_kept side.caller.procedure) side.caller.procedure.counts.delivered) (ended_with (outcome_kept side.caller.procedure) side.caller.procedure.counts.delivered (after_steps new_past steps).book)
-served_on writes now steps l side given on sending r told =
+served_on : (setup : Setup) (writes : Writing) (now : ℕ) (steps : List Step) (l : CalledLeg) (side : CalledSide) (given : Option (List ℕ)) → l.entered ≡ false → (after_steps new_past steps).book.sending ≡ Some l.job
+    → IsCalled setup writes (Some (with_tick (calls writes l now) now l)) side → given ≡ told_by setup l.given (calls writes l now).given
+    → Served setup writes now (record { steps = steps; leg = Some l }) side given (report_if (Some l.job) (outcome_kept side.caller.procedure) side.caller.procedure.counts.delivered) (ended_with (outcome_kept side.caller.procedure) side.caller.procedure.counts.delivered (after_steps new_past steps).book)
+served_on setup writes now steps l side given on sending r told =
     let t : Ticked = calls writes l now in
     let o : Option Outcome = outcome_of t.core in
     let d : ℕ = t.core.counts.delivered in
     let book : Book = (after_steps new_past steps).book in
     let kept : Option Outcome = outcome_kept side.caller.procedure in
-    let outcome : kept ≡ o = outcome_is writes l side now r in
-    let delivered : side.caller.procedure.counts.delivered ≡ d = delivered_is writes l side now r in
+    let outcome : kept ≡ o = outcome_is setup writes l side now r in
+    let delivered : side.caller.procedure.counts.delivered ≡ d = delivered_is setup writes l side now r in
     let entered : (if◌then◌else◌ {A = Option Outcome} l.entered None o) ≡ o = ap (λ (b : Bool). if◌then◌else◌ {A = Option Outcome} b None o) on in
     record {
-      called = subst (λ (b : Bool). IsCalled writes (Some (if◌then◌else◌ {A = CalledLeg} b l (with_tick t now l))) side) (sym on) r;
-      datagram = told ∙ sym (ap (λ (b : Bool). if◌then◌else◌ {A = Option (List ℕ)} b None (told_by l.given t.given)) on);
+      called = subst (λ (b : Bool). IsCalled setup writes (Some (if◌then◌else◌ {A = CalledLeg} b l (with_tick t now l))) side) (sym on) r;
+      datagram = told ∙ sym (ap (λ (b : Bool). if◌then◌else◌ {A = Option (List ℕ)} b None (told_by setup l.given t.given)) on);
       report =
           ap (λ (x : Option Outcome). report_if (Some l.job) x side.caller.procedure.counts.delivered) outcome ∙ ap (report_if (Some l.job) o) delivered ∙ report_is l d o
           ∙ sym (ap (report_by l d) entered);
@@ -95,16 +97,16 @@ served_on writes now steps l side given on sending r told =
     }
 
 -- no job is being sent
-served_off : (writes : Writing) (now : ℕ) (steps : List Step) (leg : Option CalledLeg) (side : CalledSide) → is_free leg ≡ true → IsCalled writes leg side
-    → Served writes now (record { steps = steps; leg = leg }) side None None (after_steps new_past steps).book
-served_off writes now steps None side off r = record { called = r; datagram = refl; report = refl; book = refl }
-served_off writes now steps (Some l) side off r =
+served_off : (setup : Setup) (writes : Writing) (now : ℕ) (steps : List Step) (leg : Option CalledLeg) (side : CalledSide) → is_free leg ≡ true → IsCalled setup writes leg side
+    → Served setup writes now (record { steps = steps; leg = leg }) side None None (after_steps new_past steps).book
+served_off setup writes now steps None side off r = record { called = r; datagram = refl; report = refl; book = refl }
+served_off setup writes now steps (Some l) side off r =
     let t : Ticked = calls writes l now in
     let o : Option Outcome = outcome_of t.core in
     let entered : (if◌then◌else◌ {A = Option Outcome} l.entered None o) ≡ None = ap (λ (b : Bool). if◌then◌else◌ {A = Option Outcome} b None o) off in
     record {
-      called = subst (λ (b : Bool). IsCalled writes (Some (if◌then◌else◌ {A = CalledLeg} b l (with_tick t now l))) side) (sym off) r;
-      datagram = sym (ap (λ (b : Bool). if◌then◌else◌ {A = Option (List ℕ)} b None (told_by l.given t.given)) off);
+      called = subst (λ (b : Bool). IsCalled setup writes (Some (if◌then◌else◌ {A = CalledLeg} b l (with_tick t now l))) side) (sym off) r;
+      datagram = sym (ap (λ (b : Bool). if◌then◌else◌ {A = Option (List ℕ)} b None (told_by setup l.given t.given)) off);
       report = sym (ap (report_by l t.core.counts.delivered) entered);
       book = sym (ap (λ (x : Option Outcome). (after_steps new_past (enters t.core.counts.delivered x steps)).book) entered);
     }
@@ -122,40 +124,40 @@ sent_off (Some l) e = by l.entered e
     by true e = refl
     by false e = cc
 
-pub same_served : (writes : Writing) (now : ℕ) (y z : Sides) (side : CalledSide) (given : Option (List ℕ)) (t told : Option Report) (l left : Book) → z ≡ y → told ≡ t → left ≡ l → Served writes now y side given t l → Served writes now z side given told left
-same_served writes now y z side given t told l left a b c h =
-    subst (λ (x : Sides). Served writes now x side given told left) (sym a) (subst (λ (r : Option Report). Served writes now y side given r left) (sym b) (subst (λ (k : Book). Served writes now y side given t k) (sym c) h))
+pub same_served : (setup : Setup) (writes : Writing) (now : ℕ) (y z : Sides) (side : CalledSide) (given : Option (List ℕ)) (t told : Option Report) (l left : Book) → z ≡ y → told ≡ t → left ≡ l → Served setup writes now y side given t l → Served setup writes now z side given told left
+same_served setup writes now y z side given t told l left a b c h =
+    subst (λ (x : Sides). Served setup writes now x side given told left) (sym a) (subst (λ (r : Option Report). Served setup writes now y side given r left) (sym b) (subst (λ (k : Book). Served setup writes now y side given t k) (sym c) h))
 
-abbrev steps_heard : Writing → List Event → ℕ → List Step
-steps_heard writes trace at = heard_in_tick (calling_leg trace) (max at (clock trace)) (sides writes trace).steps
+abbrev steps_heard : Setup → Writing → List Event → ℕ → List Step
+steps_heard setup writes trace at = heard_in_tick (calling_leg setup trace) (max at (clock trace)) (sides setup writes trace).steps
 
 -- what the book is when it heard of the calling leg
-abbrev pub IsHeard : List Event → ℕ → GatewayValue → Book → Type 0
-IsHeard trace now old heard = heard ≡ closed_if (ended_on (calling_leg trace) now) (confirmed_if old.calling.number (confirmed_on (calling_leg trace) now) old.book)
+abbrev pub IsHeard : Setup → List Event → ℕ → GatewayValue → Book → Type 0
+IsHeard setup trace now old heard = heard ≡ closed_if (ended_on (calling_leg setup trace) now) (confirmed_if old.calling.number (confirmed_on (calling_leg setup trace) now) old.book)
 
-heard_is : (writes : Writing) (trace : List Event) (at : ℕ) (old : GatewayValue) (heard : Book) → IsReachedBy writes trace old → IsHeard trace (max at (clock trace)) old heard → heard ≡ (after_steps new_past (steps_heard writes trace at)).book
-heard_is writes trace at old heard r h =
+heard_is : (setup : Setup) (writes : Writing) (trace : List Event) (at : ℕ) (old : GatewayValue) (heard : Book) → IsReachedBy setup writes trace old → IsHeard setup trace (max at (clock trace)) old heard → heard ≡ (after_steps new_past (steps_heard setup writes trace at)).book
+heard_is setup writes trace at old heard r h =
     let now : ℕ = max at (clock trace) in
-    let leg : Option CallingLeg = calling_leg trace in
-    h ∙ ap (λ (b : Book). closed_if (ended_on leg now) (confirmed_if old.calling.number (confirmed_on leg now) b)) r.book ∙ sym (heard_book leg now old.calling.number (sides writes trace).steps r.calling.number)
+    let leg : Option CallingLeg = calling_leg setup trace in
+    h ∙ ap (λ (b : Book). closed_if (ended_on leg now) (confirmed_if old.calling.number (confirmed_on leg now) b)) r.book ∙ sym (heard_book leg now old.calling.number (sides setup writes trace).steps r.calling.number)
 
-sending_is : (writes : Writing) (trace : List Event) (at : ℕ) (old : GatewayValue) → IsReachedBy writes trace old → (after_steps new_past (steps_heard writes trace at)).book.sending ≡ old.book.sending
-sending_is writes trace at old r = heard_sends (calling_leg trace) (max at (clock trace)) (sides writes trace).steps ∙ sym (ap (λ (b : Book). b.sending) r.book)
+sending_is : (setup : Setup) (writes : Writing) (trace : List Event) (at : ℕ) (old : GatewayValue) → IsReachedBy setup writes trace old → (after_steps new_past (steps_heard setup writes trace at)).book.sending ≡ old.book.sending
+sending_is setup writes trace at old r = heard_sends (calling_leg setup trace) (max at (clock trace)) (sides setup writes trace).steps ∙ sym (ap (λ (b : Book). b.sending) r.book)
 
-job_is : (writes : Writing) (trace : List Event) (old : GatewayValue) → IsReachedBy writes trace old → job_sent (sides writes trace).leg ≡ old.book.sending
-job_is writes trace old r = let h : HaveStates writes trace = have_states writes trace r.is_trace in sym (ap (λ (b : Book). b.sending) r.book ∙ h.sending)
+job_is : (setup : Setup) (writes : Writing) (trace : List Event) (old : GatewayValue) → IsReachedBy setup writes trace old → job_sent (sides setup writes trace).leg ≡ old.book.sending
+job_is setup writes trace old r = let h : HaveStates setup writes trace = have_states setup writes trace r.is_trace in sym (ap (λ (b : Book). b.sending) r.book ∙ h.sending)
 
-in_tick_on : (writes : Writing) (trace : List Event) (at : ℕ) (leg : Option CalledLeg) → (sides writes trace).leg ≡ leg → is_free leg ≡ false → in_tick writes trace at ≡ record { steps = steps_heard writes trace at; leg = leg }
-in_tick_on writes trace at leg is on =
-    let z : Sides = record { steps = steps_heard writes trace at; leg = (sides writes trace).leg } in
-    ap (λ (b : Bool). if◌then◌else◌ {A = Sides} b (sends writes (max at (clock trace)) z) z) (ap is_free is ∙ on) ∙ ap (λ (o : Option CalledLeg). record { steps = steps_heard writes trace at; leg = o }) is
+in_tick_on : (setup : Setup) (writes : Writing) (trace : List Event) (at : ℕ) (leg : Option CalledLeg) → (sides setup writes trace).leg ≡ leg → is_free leg ≡ false → in_tick setup writes trace at ≡ record { steps = steps_heard setup writes trace at; leg = leg }
+in_tick_on setup writes trace at leg is on =
+    let z : Sides = record { steps = steps_heard setup writes trace at; leg = (sides setup writes trace).leg } in
+    ap (λ (b : Bool). if◌then◌else◌ {A = Sides} b (sends setup writes (max at (clock trace)) z) z) (ap is_free is ∙ on) ∙ ap (λ (o : Option CalledLeg). record { steps = steps_heard setup writes trace at; leg = o }) is
 
 -- a job is being sent
-pub serves_on : (writes : Writing) (trace : List Event) (at : ℕ) (old : GatewayValue) (job : JobValue) (side : CalledSide) (given : Option (List ℕ)) (heard : Book) → IsReachedBy writes trace old → old.book.sending ≡ Some job
-    → IsHeard trace (max at (clock trace)) old heard → ((l : CalledLeg) → l.job ≡ job → IsCalled writes (Some l) old.called → TicksOn writes l (max at (clock trace)) given side)
-    → Served writes (max at (clock trace)) (in_tick writes trace at) side given (report_if (Some job) (outcome_kept side.caller.procedure) side.caller.procedure.counts.delivered)
+pub serves_on : (setup : Setup) (writes : Writing) (trace : List Event) (at : ℕ) (old : GatewayValue) (job : JobValue) (side : CalledSide) (given : Option (List ℕ)) (heard : Book) → IsReachedBy setup writes trace old → old.book.sending ≡ Some job
+    → IsHeard setup trace (max at (clock trace)) old heard → ((l : CalledLeg) → l.job ≡ job → IsCalled setup writes (Some l) old.called → TicksOn setup writes l (max at (clock trace)) given side)
+    → Served setup writes (max at (clock trace)) (in_tick setup writes trace at) side given (report_if (Some job) (outcome_kept side.caller.procedure) side.caller.procedure.counts.delivered)
     (ended_if (Some job) (outcome_kept side.caller.procedure) side.caller.procedure.counts.delivered heard)
-serves_on writes trace at old job side given heard r sending h f = by (sides writes trace).leg refl (job_is writes trace old r ∙ sending) r.called
+serves_on setup writes trace at old job side given heard r sending h f = by (sides setup writes trace).leg refl (job_is setup writes trace old r ∙ sending) r.called
   where
     o : Option Outcome
     o = outcome_kept side.caller.procedure
@@ -163,39 +165,39 @@ serves_on writes trace at old job side given heard r sending h f = by (sides wri
     d : ℕ
     d = side.caller.procedure.counts.delivered
 
-    by : (leg : Option CalledLeg) → (sides writes trace).leg ≡ leg → job_sent leg ≡ Some job → IsCalled writes leg old.called
-        → Served writes (max at (clock trace)) (in_tick writes trace at) side given (report_if (Some job) o d) (ended_if (Some job) o d heard)
+    by : (leg : Option CalledLeg) → (sides setup writes trace).leg ≡ leg → job_sent leg ≡ Some job → IsCalled setup writes leg old.called
+        → Served setup writes (max at (clock trace)) (in_tick setup writes trace at) side given (report_if (Some job) o d) (ended_if (Some job) o d heard)
     by None is e c = cc
     by (Some l) is e c =
         let now : ℕ = max at (clock trace) in
-        let steps : List Step = steps_heard writes trace at in
+        let steps : List Step = steps_heard setup writes trace at in
         let on = sent_on l.entered l.job job e in
-        let t : TicksOn writes l now given side = f l on.1 c in
-        let sent : (after_steps new_past steps).book.sending ≡ Some l.job = sending_is writes trace at old r ∙ sending ∙ sym (ap (λ (j : JobValue). Some j) on.1) in
-        same_served writes now (record { steps = steps; leg = Some l }) (in_tick writes trace at) side given (report_if (Some l.job) o d) (report_if (Some job) o d) (ended_with o d (after_steps new_past steps).book) (ended_with o d heard)
-        (in_tick_on writes trace at (Some l) is on.0) (ap (λ (j : JobValue). report_if (Some j) o d) (sym on.1)) (ap (λ (b : Book). ended_with o d b) (heard_is writes trace at old heard r h))
-        (served_on writes now steps l side given on.0 sent t.called t.told)
+        let t : TicksOn setup writes l now given side = f l on.1 c in
+        let sent : (after_steps new_past steps).book.sending ≡ Some l.job = sending_is setup writes trace at old r ∙ sending ∙ sym (ap (λ (j : JobValue). Some j) on.1) in
+        same_served setup writes now (record { steps = steps; leg = Some l }) (in_tick setup writes trace at) side given (report_if (Some l.job) o d) (report_if (Some job) o d) (ended_with o d (after_steps new_past steps).book) (ended_with o d heard)
+        (in_tick_on setup writes trace at (Some l) is on.0) (ap (λ (j : JobValue). report_if (Some j) o d) (sym on.1)) (ap (λ (b : Book). ended_with o d b) (heard_is setup writes trace at old heard r h))
+        (served_on setup writes now steps l side given on.0 sent t.called t.told)
 
 -- no job is being sent: the one that was closed first is, where one waits
-sends_free : (writes : Writing) (trace : List Event) (at : ℕ) → is_free (sides writes trace).leg ≡ true → in_tick writes trace at ≡ sends writes (max at (clock trace)) (record { steps = steps_heard writes trace at; leg = (sides writes trace).leg })
-sends_free writes trace at free =
-    let z : Sides = record { steps = steps_heard writes trace at; leg = (sides writes trace).leg } in
-    ap (λ (b : Bool). if◌then◌else◌ {A = Sides} b (sends writes (max at (clock trace)) z) z) free
+sends_free : (setup : Setup) (writes : Writing) (trace : List Event) (at : ℕ) → is_free (sides setup writes trace).leg ≡ true → in_tick setup writes trace at ≡ sends setup writes (max at (clock trace)) (record { steps = steps_heard setup writes trace at; leg = (sides setup writes trace).leg })
+sends_free setup writes trace at free =
+    let z : Sides = record { steps = steps_heard setup writes trace at; leg = (sides setup writes trace).leg } in
+    ap (λ (b : Bool). if◌then◌else◌ {A = Sides} b (sends setup writes (max at (clock trace)) z) z) free
 
-pub serves_off : (writes : Writing) (trace : List Event) (at : ℕ) (old : GatewayValue) (side : CalledSide) (given : Option (List ℕ)) (heard : Book) → IsReachedBy writes trace old → old.book.sending ≡ None
-    → IsHeard trace (max at (clock trace)) old heard → Begins writes (sides writes trace).leg (taken heard).sending (max at (clock trace)) given old.called side
-    → Served writes (max at (clock trace)) (in_tick writes trace at) side given (report_if (taken heard).sending (outcome_kept side.caller.procedure) side.caller.procedure.counts.delivered)
+pub serves_off : (setup : Setup) (writes : Writing) (trace : List Event) (at : ℕ) (old : GatewayValue) (side : CalledSide) (given : Option (List ℕ)) (heard : Book) → IsReachedBy setup writes trace old → old.book.sending ≡ None
+    → IsHeard setup trace (max at (clock trace)) old heard → Begins setup writes (sides setup writes trace).leg (taken heard).sending (max at (clock trace)) given old.called side
+    → Served setup writes (max at (clock trace)) (in_tick setup writes trace at) side given (report_if (taken heard).sending (outcome_kept side.caller.procedure) side.caller.procedure.counts.delivered)
     (ended_if (taken heard).sending (outcome_kept side.caller.procedure) side.caller.procedure.counts.delivered (taken heard))
-serves_off writes trace at old side given heard r none h begins = by (taken heard).sending refl begins
+serves_off setup writes trace at old side given heard r none h begins = by (taken heard).sending refl begins
   where
     now : ℕ
     now = max at (clock trace)
 
     leg : Option CalledLeg
-    leg = (sides writes trace).leg
+    leg = (sides setup writes trace).leg
 
     steps : List Step
-    steps = Sends ∷ steps_heard writes trace at
+    steps = Sends ∷ steps_heard setup writes trace at
 
     o : Option Outcome
     o = outcome_kept side.caller.procedure
@@ -204,49 +206,50 @@ serves_off writes trace at old side given heard r none h begins = by (taken hear
     d = side.caller.procedure.counts.delivered
 
     free : is_free leg ≡ true
-    free = sent_off leg (job_is writes trace old r ∙ none)
+    free = sent_off leg (job_is setup writes trace old r ∙ none)
 
     book : (after_steps new_past steps).book ≡ taken heard
     book =
-        let before : Book = (after_steps new_past (steps_heard writes trace at)).book in
-        ap (λ (s : Option JobValue). sent_if s before) (sending_is writes trace at old r ∙ none) ∙ ap taken (sym (heard_is writes trace at old heard r h))
+        let before : Book = (after_steps new_past (steps_heard setup writes trace at)).book in
+        ap (λ (s : Option JobValue). sent_if s before) (sending_is setup writes trace at old r ∙ none) ∙ ap taken (sym (heard_is setup writes trace at old heard r h))
 
-    in_it : (s : Option JobValue) → (taken heard).sending ≡ s → in_tick writes trace at ≡ record { steps = steps; leg = leg_of s (core_left writes leg) now leg }
+    in_it : (s : Option JobValue) → (taken heard).sending ≡ s → in_tick setup writes trace at ≡ record { steps = steps; leg = leg_of s (core_left setup writes leg) now leg }
     in_it s e =
-        sends_free writes trace at free ∙ ap (λ (x : Option JobValue). record { steps = steps; leg = leg_of x (core_left writes leg) now leg }) (ap (λ (b : Book). b.sending) book ∙ e)
+        sends_free setup writes trace at free ∙ ap (λ (x : Option JobValue). record { steps = steps; leg = leg_of x (core_left setup writes leg) now leg }) (ap (λ (b : Book). b.sending) book ∙ e)
 
-    by : (s : Option JobValue) → (taken heard).sending ≡ s → Begins writes leg s now given old.called side → Served writes now (in_tick writes trace at) side given (report_if s o d) (ended_if s o d (taken heard))
+    by : (s : Option JobValue) → (taken heard).sending ≡ s → Begins setup writes leg s now given old.called side → Served setup writes now (in_tick setup writes trace at) side given (report_if s o d) (ended_if s o d (taken heard))
     by None e b =
-        subst (λ (x : CalledSide). Served writes now (in_tick writes trace at) x given None (taken heard)) (sym b.1)
-        (subst (λ (x : Option (List ℕ)). Served writes now (in_tick writes trace at) old.called x None (taken heard)) (sym b.0)
-        (same_served writes now (record { steps = steps; leg = leg }) (in_tick writes trace at) old.called None None None (after_steps new_past steps).book (taken heard) (in_it None e) refl (sym book)
-        (served_off writes now steps leg old.called free r.called)))
+        subst (λ (x : CalledSide). Served setup writes now (in_tick setup writes trace at) x given None (taken heard)) (sym b.1)
+        (subst (λ (x : Option (List ℕ)). Served setup writes now (in_tick setup writes trace at) old.called x None (taken heard)) (sym b.0)
+        (same_served setup writes now (record { steps = steps; leg = leg }) (in_tick setup writes trace at) old.called None None None (after_steps new_past steps).book (taken heard) (in_it None e) refl (sym book)
+        (served_off setup writes now steps leg old.called free r.called)))
     by (Some job) e b =
-        let l : CalledLeg = begun_leg job (core_left writes leg) now in
-        same_served writes now (record { steps = steps; leg = Some l }) (in_tick writes trace at) side given (report_if (Some job) o d) (report_if (Some job) o d) (ended_with o d (after_steps new_past steps).book) (ended_with o d (taken heard))
-        (in_it (Some job) e) refl (ap (λ (x : Book). ended_with o d x) (sym book)) (served_on writes now steps l side given refl (ap (λ (x : Book). x.sending) book ∙ e) b.called b.told)
+        let l : CalledLeg = begun_leg job (core_left setup writes leg) now in
+        same_served setup writes now (record { steps = steps; leg = Some l }) (in_tick setup writes trace at) side given (report_if (Some job) o d) (report_if (Some job) o d) (ended_with o d (after_steps new_past steps).book) (ended_with o d (taken heard))
+        (in_it (Some job) e) refl (ap (λ (x : Book). ended_with o d x) (sym book)) (served_on setup writes now steps l side given refl (ap (λ (x : Book). x.sending) book ∙ e) b.called b.told)
 
-ticked_same : (leg : Option CallingLeg) (now at : ℕ) (given : Given) → ticked_on leg now ≡ calling_after leg now (Tick at given)
-ticked_same None now at given = refl
-ticked_same (Some l) now at given = refl
+ticked_same : (setup : Setup) (leg : Option CallingLeg) (now at : ℕ) (given : Given) → ticked_on leg now ≡ calling_after setup leg now (Tick at given)
+ticked_same setup None now at given = refl
+ticked_same setup (Some l) now at given = refl
 
 -- so a tick leads on
-pub ticks : (writes : Writing) (trace : List Event) (at : ℕ) (given : Given) (old new : GatewayValue) → IsReachedBy writes trace old → new.clock ≡ max at old.clock → new.rings ≡ old.rings
-    → IsCalling (ticked_on (calling_leg trace) (max at (clock trace))) new.calling → given.on_calling ≡ told_calling (calling_leg trace) (max at (clock trace))
-    → Served writes (max at (clock trace)) (in_tick writes trace at) new.called given.on_called given.report new.book
-    → IsReachedBy writes (Tick at given ∷ trace) new
-ticks writes trace at given old new r later rung calling told s =
+pub ticks : (setup : Setup) (writes : Writing) (trace : List Event) (at : ℕ) (given : Given) (old new : GatewayValue) → IsReachedBy setup writes trace old → new.clock ≡ max at old.clock → new.rings ≡ old.rings → new.settings ≡ old.settings
+    → IsCalling setup (ticked_on (calling_leg setup trace) (max at (clock trace))) new.calling → given.on_calling ≡ told_calling setup (calling_leg setup trace) (max at (clock trace))
+    → Served setup writes (max at (clock trace)) (in_tick setup writes trace at) new.called given.on_called given.report new.book
+    → IsReachedBy setup writes (Tick at given ∷ trace) new
+ticks setup writes trace at given old new r later rung set calling told s =
     let now : ℕ = max at (clock trace) in
     record {
       is_trace = (
         ap (λ (x : Option (List ℕ)). record { on_calling = x; on_called = given.on_called; report = given.report }) told
-            ∙ ap (λ (x : Option (List ℕ)). record { on_calling = told_calling (calling_leg trace) now; on_called = x; report = given.report }) s.datagram
-            ∙ ap (λ (x : Option Report). record { on_calling = told_calling (calling_leg trace) now; on_called = told_called writes (in_tick writes trace at).leg now; report = x }) s.report,
+            ∙ ap (λ (x : Option (List ℕ)). record { on_calling = told_calling setup (calling_leg setup trace) now; on_called = x; report = given.report }) s.datagram
+            ∙ ap (λ (x : Option Report). record { on_calling = told_calling setup (calling_leg setup trace) now; on_called = told_called setup writes (in_tick setup writes trace at).leg now; report = x }) s.report,
         r.is_trace,
       );
       at = later ∙ ap (λ (m : ℕ). max at m) r.at;
+      set = subst (λ (x : Settings). AreSet setup x) (sym set) r.set;
       rung = rung ∙ r.rung;
-      calling = subst (λ (o : Option CallingLeg). IsCalling o new.calling) (ticked_same (calling_leg trace) now at given) calling;
+      calling = subst (λ (o : Option CallingLeg). IsCalling setup o new.calling) (ticked_same setup (calling_leg setup trace) now at given) calling;
       called = s.called;
       book = s.book;
     }

@@ -16,6 +16,7 @@ use Rattle.fax_gateway.specs.Legs.{new_pieces, decides}
 use Rattle.fax_gateway.specs.CallingLegs.{calling_leg, told_calling}
 use Rattle.fax_gateway.specs.CalledLegs.{told_called}
 use Rattle.fax_gateway.specs.Sides.{in_tick}
+use Rattle.fax_gateway.proofs.Examples.{usual}
 
 unfoldable pub blank : Reading
 blank = Some (record { format = record { width = W1728; fine = false }; rows = [] })
@@ -41,12 +42,12 @@ script =
     ∷ tick 200 ∷ []
 
 -- the preamble goes out at 200, and the frame MCF at 240, with the three packets before it
-gives_mcf : told_calling (calling_leg (reverse script)) 240
+gives_mcf : told_calling usual (calling_leg usual (reverse script)) 240
     ≡ Some (0x00 ∷ 0x06 ∷ 0x09 ∷ 0xC0 ∷ 0x02 ∷ 0x80 ∷ 0x00 ∷ 0x02 ∷ 0xFF ∷ 0xC8 ∷ 0x31 ∷ 0x40 ∷ 0x00 ∷ 0x03 ∷ 0x01 ∷ 0x06 ∷ 0x09 ∷ 0xC0 ∷ 0x02 ∷ 0x80 ∷ 0x00 ∷ 0x02 ∷ 0xFF ∷ 0xC8 ∷ 0x21 ∷ 0x40 ∷ 0x01 ∷ 0x06 ∷ [])
 unfolding script comes tick blank new_pieces decides newest_slots slots datagram_of packet_at packets_at length_at secondaries_at packet_of fields_at order_of bits.bit packets.fields_behind packets.field_at packets.octets_at written_datagram written_packet written_length written_behind
 gives_mcf = refl
 
 -- the tick that confirms the page begins its job's call: CNG
-gives_cng : (writes : Writing) → told_called writes (in_tick writes (reverse script) 240).leg 240 ≡ Some (0x00 ∷ 0x00 ∷ 0x01 ∷ 0x02 ∷ 0x00 ∷ 0x00 ∷ [])
+gives_cng : (writes : Writing) → told_called usual writes (in_tick usual writes (reverse script) 240).leg 240 ≡ Some (0x00 ∷ 0x00 ∷ 0x01 ∷ 0x02 ∷ 0x00 ∷ 0x00 ∷ [])
 unfolding script comes tick blank new_pieces decides newest_slots slots datagram_of packet_at packets_at length_at secondaries_at packet_of fields_at order_of bits.bit packets.fields_behind packets.field_at packets.octets_at written_datagram written_packet written_length written_behind
 gives_cng writes = refl

@@ -1,6 +1,7 @@
 -- What the calling leg depends on.
 use Rattle.std.specs.Prelude.{◌≡◌, ℕ, Bool, List, [], ◌∷◌, Option}
 use Rattle.fax_call.specs.Writings.{Writing}
+use Rattle.fax_gateway.specs.Setups.{Setup}
 use Rattle.fax_gateway.specs.Events.{Event, Ring, FromCalling, FromCalled, Tick, clock}
 use Rattle.fax_gateway.specs.CallingLegs.{calling_leg}
 use Rattle.fax_gateway.specs.Traces.{IsTrace}
@@ -38,5 +39,5 @@ calling_answers (Tick at given ∷ earlier) = Gives given.on_calling ∷ calling
 -- however pages are written: what an image was read as is no choice either.
 abbrev pub IsServedAlone : Type 0
 IsServedAlone =
-    (writes others : Writing) (s t : List Event) → IsTrace writes s → IsTrace others t → calling_part s ≡ calling_part t
-    → (calling_leg s ≡ calling_leg t) × (calling_answers s ≡ calling_answers t)
+    (setup : Setup) (writes others : Writing) (s t : List Event) → IsTrace setup writes s → IsTrace setup others t → calling_part s ≡ calling_part t
+    → (calling_leg setup s ≡ calling_leg setup t) × (calling_answers s ≡ calling_answers t)

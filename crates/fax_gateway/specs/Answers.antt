@@ -5,6 +5,7 @@ use Rattle.fax_jobs.specs.Cuts.{confirmations}
 use Rattle.fax_answer.specs.Replies.{ConfirmedPage}
 use Rattle.fax_answer.specs.Confirmation.{IsConfirmedIn, IsRepeatedIn}
 use Rattle.fax_call.specs.Writings.{Writing}
+use Rattle.fax_gateway.specs.Setups.{Setup}
 use Rattle.fax_gateway.specs.Events.{Event, Tick, Given}
 use Rattle.fax_gateway.specs.CallingLegs.{CallingLeg, core_of, calling_leg}
 use Rattle.fax_gateway.specs.Sides.{sides}
@@ -31,8 +32,8 @@ pub record GivesAgain (leg : CallingLeg) (old new : List Step) : Type 0 where
 
 abbrev pub EachMcfAnswers : Type 0
 EachMcfAnswers =
-    (writes : Writing) (earlier : List Event) (at : ℕ) (given : Given) → IsTrace writes (Tick at given ∷ earlier) →
-    let old : List Step = (sides writes earlier).steps in
-    let new : List Step = (sides writes (Tick at given ∷ earlier)).steps in
-    (gives_mcf given.on_calling ≡ true → (leg : CallingLeg) × (calling_leg earlier ≡ Some leg) × (ConfirmsNow leg old new ⊎ GivesAgain leg old new))
+    (setup : Setup) (writes : Writing) (earlier : List Event) (at : ℕ) (given : Given) → IsTrace setup writes (Tick at given ∷ earlier) →
+    let old : List Step = (sides setup writes earlier).steps in
+    let new : List Step = (sides setup writes (Tick at given ∷ earlier)).steps in
+    (gives_mcf given.on_calling ≡ true → (leg : CallingLeg) × (calling_leg setup earlier ≡ Some leg) × (ConfirmsNow leg old new ⊎ GivesAgain leg old new))
     × (gives_mcf given.on_calling ≡ false → AddsNoPage old new)

@@ -13,6 +13,7 @@ use Rattle.fax_call.specs.Writings.{Writing}
 use Rattle.fax_call.specs.Replies.{Packet, written}
 use Rattle.fax_call.specs.Calls.{Calling, new_calling, started, ticked, Ticked, CallEvent, Comes, Ticks, after_events}
 use Rattle.fax_call.specs.Delivery.{is_over}
+use Rattle.fax_gateway.specs.Setups.{Setup}
 use Rattle.fax_gateway.specs.Legs.{new_pieces, decided_by, sent}
 
 -- The last call: its job, the calling side before it, when it was started, and since then the pieces and ticks, the
@@ -38,9 +39,9 @@ is_free None = true
 is_free (Some l) = l.entered
 
 -- the calling side as a call leaves it
-abbrev pub core_left : Writing → Option CalledLeg → Calling
-core_left writes None = new_calling (record { width = W1728; fine = false })
-core_left writes (Some l) = core_of writes l
+abbrev pub core_left : Setup → Writing → Option CalledLeg → Calling
+core_left setup writes None = new_calling (record { width = W1728; fine = false })
+core_left setup writes (Some l) = core_of writes l
 
 -- the call of a job begins
 abbrev pub begun_leg : JobValue → Calling → ℕ → CalledLeg
@@ -84,13 +85,13 @@ decided_called writes None octets = false
 decided_called writes (Some l) octets = decided_by (is_over (core_of writes l).state) l.arrived (datagram_of octets)
 
 -- the datagram that a tick gives
-abbrev pub told_by : List (List ℕ) → Option Packet → Option (List ℕ)
-told_by given None = None
-told_by given (Some packet) = Some (sent given (written packet))
+abbrev pub told_by : Setup → List (List ℕ) → Option Packet → Option (List ℕ)
+told_by setup given None = None
+told_by setup given (Some packet) = Some (sent setup given (written packet))
 
-abbrev pub told_called : Writing → Option CalledLeg → ℕ → Option (List ℕ)
-told_called writes None now = None
-told_called writes (Some l) now = if l.entered then None else told_by l.given (calls writes l now).given
+abbrev pub told_called : Setup → Writing → Option CalledLeg → ℕ → Option (List ℕ)
+told_called setup writes None now = None
+told_called setup writes (Some l) now = if l.entered then None else told_by setup l.given (calls writes l now).given
 
 -- the outcome of the call that a tick enters, and the report of its job
 abbrev pub outcome_told : Writing → Option CalledLeg → ℕ → Option Outcome

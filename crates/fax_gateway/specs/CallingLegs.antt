@@ -8,6 +8,7 @@ use Rattle.fax_answer.specs.Table.{Reading, Question}
 use Rattle.fax_answer.specs.Replies.{ConfirmedPage, Waiting}
 use Rattle.fax_answer.specs.Calls.{Answering, new_answering, rung, ticked, Ticked, first_asked, CallEvent, Ticks, after_events}
 use Rattle.fax_answer.specs.Readings.{comes_all}
+use Rattle.fax_gateway.specs.Setups.{Setup}
 use Rattle.fax_gateway.specs.Events.{Event, Ring, FromCalling, Tick, clock}
 use Rattle.fax_gateway.specs.Legs.{new_pieces, decided_by, sent}
 
@@ -52,18 +53,18 @@ abbrev pub leg_ticked : CallingLeg → ℕ → CallingLeg
 leg_ticked l now = record l { events = Ticks now ∷ l.events; given = packets_with (answers l now).given l.given }
 
 -- A ring begins a call. A datagram that cannot be read, or that comes while no call is on, brings nothing.
-abbrev pub calling_after : Option CallingLeg → ℕ → Event → Option CallingLeg
-calling_after None now (Ring at number) = Some (rung_leg new_answering now number)
-calling_after (Some l) now (Ring at number) = Some (rung_leg (core_of l) now number)
-calling_after (Some l) now (FromCalling octets at decided read) =
+abbrev pub calling_after : Setup → Option CallingLeg → ℕ → Event → Option CallingLeg
+calling_after setup None now (Ring at number) = Some (rung_leg new_answering now number)
+calling_after setup (Some l) now (Ring at number) = Some (rung_leg (core_of l) now number)
+calling_after setup (Some l) now (FromCalling octets at decided read) =
     if is_idle (core_of l).state then Some l else Some (leg_with l now read (datagram_of octets))
-calling_after (Some l) now (Tick at given) = Some (leg_ticked l now)
-calling_after leg now e = leg
+calling_after setup (Some l) now (Tick at given) = Some (leg_ticked l now)
+calling_after setup leg now e = leg
 
 -- the leg after a trace, none before the first ring
-abbrev pub calling_leg : List Event → Option CallingLeg
-calling_leg [] = None
-calling_leg (e ∷ earlier) = calling_after (calling_leg earlier) (clock (e ∷ earlier)) e
+abbrev pub calling_leg : Setup → List Event → Option CallingLeg
+calling_leg setup [] = None
+calling_leg setup (e ∷ earlier) = calling_after setup (calling_leg setup earlier) (clock (e ∷ earlier)) e
 
 -- THE ANSWERS. Whether a datagram decides a slot
 abbrev pub decided_calling : Option CallingLeg → List ℕ → Bool
@@ -80,13 +81,13 @@ question None now octets = None
 question (Some l) now octets = if is_idle (core_of l).state then None else asked_by l now (datagram_of octets)
 
 -- the datagram that a tick gives, and the page that it confirms
-abbrev pub told_by : List (List ℕ) → Option Waiting → Option (List ℕ)
-told_by given None = None
-told_by given (Some w) = Some (sent given w.packet)
+abbrev pub told_by : Setup → List (List ℕ) → Option Waiting → Option (List ℕ)
+told_by setup given None = None
+told_by setup given (Some w) = Some (sent setup given w.packet)
 
-abbrev pub told_calling : Option CallingLeg → ℕ → Option (List ℕ)
-told_calling None now = None
-told_calling (Some l) now = told_by l.given (answers l now).given
+abbrev pub told_calling : Setup → Option CallingLeg → ℕ → Option (List ℕ)
+told_calling setup None now = None
+told_calling setup (Some l) now = told_by setup l.given (answers l now).given
 
 abbrev pub confirmed_by : Option Waiting → Option ConfirmedPage
 confirmed_by None = None

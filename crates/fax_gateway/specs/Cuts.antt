@@ -5,6 +5,7 @@ use Rattle.fax_jobs.specs.Pasts.{Past, jobs_of}
 use Rattle.fax_jobs.specs.Cuts.{Confirmation, IsCutOf, IsCutSoFar}
 use Rattle.fax_answer.specs.Replies.{ConfirmedPage}
 use Rattle.fax_call.specs.Writings.{Writing}
+use Rattle.fax_gateway.specs.Setups.{Setup}
 use Rattle.fax_gateway.specs.Events.{Event, Ring, FromCalling, FromCalled, Tick, clock}
 use Rattle.fax_gateway.specs.CallingLegs.{CallingLeg, calling_leg, idle_after, answers, confirmed_by}
 use Rattle.fax_gateway.specs.Sides.{past_of, sides}
@@ -22,12 +23,12 @@ with_confirmed None calls = calls
 with_confirmed (Some c) [] = []
 with_confirmed (Some c) (cs ∷ calls) = (cs ++ record { page = c.page; closes = c.closes } ∷ []) ∷ calls
 
-abbrev pub calls_of : List Event → List (List Confirmation)
-calls_of [] = []
-calls_of (Ring at number ∷ earlier) = [] ∷ calls_of earlier
-calls_of (FromCalling octets at decided read ∷ earlier) = calls_of earlier
-calls_of (FromCalled octets at decided ∷ earlier) = calls_of earlier
-calls_of (Tick at given ∷ earlier) = with_confirmed (confirmed_at (calling_leg earlier) (clock (Tick at given ∷ earlier))) (calls_of earlier)
+abbrev pub calls_of : Setup → List Event → List (List Confirmation)
+calls_of setup [] = []
+calls_of setup (Ring at number ∷ earlier) = [] ∷ calls_of setup earlier
+calls_of setup (FromCalling octets at decided read ∷ earlier) = calls_of setup earlier
+calls_of setup (FromCalled octets at decided ∷ earlier) = calls_of setup earlier
+calls_of setup (Tick at given ∷ earlier) = with_confirmed (confirmed_at (calling_leg setup earlier) (clock (Tick at given ∷ earlier))) (calls_of setup earlier)
 
 -- calls that have ended, and the jobs that were closed, in their order: those of a call are cut from its confirmations alone
 abbrev pub AreCutsOf : List (List Confirmation) → List JobValue → Type 0
@@ -51,5 +52,5 @@ IsBookOf true (cs ∷ calls) past = IsCutWith calls cs past
 -- So it is in every trace; the numbers are those that the rings were answered with.
 abbrev pub JobsAreCut : Type 0
 JobsAreCut =
-    (writes : Writing) (trace : List Event) → IsTrace writes trace
-    → IsBookOf (not (idle_after (calling_leg trace))) (calls_of trace) (past_of (sides writes trace))
+    (setup : Setup) (writes : Writing) (trace : List Event) → IsTrace setup writes trace
+    → IsBookOf (not (idle_after (calling_leg setup trace))) (calls_of setup trace) (past_of (sides setup writes trace))

@@ -1,6 +1,7 @@
 -- THE LOG of an engine: what it met and what it did. (This project's profile.) Logs have the newest first.
 use Rattle.std.specs.Prelude.{◌≡◌, ℕ, ◌+◌, ◌*◌, ◌<◌, ◌≤◌, ◌⊎◌, min, Bool, true, false, IsTrue, ◌↔◌, nat_eq, not, ◌-◌, ◌^◌, List, [], ◌∷◌, ◌++◌, length, Option, Some, None}
 use Rattle.std.specs.List.{All, count_by, flat_map, list_any}
+use Rattle.fax_gateway.specs.Setups.{Setup}
 use Rattle.fax_gateway.specs.Events.{Event, Ring, FromCalling, FromCalled, Tick, Given}
 use Rattle.fax_call.specs.Writings.{Writing}
 use Rattle.fax_gateway.specs.Reached.{GatewayValue}
@@ -183,27 +184,27 @@ pub record Carries (log : List Entry) (before after : Known) : Type 0 where
   pub failures : after.failures < greatest_count → after.failures ≡ before.failures + (count_by is_failed_receive log + count_by is_failed_send log)
 
 -- Of the datagrams those alone are refused, behind this trace, that decide a slot: the others take no memory.
-abbrev pub decides_on : Writing → List Event → Side → List ℕ → Bool
-decides_on writes earlier side.Calling octets = decided_calling (calling_leg earlier) octets
-decides_on writes earlier side.Called octets = decided_called writes (sides writes earlier).leg octets
+abbrev pub decides_on : Setup → Writing → List Event → Side → List ℕ → Bool
+decides_on setup writes earlier side.Calling octets = decided_calling (calling_leg setup earlier) octets
+decides_on setup writes earlier side.Called octets = decided_called writes (sides setup writes earlier).leg octets
 
-abbrev pub IsWanting : Writing → List Event → Entry → Type 0
-IsWanting writes earlier (Accepts event) = Unit {0}
-IsWanting writes earlier RefusesRing = Unit {0}
-IsWanting writes earlier (RefusesDatagram at octets) = decides_on writes earlier at octets ≡ true
-IsWanting writes earlier RefusesTick = Unit {0}
-IsWanting writes earlier (ReceivesNothing at) = Unit {0}
-IsWanting writes earlier (FailsToReceive at) = Unit {0}
-IsWanting writes earlier (Sends at octets fails) = Unit {0}
+abbrev pub IsWanting : Setup → Writing → List Event → Entry → Type 0
+IsWanting setup writes earlier (Accepts event) = Unit {0}
+IsWanting setup writes earlier RefusesRing = Unit {0}
+IsWanting setup writes earlier (RefusesDatagram at octets) = decides_on setup writes earlier at octets ≡ true
+IsWanting setup writes earlier RefusesTick = Unit {0}
+IsWanting setup writes earlier (ReceivesNothing at) = Unit {0}
+IsWanting setup writes earlier (FailsToReceive at) = Unit {0}
+IsWanting setup writes earlier (Sends at octets fails) = Unit {0}
 
-abbrev pub AreWanting : Writing → List Event → List Entry → Type 0
-AreWanting writes trace [] = Unit {0}
-AreWanting writes trace (entry ∷ earlier) = IsWanting writes (events earlier ++ trace) entry × AreWanting writes trace earlier
+abbrev pub AreWanting : Setup → Writing → List Event → List Entry → Type 0
+AreWanting setup writes trace [] = Unit {0}
+AreWanting setup writes trace (entry ∷ earlier) = IsWanting setup writes (events earlier ++ trace) entry × AreWanting setup writes trace earlier
 
 -- The events of the log followed on the trace, what was refused wanted memory, and the wire carried the rest.
-pub record Happens (writes : Writing) (log : List Entry) (trace : List Event) (gateway : GatewayValue) (before after : Known) : Type 0 where
-  pub reached : IsReachedBy writes (events log ++ trace) gateway
-  pub wanting : AreWanting writes trace log
+pub record Happens (setup : Setup) (writes : Writing) (log : List Entry) (trace : List Event) (gateway : GatewayValue) (before after : Known) : Type 0 where
+  pub reached : IsReachedBy setup writes (events log ++ trace) gateway
+  pub wanting : AreWanting setup writes trace log
   pub carried : Carries log before after
 
 -- counts stop at the greatest
@@ -282,6 +283,6 @@ pub record IsHanded (accepted : Bool) (at : Side) (octets : List ℕ) (entry : E
   pub sends_none : is_failed_send entry ≡ false
 
 -- it happened, and a driver that did all that is in `earlier` did it
-pub record Steps (writes : Writing) (log : List Entry) (trace : List Event) (earlier : List Entry) (gateway : GatewayValue) (before after : Known) (driver : DriverValue) : Type 0 where
-  pub happens : Happens writes log trace gateway before after
+pub record Steps (setup : Setup) (writes : Writing) (log : List Entry) (trace : List Event) (earlier : List Entry) (gateway : GatewayValue) (before after : Known) (driver : DriverValue) : Type 0 where
+  pub happens : Happens setup writes log trace gateway before after
   pub made : HasMade (log ++ earlier) driver

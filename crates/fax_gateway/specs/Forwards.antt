@@ -7,6 +7,7 @@ use Rattle.fax_answer.specs.Replies.{ConfirmedPage}
 use Rattle.fax_answer.specs.Confirmation.{IsConfirmedIn}
 use Rattle.fax_call.specs.Writings.{Writing, IsWriting}
 use Rattle.fax_call.specs.Emission.{Emission, Mark, IsPageOf, IsAnswered, Emits, replied}
+use Rattle.fax_gateway.specs.Setups.{Setup}
 use Rattle.fax_gateway.specs.Events.{Event, Tick, Given, clock}
 use Rattle.fax_gateway.specs.CallingLegs.{CallingLeg, core_of, calling_leg, answers, confirmed_by}
 use Rattle.fax_gateway.specs.Sides.{book_of, in_tick}
@@ -16,7 +17,7 @@ use Rattle.fax_gateway.specs.Told.{elements_told, gives_mcf, leg_marks, marks_be
 -- In the trace there is a tick that gave the frame MCF, in the call of this number, and it confirms this page: its command
 -- stands behind exactly one image since the last CFR or MCF, which is whole and means the page under the DCS that the last
 -- CFR answered.
-pub record WasConfirmedIn (trace : List Event) (call : ℕ) (page : PageValue) : Type 0 where
+pub record WasConfirmedIn (setup : Setup) (trace : List Event) (call : ℕ) (page : PageValue) : Type 0 where
   pub later : List Event
   pub at : ℕ
   pub given : Given
@@ -24,7 +25,7 @@ pub record WasConfirmedIn (trace : List Event) (call : ℕ) (page : PageValue) :
   pub split : trace ≡ later ++ Tick at given ∷ earlier
   pub mcf : gives_mcf given.on_calling ≡ true
   pub leg : CallingLeg
-  pub is_leg : calling_leg earlier ≡ Some leg
+  pub is_leg : calling_leg setup earlier ≡ Some leg
   pub in_call : leg.number ≡ call
   pub confirmed : ConfirmedPage
   pub same_page : confirmed.page ≡ page
@@ -33,7 +34,7 @@ pub record WasConfirmedIn (trace : List Event) (call : ℕ) (page : PageValue) :
 
 -- An image that a tick ends: `earlier` is the trace before the tick, `book` the book when the called leg is served, and
 -- `marks` what that leg heard and gave before the image's end.
-pub record IsForwarded (earlier : List Event) (book : Book) (marks : List Mark) (emission : Emission) : Type 0 where
+pub record IsForwarded (setup : Setup) (earlier : List Event) (book : Book) (marks : List Mark) (emission : Emission) : Type 0 where
   -- a job is being sent
   pub job : JobValue
   pub is_sending : book.sending ≡ Some job
@@ -46,11 +47,11 @@ pub record IsForwarded (earlier : List Event) (book : Book) (marks : List Mark) 
   pub emitted : Emits job marks last
   pub answered : IsAnswered last (replied marks) n
   -- an MCF at an earlier tick confirmed it, in the call that the job names
-  pub confirmed : WasConfirmedIn earlier job.call is_page.page
+  pub confirmed : WasConfirmedIn setup earlier job.call is_page.page
 
 -- That is each image that the datagram given on the called leg ends.
 abbrev pub ForwardsWhatItConfirmed : Type 0
 ForwardsWhatItConfirmed =
-    (writes : Writing) (earlier : List Event) (at : ℕ) (given : Given) → IsWriting writes → IsTrace writes (Tick at given ∷ earlier)
-    → EachEmission (IsForwarded earlier (book_of (in_tick writes earlier at)))
-    (marks_before writes earlier at (leg_marks writes earlier)) (elements_told given.on_called)
+    (setup : Setup) (writes : Writing) (earlier : List Event) (at : ℕ) (given : Given) → IsWriting writes → IsTrace setup writes (Tick at given ∷ earlier)
+    → EachEmission (IsForwarded setup earlier (book_of (in_tick setup writes earlier at)))
+    (marks_before setup writes earlier at (leg_marks setup writes earlier)) (elements_told given.on_called)

@@ -5,24 +5,25 @@ use Rattle.fax_answer.specs.Calls.{rung}
 use Rattle.fax_answer.specs.Confirmation.{AreRead}
 use Rattle.fax_answer.specs.Readings.{IsKnown}
 use Rattle.fax_call.specs.Writings.{Writing}
+use Rattle.fax_gateway.specs.Setups.{Setup}
 use Rattle.fax_gateway.specs.Events.{Event, Ring, FromCalling, FromCalled, Tick, Given, clock, rings}
 use Rattle.fax_gateway.specs.CallingLegs.{CallingLeg, calling_leg, idle_after, question}
 use Rattle.fax_gateway.specs.Traces.{IsTrace}
 
 -- A ring while no call is on, any octets on either leg, and a tick, each at any moment. Of octets of the calling leg it has
 -- to be known of one image, that which they ask about, what it means or that it fails.
-pub record GoesOn (writes : Writing) (earlier : List Event) : Type 0 where
-  pub ring : (at : ℕ) → idle_after (calling_leg earlier) ≡ true → rings earlier < 4294967296 → IsTrace writes (Ring at (rings earlier) ∷ earlier)
+pub record GoesOn (setup : Setup) (writes : Writing) (earlier : List Event) : Type 0 where
+  pub ring : (at : ℕ) → idle_after (calling_leg setup earlier) ≡ true → rings earlier < 4294967296 → IsTrace setup writes (Ring at (rings earlier) ∷ earlier)
   pub from_calling :
-      (octets : List ℕ) (at : ℕ) → IsKnown (question (calling_leg earlier) (max at (clock earlier)) octets)
-      → (decided : Bool) × (read : Reading) × IsTrace writes (FromCalling octets at decided read ∷ earlier)
-  pub from_called : (octets : List ℕ) (at : ℕ) → (decided : Bool) × IsTrace writes (FromCalled octets at decided ∷ earlier)
-  pub tick : (at : ℕ) → (given : Given) × IsTrace writes (Tick at given ∷ earlier)
+      (octets : List ℕ) (at : ℕ) → IsKnown (question (calling_leg setup earlier) (max at (clock earlier)) octets)
+      → (decided : Bool) × (read : Reading) × IsTrace setup writes (FromCalling octets at decided read ∷ earlier)
+  pub from_called : (octets : List ℕ) (at : ℕ) → (decided : Bool) × IsTrace setup writes (FromCalled octets at decided ∷ earlier)
+  pub tick : (at : ℕ) → (given : Given) × IsTrace setup writes (Tick at given ∷ earlier)
 
 abbrev pub TracesGoOn : Type 0
-TracesGoOn = (writes : Writing) (earlier : List Event) → IsTrace writes earlier → GoesOn writes earlier
+TracesGoOn = (setup : Setup) (writes : Writing) (earlier : List Event) → IsTrace setup writes earlier → GoesOn setup writes earlier
 
 -- In every trace the readings of the last call are right: what is told of one call of the answering side, of its
 -- confirmations and refusals, holds of each calling leg.
 abbrev pub LegsAreRead : Type 0
-LegsAreRead = (writes : Writing) (trace : List Event) (l : CallingLeg) → IsTrace writes trace → calling_leg trace ≡ Some l → AreRead (rung l.before l.begun) l.events
+LegsAreRead = (setup : Setup) (writes : Writing) (trace : List Event) (l : CallingLeg) → IsTrace setup writes trace → calling_leg setup trace ≡ Some l → AreRead (rung l.before l.begun) l.events

@@ -4,6 +4,7 @@ use Rattle.fax_frames.specs.declared.dis.Dis.{Dis}
 use Rattle.fax_call.specs.Writings.{Writing, IsWriting}
 use Rattle.fax_call.specs.Emission.{Emission, Mark, IsPageOf}
 use Rattle.fax_call.specs.Refusals.{dis_taken, Allows}
+use Rattle.fax_gateway.specs.Setups.{Setup}
 use Rattle.fax_gateway.specs.Events.{Event, Tick, Given}
 use Rattle.fax_gateway.specs.CalledLegs.{CalledLeg, begun_core}
 use Rattle.fax_gateway.specs.Sides.{in_tick}
@@ -23,6 +24,6 @@ pub record IsAllowed (writes : Writing) (leg : Option CalledLeg) (marks : List M
 
 abbrev pub NoneIsLacking : Type 0
 NoneIsLacking =
-    (writes : Writing) (earlier : List Event) (at : ℕ) (given : Given) → IsWriting writes → IsTrace writes (Tick at given ∷ earlier)
-    → EachEmission (IsAllowed writes (in_tick writes earlier at).leg)
-    (marks_before writes earlier at (leg_marks writes earlier)) (elements_told given.on_called)
+    (setup : Setup) (writes : Writing) (earlier : List Event) (at : ℕ) (given : Given) → IsWriting writes → IsTrace setup writes (Tick at given ∷ earlier)
+    → EachEmission (IsAllowed writes (in_tick setup writes earlier at).leg)
+    (marks_before setup writes earlier at (leg_marks setup writes earlier)) (elements_told given.on_called)

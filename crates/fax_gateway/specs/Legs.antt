@@ -5,6 +5,7 @@ use Rattle.fax_udptl.specs.Datagrams.{DatagramValue, written_datagram}
 use Rattle.fax_udptl.specs.Sending.{datagram_for}
 use Rattle.fax_udptl.specs.Slots.{newest_slots}
 use Rattle.fax_ifp.specs.Pieces.{Piece, pieces}
+use Rattle.fax_gateway.specs.Setups.{Setup}
 
 -- the pieces that a datagram brings, behind those that arrived: those of all slots behind those of the slots before
 unfoldable pub new_pieces : List DatagramValue → DatagramValue → List Piece
@@ -18,6 +19,6 @@ abbrev pub decided_by : (idle : Bool) → List DatagramValue → Result Datagram
 decided_by idle arrived (Ok d) = not idle && decides arrived d
 decided_by idle arrived (Err fault) = false
 
--- the datagram of a packet that is given behind these, with up to three of them
-abbrev pub sent : List (List ℕ) → List ℕ → List ℕ
-sent given packet = written_datagram (datagram_for given packet)
+-- the datagram of a packet that is given behind these, with as many of them as the setup says
+abbrev pub sent : Setup → List (List ℕ) → List ℕ → List ℕ
+sent setup given packet = written_datagram (datagram_for setup.redundancy given packet)

@@ -2,6 +2,7 @@ pub mod Alone
 pub mod Answers
 pub mod CalledLegs
 pub mod CallingLegs
+pub mod Chain
 pub mod Cuts
 pub mod Driving
 pub mod Events
@@ -19,3 +20,4 @@ pub mod Told
 pub mod Traces
 pub mod Wires
 pub mod Sent
+pub mod Setups

@@ -4,26 +4,27 @@ use Rattle.fax_pagestore.specs.Pages.{PageValue}
 use Rattle.fax_jobs.specs.Jobs.{JobValue, IsJob}
 use Rattle.fax_jobs.specs.Pasts.{as_list, jobs_of}
 use Rattle.fax_call.specs.Writings.{Writing}
+use Rattle.fax_gateway.specs.Setups.{Setup}
 use Rattle.fax_gateway.specs.Events.{Event}
 use Rattle.fax_gateway.specs.Sides.{past_of, book_of, sides}
 use Rattle.fax_gateway.specs.Traces.{IsTrace}
 use Rattle.fax_gateway.specs.Forwards.{WasConfirmedIn}
 
-abbrev pub AreConfirmedIn : List Event → ℕ → List PageValue → Type 0
-AreConfirmedIn trace call [] = Unit {0}
-AreConfirmedIn trace call (page ∷ pages) = WasConfirmedIn trace call page × AreConfirmedIn trace call pages
+abbrev pub AreConfirmedIn : Setup → List Event → ℕ → List PageValue → Type 0
+AreConfirmedIn setup trace call [] = Unit {0}
+AreConfirmedIn setup trace call (page ∷ pages) = WasConfirmedIn setup trace call page × AreConfirmedIn setup trace call pages
 
 -- 1 to 999 pages, the first of the job's format, each confirmed in the call that the job names
-pub record IsOfItsCall (trace : List Event) (job : JobValue) : Type 0 where
+pub record IsOfItsCall (setup : Setup) (trace : List Event) (job : JobValue) : Type 0 where
   pub is_job : IsJob job
-  pub confirmed : AreConfirmedIn trace job.call job.pages
+  pub confirmed : AreConfirmedIn setup trace job.call job.pages
 
-abbrev pub AreOfTheirCalls : List Event → List JobValue → Type 0
-AreOfTheirCalls trace [] = Unit {0}
-AreOfTheirCalls trace (job ∷ jobs) = IsOfItsCall trace job × AreOfTheirCalls trace jobs
+abbrev pub AreOfTheirCalls : Setup → List Event → List JobValue → Type 0
+AreOfTheirCalls setup trace [] = Unit {0}
+AreOfTheirCalls setup trace (job ∷ jobs) = IsOfItsCall setup trace job × AreOfTheirCalls setup trace jobs
 
 -- So is each job that was closed, and the open one.
 abbrev pub JobsAreOfTheirCalls : Type 0
 JobsAreOfTheirCalls =
-    (writes : Writing) (trace : List Event) → IsTrace writes trace
-    → AreOfTheirCalls trace (jobs_of (past_of (sides writes trace))) × AreOfTheirCalls trace (as_list (book_of (sides writes trace)).open_job)
+    (setup : Setup) (writes : Writing) (trace : List Event) → IsTrace setup writes trace
+    → AreOfTheirCalls setup trace (jobs_of (past_of (sides setup writes trace))) × AreOfTheirCalls setup trace (as_list (book_of (sides setup writes trace)).open_job)

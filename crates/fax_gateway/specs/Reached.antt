@@ -22,6 +22,8 @@ use Rattle.fax_call.specs.Calls.{new_calling}
 use Rattle.fax_call.specs.Delivery.{is_over}
 use Rattle.fax_call.specs.Following.{IsJobOfCall}
 use Rattle.fax_call.specs.Reached as call
+use Rattle.fax_gateway.specs.Setups.{AreSet, Setup}
+use Rattle.fax_gateway.specs.declared.settings.Settings.{Settings}
 use Rattle.fax_gateway.specs.declared.leg.Leg.{Leg}
 use Rattle.fax_gateway.specs.declared.called.CalledSide.{CalledSide}
 use Rattle.fax_gateway.specs.declared.given.Given as shown
@@ -39,14 +41,14 @@ abbrev pub given_shown : shown.Given → Given
 given_shown given = record { on_calling = given.calling; on_called = given.called; report = given.report }
 
 -- A LEG in a call: these datagrams came, and these packets were given, the newest first
-pub record IsLeg (arrived : List DatagramValue) (given : List (List ℕ)) (leg : Leg) : Type 0 where
+pub record IsLeg (setup : Setup) (arrived : List DatagramValue) (given : List (List ℕ)) (leg : Leg) : Type 0 where
   pub receiver : IsAfter arrived leg.receiver
-  pub sender : HasSent given leg.sender
+  pub sender : HasSent setup.redundancy given leg.sender
 
 -- a packet, where there is one, as the datagram behind those given, and the packets given behind it
-abbrev pub sent_if : List (List ℕ) → Option (List ℕ) → Option (List ℕ)
-sent_if given None = None
-sent_if given (Some packet) = Some (sent given packet)
+abbrev pub sent_if : Setup → List (List ℕ) → Option (List ℕ) → Option (List ℕ)
+sent_if setup given None = None
+sent_if setup given (Some packet) = Some (sent setup given packet)
 
 abbrev pub given_with : Option (List ℕ) → List (List ℕ) → List (List ℕ)
 given_with None given = given
@@ -59,9 +61,9 @@ pub record CallingValue : Type 0 where
   pub leg : Leg
 
 -- the core, the datagrams and the packets of the last call; before the first they are new
-abbrev pub answering_of : Option CallingLeg → Answering
-answering_of None = new_answering
-answering_of (Some l) = calling_legs.core_of l
+abbrev pub answering_of : Setup → Option CallingLeg → Answering
+answering_of setup None = new_answering
+answering_of setup (Some l) = calling_legs.core_of l
 
 abbrev pub arrived_on : Option CallingLeg → List DatagramValue
 arrived_on None = []
@@ -76,19 +78,19 @@ HasNumber None number = Unit {0}
 HasNumber (Some l) number = l.number ≡ number
 
 -- the last call led to it
-pub record IsCalling (leg : Option CallingLeg) (side : CallingValue) : Type 0 where
+pub record IsCalling (setup : Setup) (leg : Option CallingLeg) (side : CallingValue) : Type 0 where
   pub number : HasNumber leg side.number
-  pub core : answer.IsReached (newest_slots (arrived_on leg)) (answering_of leg) side.kept
-  pub on_leg : IsLeg (arrived_on leg) (given_on leg) side.leg
+  pub core : answer.IsReached (newest_slots (arrived_on leg)) (answering_of setup leg) side.kept
+  pub on_leg : IsLeg setup (arrived_on leg) (given_on leg) side.leg
 
 -- a datagram came, by one reading that is right
-abbrev pub heard_on : Option CallingLeg → ℕ → List ℕ → Reading → Option CallingLeg
-heard_on leg now octets read = calling_after leg now (FromCalling octets now true read)
+abbrev pub heard_on : Setup → Option CallingLeg → ℕ → List ℕ → Reading → Option CallingLeg
+heard_on setup leg now octets read = calling_after setup leg now (FromCalling octets now true read)
 
-pub record HearsCalling (leg : Option CallingLeg) (now : ℕ) (octets : List ℕ) (side : CallingValue) : Type 0 where
+pub record HearsCalling (setup : Setup) (leg : Option CallingLeg) (now : ℕ) (octets : List ℕ) (side : CallingValue) : Type 0 where
   pub read : Reading
   pub right : IsRead (question leg now octets) read
-  pub calling : IsCalling (heard_on leg now octets read) side
+  pub calling : IsCalling setup (heard_on setup leg now octets read) side
 
 -- a tick on the leg: the page that it confirms, and whether the call ends
 abbrev pub confirmed_on : Option CallingLeg → ℕ → Option ConfirmedPage
@@ -104,24 +106,24 @@ ticked_on None now = None
 ticked_on (Some l) now = Some (calling_legs.leg_ticked l now)
 
 -- what is told of it
-pub record TellsTick {S : Type 0} (leg : Option CallingLeg) (now : ℕ) (step : Step S) : Type 0 where
-  pub packet : step.packet ≡ told_calling leg now
+pub record TellsTick {S : Type 0} (setup : Setup) (leg : Option CallingLeg) (now : ℕ) (step : Step S) : Type 0 where
+  pub packet : step.packet ≡ told_calling setup leg now
   pub confirmed : confirmed_shown step.confirmed ≡ confirmed_on leg now
   pub ends : step.ended ≡ ended_on leg now
 
 -- THE CALLED SIDE, in the call of a job; before the first one no call was on
-abbrev pub IsCaller : Writing → Option CalledLeg → call.Kept → Type 0
-IsCaller writes None kept = (job : JobValue) → call.IsReached writes job [] (new_calling kept.procedure.format) kept
-IsCaller writes (Some l) kept = call.IsReached writes l.job (newest_slots l.arrived) (called_legs.core_of writes l) kept
+abbrev pub IsCaller : Setup → Writing → Option CalledLeg → call.Kept → Type 0
+IsCaller setup writes None kept = (job : JobValue) → call.IsReached writes job [] (new_calling kept.procedure.format) kept
+IsCaller setup writes (Some l) kept = call.IsReached writes l.job (newest_slots l.arrived) (called_legs.core_of writes l) kept
 
-abbrev pub IsCalledLeg : Option CalledLeg → Leg → Type 0
-IsCalledLeg None leg = Unit {0}
-IsCalledLeg (Some l) leg = IsLeg l.arrived l.given leg
+abbrev pub IsCalledLeg : Setup → Option CalledLeg → Leg → Type 0
+IsCalledLeg setup None leg = Unit {0}
+IsCalledLeg setup (Some l) leg = IsLeg setup l.arrived l.given leg
 
 -- the call of the last job led to it
-pub record IsCalled (writes : Writing) (leg : Option CalledLeg) (side : CalledSide) : Type 0 where
-  pub core : IsCaller writes leg side.caller
-  pub on_leg : IsCalledLeg leg side.leg
+pub record IsCalled (setup : Setup) (writes : Writing) (leg : Option CalledLeg) (side : CalledSide) : Type 0 where
+  pub core : IsCaller setup writes leg side.caller
+  pub on_leg : IsCalledLeg setup leg side.leg
 
 -- the job that is being sent is the one of the call, and where none is no call is on
 abbrev pub IsServed : Option JobValue → Procedure → Type 0
@@ -129,14 +131,14 @@ IsServed None procedure = procedure.state ≡ Idle
 IsServed (Some job) procedure = IsJobOfCall procedure job
 
 -- a tick in the call of a job: what it leaves and gives
-pub record TicksOn (writes : Writing) (l : CalledLeg) (now : ℕ) (given : Option (List ℕ)) (side : CalledSide) : Type 0 where
-  pub called : IsCalled writes (Some (called_legs.with_tick (called_legs.calls writes l now) now l)) side
-  pub told : given ≡ called_legs.told_by l.given (called_legs.calls writes l now).given
+pub record TicksOn (setup : Setup) (writes : Writing) (l : CalledLeg) (now : ℕ) (given : Option (List ℕ)) (side : CalledSide) : Type 0 where
+  pub called : IsCalled setup writes (Some (called_legs.with_tick (called_legs.calls writes l now) now l)) side
+  pub told : given ≡ called_legs.told_by setup l.given (called_legs.calls writes l now).given
 
 -- where there is a job its call begins, and the tick goes on in it
-abbrev pub Begins : Writing → Option CalledLeg → Option JobValue → (now : ℕ) → (given : Option (List ℕ)) → (old new : CalledSide) → Type 0
-Begins writes leg None now given old new = (given ≡ None) × (new ≡ old)
-Begins writes leg (Some job) now given old new = TicksOn writes (called_legs.begun_leg job (called_legs.core_left writes leg) now) now given new
+abbrev pub Begins : Setup → Writing → Option CalledLeg → Option JobValue → (now : ℕ) → (given : Option (List ℕ)) → (old new : CalledSide) → Type 0
+Begins setup writes leg None now given old new = (given ≡ None) × (new ≡ old)
+Begins setup writes leg (Some job) now given old new = TicksOn setup writes (called_legs.begun_leg job (called_legs.core_left setup writes leg) now) now given new
 
 -- the outcome of a call that is over, and the report of its job
 abbrev pub outcome_kept : Procedure → Option Outcome
@@ -164,8 +166,9 @@ abbrev pub closed_if : Bool → Book → Book
 closed_if true book = closed book
 closed_if false book = book
 
--- THE GATEWAY: its clock, how many calls were rung, both sides, the book, and for how many pages this has room
+-- THE GATEWAY: its settings, its clock, how many calls were rung, both sides, the book, and for how many pages this has room
 pub record GatewayValue : Type 0 where
+  pub settings : Settings
   pub clock : ℕ
   pub rings : ℕ
   pub calling : CallingValue
@@ -174,18 +177,19 @@ pub record GatewayValue : Type 0 where
   pub spare : ℕ
 
 -- the trace led to it, where this function gives the texts of pages
-pub record IsReachedBy (writes : Writing) (trace : List Event) (gateway : GatewayValue) : Type 0 where
-  pub is_trace : IsTrace writes trace
+pub record IsReachedBy (setup : Setup) (writes : Writing) (trace : List Event) (gateway : GatewayValue) : Type 0 where
+  pub is_trace : IsTrace setup writes trace
+  pub set : AreSet setup gateway.settings
   pub at : gateway.clock ≡ clock trace
   pub rung : gateway.rings ≡ rings trace
-  pub calling : IsCalling (calling_leg trace) gateway.calling
-  pub called : IsCalled writes (sides writes trace).leg gateway.called
-  pub book : gateway.book ≡ book_of (sides writes trace)
+  pub calling : IsCalling setup (calling_leg setup trace) gateway.calling
+  pub called : IsCalled setup writes (sides setup writes trace).leg gateway.called
+  pub book : gateway.book ≡ book_of (sides setup writes trace)
 
 -- one more datagram of the calling leg led to it, by one reading that is right
-pub record HearsFrom (writes : Writing) (trace : List Event) (octets : List ℕ) (now : ℕ) (decided : Bool) (gateway : GatewayValue) : Type 0 where
+pub record HearsFrom (setup : Setup) (writes : Writing) (trace : List Event) (octets : List ℕ) (now : ℕ) (decided : Bool) (gateway : GatewayValue) : Type 0 where
   pub read : Reading
-  pub reached : IsReachedBy writes (FromCalling octets now decided read ∷ trace) gateway
+  pub reached : IsReachedBy setup writes (FromCalling octets now decided read ∷ trace) gateway
 
 -- MEMORY that is reserved before a tick: for the packet of each side and its datagram, for a page, and for the first packet
 -- of a call
@@ -217,4 +221,4 @@ called_alone side = record { caller = record side.caller { spare = 0 }; leg = le
 
 abbrev pub alone : GatewayValue → GatewayValue
 alone g =
-    record { clock = g.clock; rings = g.rings; calling = calling_alone g.calling; called = called_alone g.called; book = g.book; spare = 0 }
+    record { settings = g.settings; clock = g.clock; rings = g.rings; calling = calling_alone g.calling; called = called_alone g.called; book = g.book; spare = 0 }

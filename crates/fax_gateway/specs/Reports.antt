@@ -5,6 +5,7 @@ use Rattle.fax_jobs.specs.Jobs.{JobValue}
 use Rattle.fax_jobs.specs.Books.{last_of, kept_reports}
 use Rattle.fax_jobs.specs.Pasts.{as_list, jobs_of, AreReported}
 use Rattle.fax_call.specs.Writings.{Writing}
+use Rattle.fax_gateway.specs.Setups.{Setup}
 use Rattle.fax_gateway.specs.Events.{Event, Ring, FromCalling, FromCalled, Tick}
 use Rattle.fax_gateway.specs.CalledLegs.{CalledLeg}
 use Rattle.fax_gateway.specs.Sides.{past_of, book_of, sides}
@@ -29,12 +30,12 @@ job_sent (Some l) = if l.entered then None else Some l.job
 
 -- The jobs that were closed are, in their order: those that ended, each with one report that a tick gave, of its call, its
 -- format and the number of its pages; the one whose call is on; those that wait. The book has the last 64 reports.
-pub record HaveStates (writes : Writing) (trace : List Event) : Type 0 where
+pub record HaveStates (setup : Setup) (writes : Writing) (trace : List Event) : Type 0 where
   pub ended : List JobValue
   pub are_reported : AreReported ended (reports_given trace)
-  pub sending : (book_of (sides writes trace)).sending ≡ job_sent (sides writes trace).leg
-  pub jobs_are : jobs_of (past_of (sides writes trace)) ≡ ended ++ (as_list (job_sent (sides writes trace).leg) ++ (book_of (sides writes trace)).waiting)
-  pub last_reports : (book_of (sides writes trace)).reports ≡ last_of kept_reports (reports_given trace)
+  pub sending : (book_of (sides setup writes trace)).sending ≡ job_sent (sides setup writes trace).leg
+  pub jobs_are : jobs_of (past_of (sides setup writes trace)) ≡ ended ++ (as_list (job_sent (sides setup writes trace).leg) ++ (book_of (sides setup writes trace)).waiting)
+  pub last_reports : (book_of (sides setup writes trace)).reports ≡ last_of kept_reports (reports_given trace)
 
 abbrev pub JobsHaveStates : Type 0
-JobsHaveStates = (writes : Writing) (trace : List Event) → IsTrace writes trace → HaveStates writes trace
+JobsHaveStates = (setup : Setup) (writes : Writing) (trace : List Event) → IsTrace setup writes trace → HaveStates setup writes trace

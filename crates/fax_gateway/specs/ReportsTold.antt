@@ -5,6 +5,7 @@ use Rattle.fax_jobs.specs.Books.{Book}
 use Rattle.fax_call.specs.Writings.{Writing, IsWriting}
 use Rattle.fax_call.specs.Emission.{Mark, Gave, Acknowledged, Refused, Begins}
 use Rattle.fax_call.specs.Delivery.{IsTold}
+use Rattle.fax_gateway.specs.Setups.{Setup}
 use Rattle.fax_gateway.specs.Events.{Event, Tick, Given}
 use Rattle.fax_gateway.specs.CalledLegs.{CalledLeg}
 use Rattle.fax_gateway.specs.Sides.{book_of, sides, in_tick}
@@ -40,7 +41,7 @@ pub record IsReported (book : Book) (leg : Option CalledLeg) (marks : List Mark)
 
 abbrev pub ReportsTheJob : Type 0
 ReportsTheJob =
-    (writes : Writing) (earlier : List Event) (at : ℕ) (given : Given) (report : Report) → IsWriting writes
-    → IsTrace writes (Tick at given ∷ earlier) → given.report ≡ Some report →
+    (setup : Setup) (writes : Writing) (earlier : List Event) (at : ℕ) (given : Given) (report : Report) → IsWriting writes
+    → IsTrace setup writes (Tick at given ∷ earlier) → given.report ≡ Some report →
     let trace : List Event = Tick at given ∷ earlier in
-    IsReported (book_of (in_tick writes earlier at)) (sides writes trace).leg (leg_marks writes trace) report
+    IsReported (book_of (in_tick setup writes earlier at)) (sides setup writes trace).leg (leg_marks setup writes trace) report

@@ -9,6 +9,7 @@ use Rattle.fax_jobs.specs.Pasts.{Step, Confirms, CallEnds, Sends, Ends, Past, ne
 use Rattle.fax_answer.specs.Replies.{ConfirmedPage}
 use Rattle.fax_call.specs.Writings.{Writing}
 use Rattle.fax_call.specs.Calls.{Calling}
+use Rattle.fax_gateway.specs.Setups.{Setup}
 use Rattle.fax_gateway.specs.Events.{Event, Ring, FromCalling, FromCalled, Tick, clock}
 use Rattle.fax_gateway.specs.CallingLegs.{CallingLeg, calling_leg, idle_after, answers, confirmed_by}
 use Rattle.fax_gateway.specs.CalledLegs.{CalledLeg, is_free, core_left, begun_leg, leg_ticked, hears, outcome_told, delivered_told}
@@ -43,13 +44,13 @@ abbrev pub leg_of : Option JobValue → Calling → ℕ → Option CalledLeg →
 leg_of None before now leg = leg
 leg_of (Some job) before now leg = Some (begun_leg job before now)
 
-abbrev pub sends : Writing → ℕ → Sides → Sides
-sends writes now s =
+abbrev pub sends : Setup → Writing → ℕ → Sides → Sides
+sends setup writes now s =
     let steps : List Step = Sends ∷ s.steps in
-    record { steps = steps; leg = leg_of (after_steps new_past steps).book.sending (core_left writes s.leg) now s.leg }
+    record { steps = steps; leg = leg_of (after_steps new_past steps).book.sending (core_left setup writes s.leg) now s.leg }
 
-abbrev pub sends_if : Writing → ℕ → Sides → Sides
-sends_if writes now s = if is_free s.leg then sends writes now s else s
+abbrev pub sends_if : Setup → Writing → ℕ → Sides → Sides
+sends_if setup writes now s = if is_free s.leg then sends setup writes now s else s
 
 -- the called leg is served, and the end of its call is entered
 abbrev pub enters : ℕ → Option Outcome → List Step → List Step
@@ -64,22 +65,22 @@ serves writes now s =
     }
 
 -- a tick as far as the called leg is served
-abbrev pub before_serving : Writing → Option CallingLeg → ℕ → Sides → Sides
-before_serving writes leg now s = sends_if writes now (record s { steps = heard_in_tick leg now s.steps })
+abbrev pub before_serving : Setup → Writing → Option CallingLeg → ℕ → Sides → Sides
+before_serving setup writes leg now s = sends_if setup writes now (record s { steps = heard_in_tick leg now s.steps })
 
 -- what an event does, where the calling leg is `old` before it and `new` behind it
-abbrev pub sides_after : Writing → Option CallingLeg → Option CallingLeg → ℕ → Event → Sides → Sides
-sides_after writes old new now (Ring at number) s = s
-sides_after writes old new now (FromCalling octets at decided read) s =
+abbrev pub sides_after : Setup → Writing → Option CallingLeg → Option CallingLeg → ℕ → Event → Sides → Sides
+sides_after setup writes old new now (Ring at number) s = s
+sides_after setup writes old new now (FromCalling octets at decided read) s =
     record s { steps = ends_if (not (idle_after old) && idle_after new) s.steps }
-sides_after writes old new now (FromCalled octets at decided) s = record s { leg = option_map (hears writes octets now) s.leg }
-sides_after writes old new now (Tick at given) s = serves writes now (before_serving writes old now s)
+sides_after setup writes old new now (FromCalled octets at decided) s = record s { leg = option_map (hears writes octets now) s.leg }
+sides_after setup writes old new now (Tick at given) s = serves writes now (before_serving setup writes old now s)
 
-abbrev pub sides : Writing → List Event → Sides
-sides writes [] = record { steps = []; leg = None }
-sides writes (e ∷ earlier) =
-    sides_after writes (calling_leg earlier) (calling_leg (e ∷ earlier)) (clock (e ∷ earlier)) e (sides writes earlier)
+abbrev pub sides : Setup → Writing → List Event → Sides
+sides setup writes [] = record { steps = []; leg = None }
+sides setup writes (e ∷ earlier) =
+    sides_after setup writes (calling_leg setup earlier) (calling_leg setup (e ∷ earlier)) (clock (e ∷ earlier)) e (sides setup writes earlier)
 
 -- a tick behind a trace, as far as the called leg is served
-abbrev pub in_tick : Writing → List Event → ℕ → Sides
-in_tick writes earlier at = before_serving writes (calling_leg earlier) (max at (clock earlier)) (sides writes earlier)
+abbrev pub in_tick : Setup → Writing → List Event → ℕ → Sides
+in_tick setup writes earlier at = before_serving setup writes (calling_leg setup earlier) (max at (clock earlier)) (sides setup writes earlier)

@@ -11,6 +11,7 @@ use Rattle.fax_jobs.specs.Jobs.{JobValue}
 use Rattle.fax_call.specs.Writings.{Writing}
 use Rattle.fax_call.specs.Delivery.{is_over}
 use Rattle.fax_call.specs.Emission.{Emission, emitted_at, frame_at, Mark, Gave, Begins, gave_all, elements_given, marks_heard}
+use Rattle.fax_gateway.specs.Setups.{Setup}
 use Rattle.fax_gateway.specs.Events.{Event, Ring, FromCalling, FromCalled, Tick}
 use Rattle.fax_gateway.specs.Legs.{new_pieces}
 use Rattle.fax_gateway.specs.CalledLegs.{CalledLeg, core_of, is_free}
@@ -57,16 +58,16 @@ begun_if true (Some job) marks = Begins ∷ marks
 begun_if free sending marks = marks
 
 -- what stands before that which a tick gives
-abbrev pub marks_before : Writing → List Event → ℕ → List Mark → List Mark
-marks_before writes earlier at marks = begun_if (is_free (sides writes earlier).leg) (book_of (in_tick writes earlier at)).sending marks
+abbrev pub marks_before : Setup → Writing → List Event → ℕ → List Mark → List Mark
+marks_before setup writes earlier at marks = begun_if (is_free (sides setup writes earlier).leg) (book_of (in_tick setup writes earlier at)).sending marks
 
-abbrev pub leg_marks : Writing → List Event → List Mark
-leg_marks writes [] = []
-leg_marks writes (Ring at number ∷ earlier) = leg_marks writes earlier
-leg_marks writes (FromCalling octets at decided read ∷ earlier) = leg_marks writes earlier
-leg_marks writes (FromCalled octets at decided ∷ earlier) = heard_by writes (sides writes earlier).leg octets (leg_marks writes earlier)
-leg_marks writes (Tick at given ∷ earlier) =
-    gave_all (elements_told given.on_called) (marks_before writes earlier at (leg_marks writes earlier))
+abbrev pub leg_marks : Setup → Writing → List Event → List Mark
+leg_marks setup writes [] = []
+leg_marks setup writes (Ring at number ∷ earlier) = leg_marks setup writes earlier
+leg_marks setup writes (FromCalling octets at decided read ∷ earlier) = leg_marks setup writes earlier
+leg_marks setup writes (FromCalled octets at decided ∷ earlier) = heard_by writes (sides setup writes earlier).leg octets (leg_marks setup writes earlier)
+leg_marks setup writes (Tick at given ∷ earlier) =
+    gave_all (elements_told given.on_called) (marks_before setup writes earlier at (leg_marks setup writes earlier))
 
 -- what holds of each image that these elements end, by what stood before its end
 abbrev pub IfEmits : (List Mark → Emission → Type 0) → List Mark → Option Emission → Type 0

@@ -4,6 +4,8 @@ ghost use Rattle.fax_jobs.specs.Jobs.{JobValue};
 ghost use Rattle.fax_call.specs.Writings.{IsWriting, Writing};
 ghost use Rattle.fax_call.specs.Following.{IsJobOfCall};
 ghost use Rattle.fax_call.specs.declared.pending.Pending.TheVariants as Pending;
+ghost use Rattle.fax_udptl.specs.Sending.{most_redundancy};
+ghost use Rattle.fax_gateway.specs.Setups.{Setup};
 ghost use Rattle.fax_gateway.specs.CalledLegs.{CalledLeg, begun_leg, core_left, decided_called, hears};
 ghost use Rattle.fax_gateway.specs.Reached.{Begins, CalledHasRoom, IsCalled, IsLeg, IsServed, TicksOn, called_alone, most_octets, outcome_kept};
 
@@ -23,11 +25,12 @@ pub(crate) struct CalledSide {
 
 impl CalledSide {
     /// A side on whose leg no call was. It takes memory for the leg.
-    pub fn new(alloc: Global) -> Result<Self, NoMemory>
-        ensures reached { IfOk result (λ side. (writes : Writing) → IsCalled writes None side) }
+    pub fn new(alloc: Global, redundancy: u8) -> Result<Self, NoMemory>
+        requires { redundancy ≤ most_redundancy }
+        ensures reached { IfOk result (λ side. (setup : Setup) (writes : Writing) → IsCalled setup writes None side) }
         ensures idle { IfOk result (λ side. side.caller.procedure.state ≡ State.Idle) }
     {
-        let leg = Leg::new(alloc)?;
+        let leg = Leg::new(alloc, redundancy)?;
         Ok(CalledSide {
             caller: Caller::new(alloc),
             leg,
@@ -37,11 +40,11 @@ impl CalledSide {
     /// A datagram came: the octets of it. It answers whether it decided a slot, and it takes memory only where it did. An
     /// `Err` changes nothing.
     pub fn hear(&mut self, octets: &[u8], now: u64) -> Result<bool, NoMemory>
-        ensures heard { OnOk result ((writes : Writing) (leg : Option CalledLeg) → IsCalled writes leg self.old
-            → IsCalled writes (option_map (hears writes octets.now now) leg) self.new) }
-        ensures decided { IfOk result (λ decided. (writes : Writing) (leg : Option CalledLeg) → IsCalled writes leg self.old
+        ensures heard { OnOk result ((setup : Setup) (writes : Writing) (leg : Option CalledLeg) → IsCalled setup writes leg self.old
+            → IsCalled setup writes (option_map (hears writes octets.now now) leg) self.new) }
+        ensures decided { IfOk result (λ decided. (setup : Setup) (writes : Writing) (leg : Option CalledLeg) → IsCalled setup writes leg self.old
             → decided ≡ decided_called writes leg octets.now) }
-        ensures memory { OnErr result ((writes : Writing) (leg : Option CalledLeg) → IsCalled writes leg self.old
+        ensures memory { OnErr result ((setup : Setup) (writes : Writing) (leg : Option CalledLeg) → IsCalled setup writes leg self.old
             → decided_called writes leg octets.now ≡ true) }
         ensures idle { self.old.caller.procedure.state ≡ State.Idle → self.new ≡ self.old }
         ensures job { (job : JobValue) → IsJobOfCall self.old.caller.procedure job → IsJobOfCall self.new.caller.procedure job }
@@ -80,7 +83,7 @@ impl CalledSide {
     /// Takes the memory of the next datagram, and of the first packet of a call.
     pub fn reserve(&mut self) -> Result<(), NoMemory>
         ensures room { OnOk result (CalledHasRoom self.new) }
-        ensures reached { (writes : Writing) (leg : Option CalledLeg) → IsCalled writes leg self.old → IsCalled writes leg self.new }
+        ensures reached { (setup : Setup) (writes : Writing) (leg : Option CalledLeg) → IsCalled setup writes leg self.old → IsCalled setup writes leg self.new }
         ensures same { called_alone self.new ≡ called_alone self.old }
         ensures procedure { self.new.caller.procedure ≡ self.old.caller.procedure }
     {
@@ -91,9 +94,8 @@ impl CalledSide {
     /// The call of a job begins, where no call is on, with a leg of its own. It takes no memory.
     pub fn start<S: RowStore>(&mut self, job: &Job<S>, leg: Leg, now: u64)
         requires idle { self.old.caller.procedure.state ≡ State.Idle }
-        requires fresh { IsLeg [] [] leg }
-        ensures started { (writes : Writing) (old : Option CalledLeg) → IsCalled writes old self.old
-            → IsCalled writes (Some (begun_leg job.now (core_left writes old) now)) self.new }
+        ensures started { (setup : Setup) (writes : Writing) (old : Option CalledLeg) → IsLeg setup [] [] leg → IsCalled setup writes old self.old
+            → IsCalled setup writes (Some (begun_leg job.now (core_left setup writes old) now)) self.new }
         ensures job { IsJobOfCall self.new.caller.procedure job.now }
         ensures tone { self.new.caller.procedure.pending ≡ Pending.Tone }
         ensures spare { self.new.caller.spare ≡ self.old.caller.spare }
@@ -111,8 +113,8 @@ impl CalledSide {
     pub fn tick<S: RowStore>(&mut self, job: &Job<S>, now: u64) -> Result<Option<Octets>, NoMemory>
         requires job { IsJobOfCall self.old.caller.procedure job.now }
         requires room { most_octets < self.old.leg.sender.spare }
-        ensures ticked { IfOk result (λ given. (writes : Writing) (l : CalledLeg) → IsWriting writes → l.job ≡ job.now → IsCalled writes (Some l) self.old
-            → TicksOn writes l now given self.new) }
+        ensures ticked { IfOk result (λ given. (setup : Setup) (writes : Writing) (l : CalledLeg) → IsWriting writes → l.job ≡ job.now → IsCalled setup writes (Some l) self.old
+            → TicksOn setup writes l now given self.new) }
         ensures job { OnOk result (IsJobOfCall self.new.caller.procedure job.now) }
         ensures first { self.old.caller.procedure.pending ≡ Pending.Tone → OnErr result (self.old.caller.spare ≡ 0) }
         ensures err { OnErr result (self.new ≡ self.old) }
@@ -126,10 +128,9 @@ impl CalledSide {
     pub fn begin<S: RowStore>(&mut self, jobs: &Jobs<S>, leg: Leg, now: u64) -> Option<Octets>
         requires idle { self.old.caller.procedure.state ≡ State.Idle }
         requires packet { 1 ≤ self.old.caller.spare }
-        requires fresh { IsLeg [] [] leg }
         requires datagram { most_octets < leg.sender.spare }
-        ensures begun { (writes : Writing) (old : Option CalledLeg) → IsWriting writes → IsCalled writes old self.old
-            → Begins writes old jobs.now.book.sending now result self.old self.new }
+        ensures begun { (setup : Setup) (writes : Writing) (old : Option CalledLeg) → IsWriting writes → IsLeg setup [] [] leg → IsCalled setup writes old self.old
+            → Begins setup writes old jobs.now.book.sending now result self.old self.new }
         ensures served { IsServed jobs.now.book.sending self.new.caller.procedure }
     {
         match jobs.sending() {

@@ -1,5 +1,7 @@
 //! The calling leg: who calls is answered there.
-ghost use Rattle.std.specs.Prelude.{◌≡◌, ◌↔◌, ℕ, true, IsTrue, Option, Some, None, IfOk, OnOk, OnErr};
+ghost use Rattle.std.specs.Prelude.{◌≡◌, ◌≤◌, ◌↔◌, ℕ, true, IsTrue, Option, Some, None, IfOk, OnOk, OnErr};
+ghost use Rattle.fax_udptl.specs.Sending.{most_redundancy};
+ghost use Rattle.fax_gateway.specs.Setups.{Setup};
 ghost use Rattle.fax_gateway.specs.CallingLegs.{CallingLeg, decided_calling, idle_after, rung_leg};
 ghost use Rattle.fax_gateway.specs.Reached.{IsCalling, HearsCalling, CallingHasRoom, TellsTick, answering_of, calling_alone, ticked_on};
 
@@ -29,10 +31,11 @@ impl<S: RowStore> Model for CallingSide<S> {
 
 impl<S: RowStore> CallingSide<S> {
     /// A side on whose leg no call was. It takes memory for the leg.
-    pub fn new(alloc: Global) -> Result<Self, NoMemory>
-        ensures { IfOk result (λ side. IsCalling None side) }
+    pub fn new(alloc: Global, redundancy: u8) -> Result<Self, NoMemory>
+        requires { redundancy ≤ most_redundancy }
+        ensures { IfOk result (λ side. (setup : Setup) → redundancy ≡ setup.redundancy → IsCalling setup None side) }
     {
-        let leg = Leg::new(alloc)?;
+        let leg = Leg::new(alloc, redundancy)?;
         Ok(CallingSide {
             alloc,
             number: 0,
@@ -43,20 +46,22 @@ impl<S: RowStore> CallingSide<S> {
 
     /// Whether no call is on.
     pub fn is_idle(&self) -> bool
-        ensures idle { (leg : Option CallingLeg) → IsCalling leg self.now → result ≡ idle_after leg }
+        ensures idle { (setup : Setup) (leg : Option CallingLeg) → IsCalling setup leg self.now → result ≡ idle_after leg }
         ensures state { IsTrue result ↔ (self.now.kept.procedure.state ≡ State.Idle) }
     {
         self.answerer.state() == State::Idle
     }
 
-    /// A ring, where no call is on: the call of this number begins. It takes memory for its leg. An `Err` changes nothing.
-    pub fn ring(&mut self, number: u32, now: u64) -> Result<(), NoMemory>
-        requires { self.old.kept.procedure.state ≡ State.Idle }
-        ensures rung { OnOk result ((leg : Option CallingLeg) → IsCalling leg self.old
-            → IsCalling (Some (rung_leg (answering_of leg) now number)) self.new) }
+    /// A ring, where no call is on: the call of this number begins, with a leg of this redundancy. It takes memory for the leg.
+    /// An `Err` changes nothing.
+    pub fn ring(&mut self, number: u32, redundancy: u8, now: u64) -> Result<(), NoMemory>
+        requires idle { self.old.kept.procedure.state ≡ State.Idle }
+        requires few { redundancy ≤ most_redundancy }
+        ensures rung { OnOk result ((setup : Setup) (leg : Option CallingLeg) → redundancy ≡ setup.redundancy → IsCalling setup leg self.old
+            → IsCalling setup (Some (rung_leg (answering_of setup leg) now number)) self.new) }
         ensures err { OnErr result (self.new ≡ self.old) }
     {
-        self.leg = Leg::new(self.alloc)?;
+        self.leg = Leg::new(self.alloc, redundancy)?;
         self.number = number;
         self.answerer.ring(now);
         Ok(())
@@ -65,9 +70,9 @@ impl<S: RowStore> CallingSide<S> {
     /// A datagram came: the octets of it. It answers whether it decided a slot, and it takes memory only where it did. An
     /// `Err` changes nothing.
     pub fn hear(&mut self, octets: &[u8], now: u64) -> Result<bool, NoMemory>
-        ensures heard { OnOk result ((leg : Option CallingLeg) → IsCalling leg self.old → HearsCalling leg now octets.now self.new) }
-        ensures decided { IfOk result (λ decided. (leg : Option CallingLeg) → IsCalling leg self.old → decided ≡ decided_calling leg octets.now) }
-        ensures memory { OnErr result ((leg : Option CallingLeg) → IsCalling leg self.old → decided_calling leg octets.now ≡ true) }
+        ensures heard { OnOk result ((setup : Setup) (leg : Option CallingLeg) → IsCalling setup leg self.old → HearsCalling setup leg now octets.now self.new) }
+        ensures decided { IfOk result (λ decided. (setup : Setup) (leg : Option CallingLeg) → IsCalling setup leg self.old → decided ≡ decided_calling leg octets.now) }
+        ensures memory { OnErr result ((setup : Setup) (leg : Option CallingLeg) → IsCalling setup leg self.old → decided_calling leg octets.now ≡ true) }
         ensures err { OnErr result (self.new ≡ self.old) }
     {
         if self.is_idle() {
@@ -92,7 +97,7 @@ impl<S: RowStore> CallingSide<S> {
     /// Takes the memory of the next tick.
     pub fn reserve(&mut self) -> Result<(), NoMemory>
         ensures room { OnOk result (CallingHasRoom self.new) }
-        ensures reached { (leg : Option CallingLeg) → IsCalling leg self.old → IsCalling leg self.new }
+        ensures reached { (setup : Setup) (leg : Option CallingLeg) → IsCalling setup leg self.old → IsCalling setup leg self.new }
         ensures same { calling_alone self.new ≡ calling_alone self.old }
     {
         self.answerer.reserve()?;
@@ -103,8 +108,8 @@ impl<S: RowStore> CallingSide<S> {
     /// The memory is reserved.
     pub fn tick(&mut self, now: u64) -> Step<S>
         requires { CallingHasRoom self.old }
-        ensures ticked { (leg : Option CallingLeg) → IsCalling leg self.old → IsCalling (ticked_on leg now) self.new }
-        ensures told { (leg : Option CallingLeg) → IsCalling leg self.old → TellsTick leg now result }
+        ensures ticked { (setup : Setup) (leg : Option CallingLeg) → IsCalling setup leg self.old → IsCalling setup (ticked_on leg now) self.new }
+        ensures told { (setup : Setup) (leg : Option CallingLeg) → IsCalling setup leg self.old → TellsTick setup leg now result }
         ensures number { self.new.number ≡ self.old.number }
     {
         match self.answerer.tick(now) {

@@ -1,6 +1,7 @@
 //! A driver of a gateway.
 ghost use Rattle.std.specs.Prelude.{◌≡◌, ◌<◌, ◌↔◌, ℕ, List, [], ◌∷◌, ◌++◌, IsTrue, IfOk, vec_len};
 ghost use Rattle.fax_call.specs.Writings.{IsWriting, Writing};
+ghost use Rattle.fax_gateway.specs.Setups.{Setup};
 ghost use Rattle.fax_gateway.specs.Events.{Event};
 ghost use Rattle.fax_gateway.specs.Reached.{IsReachedBy};
 ghost use Rattle.fax_gateway.specs.declared.side.Side.{Side as SideShown};
@@ -68,8 +69,8 @@ impl Driver {
         wire: &mut W,
         now: u64,
     ) -> bool
-        ensures turned { (writes : Writing) (trace : List Event) (earlier : List Entry) → IsWriting writes → IsReachedBy writes trace gateway.old → HasMade earlier self.old
-            → (turn : List Entry) × IsTurn now turn × Happens writes turn trace gateway.new (W.known wire.old) (W.known wire.new) × HasMade (turn ++ earlier) self.new }
+        ensures turned { (setup : Setup) (writes : Writing) (trace : List Event) (earlier : List Entry) → IsWriting writes → IsReachedBy setup writes trace gateway.old → HasMade earlier self.old
+            → (turn : List Entry) × IsTurn now turn × Happens setup writes turn trace gateway.new (W.known wire.old) (W.known wire.new) × HasMade (turn ++ earlier) self.new }
         ensures goes_on { (made : List Entry) → HasMade made self.new → IsTrue result ↔ (failed_in_a_row (receipts made) < most_failed) }
     {
         self.serve(Side::Calling, gateway, wire, now);
@@ -100,8 +101,8 @@ impl Driver {
         wire: &mut W,
         now: u64,
     )
-        ensures { (writes : Writing) (trace : List Event) (earlier : List Entry) → IsReachedBy writes trace gateway.old → HasMade earlier self.old
-            → (log : List Entry) × AreReceives side now log × Steps writes log trace earlier gateway.new (W.known wire.old) (W.known wire.new) self.new }
+        ensures { (setup : Setup) (writes : Writing) (trace : List Event) (earlier : List Entry) → IsReachedBy setup writes trace gateway.old → HasMade earlier self.old
+            → (log : List Entry) × AreReceives side now log × Steps setup writes log trace earlier gateway.new (W.known wire.old) (W.known wire.new) self.new }
     {
         for _ in 0..MOST_DATAGRAMS {
             if !self.receive(side, gateway, wire, now) {
@@ -118,8 +119,8 @@ impl Driver {
         wire: &mut W,
         now: u64,
     ) -> bool
-        ensures { (writes : Writing) (trace : List Event) (earlier : List Entry) → IsReachedBy writes trace gateway.old → HasMade earlier self.old
-            → (entry : Entry) × IsReceive result side now entry × Steps writes (entry ∷ []) trace earlier gateway.new (W.known wire.old) (W.known wire.new) self.new }
+        ensures { (setup : Setup) (writes : Writing) (trace : List Event) (earlier : List Entry) → IsReachedBy setup writes trace gateway.old → HasMade earlier self.old
+            → (entry : Entry) × IsReceive result side now entry × Steps setup writes (entry ∷ []) trace earlier gateway.new (W.known wire.old) (W.known wire.new) self.new }
     {
         match wire.receive(side, self.buffer.as_mut_slice()) {
             Ok(Some(count)) => {
@@ -160,8 +161,8 @@ impl Driver {
 
     /// Time goes on, and what is given is sent.
     fn tick<S: RowStore, W: Wire>(&mut self, gateway: &mut Gateway<S>, wire: &mut W, now: u64)
-        ensures { (writes : Writing) (trace : List Event) (earlier : List Entry) → IsWriting writes → IsReachedBy writes trace gateway.old → HasMade earlier self.old
-            → (log : List Entry) × IsTick now log × Steps writes log trace earlier gateway.new (W.known wire.old) (W.known wire.new) self.new }
+        ensures { (setup : Setup) (writes : Writing) (trace : List Event) (earlier : List Entry) → IsWriting writes → IsReachedBy setup writes trace gateway.old → HasMade earlier self.old
+            → (log : List Entry) × IsTick now log × Steps setup writes log trace earlier gateway.new (W.known wire.old) (W.known wire.new) self.new }
     {
         match gateway.tick(now) {
             Ok(given) => {
@@ -194,8 +195,8 @@ fn buffer_of(alloc: Global) -> Result<Vec<u8>, NoMemory> {
 
 /// Hands a datagram of a leg on to the gateway. It answers whether it was accepted.
 fn hand_on<S: RowStore>(side: Side, octets: &[u8], gateway: &mut Gateway<S>, now: u64) -> bool
-    ensures { (writes : Writing) (trace : List Event) → IsReachedBy writes trace gateway.old
-        → (entry : Entry) × Comes side now entry × IsHanded result side octets.now entry × IsWanting writes trace entry × IsReachedBy writes (events (entry ∷ []) ++ trace) gateway.new }
+    ensures { (setup : Setup) (writes : Writing) (trace : List Event) → IsReachedBy setup writes trace gateway.old
+        → (entry : Entry) × Comes side now entry × IsHanded result side octets.now entry × IsWanting setup writes trace entry × IsReachedBy setup writes (events (entry ∷ []) ++ trace) gateway.new }
 {
     match side {
         Side::Calling => gateway.from_calling(octets, now).is_ok(),

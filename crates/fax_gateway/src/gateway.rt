@@ -3,6 +3,8 @@ ghost use Rattle.std.specs.Prelude.{◌≡◌, ◌<◌, ◌≤◌, ◌↔◌, �
 ghost use Rattle.fax_jobs.specs.Books.{confirmed, report_of};
 ghost use Rattle.fax_answer.specs.Shown.{confirmed_shown};
 ghost use Rattle.fax_call.specs.Writings.{IsWriting, Writing};
+ghost use Rattle.fax_udptl.specs.Sending.{most_redundancy};
+ghost use Rattle.fax_gateway.specs.Setups.{AreAllowed, AreSet, Setup};
 ghost use Rattle.fax_gateway.specs.Events.{Event, Ring, FromCalled, Tick, rings};
 ghost use Rattle.fax_gateway.specs.CallingLegs.{CallingLeg, calling_leg, decided_calling, idle_after, told_calling};
 ghost use Rattle.fax_gateway.specs.CalledLegs.{decided_called};
@@ -14,6 +16,7 @@ use crate::calling::CallingSide;
 use crate::fault::RingFault;
 use crate::given::Given;
 use crate::leg::Leg;
+use crate::settings::Settings;
 use fax_answer::Confirmed;
 use fax_bits::{NoMemory, Octets};
 use fax_jobs::{Job, Jobs, Outcome, Report};
@@ -28,6 +31,7 @@ use std::marker::Model;
 #[derive(Drop)]
 pub struct Gateway<S: RowStore> {
     alloc: Global,
+    settings: Settings,
     clock: Clock,
     /// How many calls were rung.
     rings: u64,
@@ -38,24 +42,37 @@ pub struct Gateway<S: RowStore> {
 
 impl<S: RowStore> Model for Gateway<S> {
     ghost use Rattle.fax_gateway.specs.Reached.{GatewayValue, IsServed};
+    ghost use Rattle.fax_gateway.specs.Setups.{AreAllowed};
 
     ghost Value = { GatewayValue };
 
-    ghost view = { λ g. record { clock = g.clock; rings = g.rings; calling = g.calling; called = g.called; book = g.jobs.book; spare = g.jobs.spare } };
+    ghost view = { λ g. record { settings = g.settings; clock = g.clock; rings = g.rings; calling = g.calling; called = g.called; book = g.jobs.book; spare = g.jobs.spare } };
 
-    ghost invariant = { λ g. IsServed g.jobs.book.sending g.called.caller.procedure };
+    ghost invariant = { λ g. IsServed g.jobs.book.sending g.called.caller.procedure × AreAllowed g.settings };
 }
 
 impl<S: RowStore> Gateway<S> {
-    /// A gateway to which nothing came. It takes memory for both legs and for the reports of jobs.
-    pub fn new(alloc: Global) -> Result<Self, NoMemory>
-        ensures { IfOk result (λ gateway. (writes : Writing) → IsReachedBy writes [] gateway) }
+    /// A gateway of this redundancy, at most 8, to which nothing came. It takes memory for both legs and for the reports of
+    /// jobs.
+    pub fn new(alloc: Global, redundancy: u8) -> Result<Self, NoMemory>
+        requires { redundancy ≤ most_redundancy }
+        ensures { IfOk result (λ gateway. (setup : Setup) (writes : Writing) → redundancy ≡ setup.redundancy → IsReachedBy setup writes [] gateway) }
     {
-        let calling = CallingSide::new(alloc)?;
-        let called = CalledSide::new(alloc)?;
+        Gateway::with_settings(alloc, Settings { redundancy })
+    }
+
+    /// The same with these settings, of which the redundancy is at most 8.
+    pub fn with_settings(alloc: Global, settings: Settings) -> Result<Self, NoMemory>
+        requires { AreAllowed settings }
+        ensures settings { IfOk result (λ gateway. gateway.settings ≡ settings) }
+        ensures reached { IfOk result (λ gateway. (setup : Setup) (writes : Writing) → AreSet setup settings → IsReachedBy setup writes [] gateway) }
+    {
+        let calling = CallingSide::new(alloc, settings.redundancy)?;
+        let called = CalledSide::new(alloc, settings.redundancy)?;
         let jobs = Jobs::new(alloc)?;
         Ok(Gateway {
             alloc,
+            settings,
             clock: Clock::new(),
             rings: 0,
             calling,
@@ -67,11 +84,11 @@ impl<S: RowStore> Gateway<S> {
     /// A ring, where no call is on the calling leg: a call begins. It answers its number, counted from 0. It takes memory
     /// for the leg. An `Err` changes nothing.
     pub fn ring(&mut self, now: u64) -> Result<u32, RingFault>
-        ensures rung { IfOk result (λ number. (writes : Writing) (trace : List Event) → IsReachedBy writes trace self.old
-            → IsReachedBy writes (Ring now number ∷ trace) self.new) }
-        ensures busy { (writes : Writing) (trace : List Event) → IsReachedBy writes trace self.old
-            → result ≡ Err RingFault.Busy ↔ (idle_after (calling_leg trace) ≡ false) }
-        ensures no_number { (writes : Writing) (trace : List Event) → IsReachedBy writes trace self.old → idle_after (calling_leg trace) ≡ true
+        ensures rung { IfOk result (λ number. (setup : Setup) (writes : Writing) (trace : List Event) → IsReachedBy setup writes trace self.old
+            → IsReachedBy setup writes (Ring now number ∷ trace) self.new) }
+        ensures busy { (setup : Setup) (writes : Writing) (trace : List Event) → IsReachedBy setup writes trace self.old
+            → result ≡ Err RingFault.Busy ↔ (idle_after (calling_leg setup trace) ≡ false) }
+        ensures no_number { (setup : Setup) (writes : Writing) (trace : List Event) → IsReachedBy setup writes trace self.old → idle_after (calling_leg setup trace) ≡ true
             → result ≡ Err RingFault.NoNumber ↔ (4294967296 ≤ rings trace) }
         ensures err { OnErr result (self.new ≡ self.old) }
     {
@@ -80,7 +97,8 @@ impl<S: RowStore> Gateway<S> {
         }
         let number = next_number(self.rings)?;
         let mut clock = self.clock;
-        self.calling.ring(number, clock.read(now))?;
+        self.calling
+            .ring(number, self.settings.redundancy, clock.read(now))?;
         self.clock = clock;
         self.rings += 1;
         Ok(number)
@@ -90,10 +108,10 @@ impl<S: RowStore> Gateway<S> {
     /// no call is on, where it cannot be read and where it is late. It takes memory only where it did. An `Err` changes
     /// nothing.
     pub fn from_calling(&mut self, octets: &[u8], now: u64) -> Result<bool, NoMemory>
-        ensures heard { IfOk result (λ decided. (writes : Writing) (trace : List Event) → IsReachedBy writes trace self.old
-            → HearsFrom writes trace octets.now now decided self.new) }
-        ensures memory { (writes : Writing) (trace : List Event) → IsReachedBy writes trace self.old
-            → decided_calling (calling_leg trace) octets.now ≡ false → result ≡ Ok false }
+        ensures heard { IfOk result (λ decided. (setup : Setup) (writes : Writing) (trace : List Event) → IsReachedBy setup writes trace self.old
+            → HearsFrom setup writes trace octets.now now decided self.new) }
+        ensures memory { (setup : Setup) (writes : Writing) (trace : List Event) → IsReachedBy setup writes trace self.old
+            → decided_calling (calling_leg setup trace) octets.now ≡ false → result ≡ Ok false }
         ensures err { OnErr result (self.new ≡ self.old) }
     {
         let mut clock = self.clock;
@@ -109,10 +127,10 @@ impl<S: RowStore> Gateway<S> {
 
     /// The same of a datagram that came on the called leg.
     pub fn from_called(&mut self, octets: &[u8], now: u64) -> Result<bool, NoMemory>
-        ensures heard { IfOk result (λ decided. (writes : Writing) (trace : List Event) → IsReachedBy writes trace self.old
-            → IsReachedBy writes (FromCalled octets.now now decided ∷ trace) self.new) }
-        ensures memory { (writes : Writing) (trace : List Event) → IsReachedBy writes trace self.old
-            → decided_called writes (sides writes trace).leg octets.now ≡ false → result ≡ Ok false }
+        ensures heard { IfOk result (λ decided. (setup : Setup) (writes : Writing) (trace : List Event) → IsReachedBy setup writes trace self.old
+            → IsReachedBy setup writes (FromCalled octets.now now decided ∷ trace) self.new) }
+        ensures memory { (setup : Setup) (writes : Writing) (trace : List Event) → IsReachedBy setup writes trace self.old
+            → decided_called writes (sides setup writes trace).leg octets.now ≡ false → result ≡ Ok false }
         ensures err { OnErr result (self.new ≡ self.old) }
     {
         let mut clock = self.clock;
@@ -127,23 +145,23 @@ impl<S: RowStore> Gateway<S> {
     /// next tick. It takes memory for the datagrams, and for a page. An `Err` changes nothing but the memory that is
     /// reserved.
     pub fn tick(&mut self, now: u64) -> Result<Given, NoMemory>
-        ensures ticked { IfOk result (λ given. (writes : Writing) (trace : List Event) → IsWriting writes → IsReachedBy writes trace self.old
-            → IsReachedBy writes (Tick now (given_shown given) ∷ trace) self.new) }
+        ensures ticked { IfOk result (λ given. (setup : Setup) (writes : Writing) (trace : List Event) → IsWriting writes → IsReachedBy setup writes trace self.old
+            → IsReachedBy setup writes (Tick now (given_shown given) ∷ trace) self.new) }
         ensures err { OnErr result (alone self.new ≡ alone self.old) }
-        ensures kept { OnErr result ((writes : Writing) (trace : List Event) → IsReachedBy writes trace self.old → IsReachedBy writes trace self.new) }
+        ensures kept { OnErr result ((setup : Setup) (writes : Writing) (trace : List Event) → IsReachedBy setup writes trace self.old → IsReachedBy setup writes trace self.new) }
     {
         self.reserve()?;
         if self.jobs.sending().is_some() {
             return self.tick_in_call(now);
         }
-        let leg = Leg::with_room(self.alloc)?;
+        let leg = Leg::with_room(self.alloc, self.settings.redundancy)?;
         Ok(self.tick_between(leg, now))
     }
 
     /// Takes the memory of a tick, but for that of a packet of a call that is on on the called leg.
     fn reserve(&mut self) -> Result<(), NoMemory>
         ensures room { OnOk result (HasRoom self.new) }
-        ensures reached { (writes : Writing) (trace : List Event) → IsReachedBy writes trace self.old → IsReachedBy writes trace self.new }
+        ensures reached { (setup : Setup) (writes : Writing) (trace : List Event) → IsReachedBy setup writes trace self.old → IsReachedBy setup writes trace self.new }
         ensures same { alone self.new ≡ alone self.old }
     {
         self.calling.reserve()?;
@@ -156,8 +174,8 @@ impl<S: RowStore> Gateway<S> {
     fn tick_in_call(&mut self, now: u64) -> Result<Given, NoMemory>
         requires room { HasRoom self.old }
         requires sends { IsSome self.old.book.sending }
-        ensures ticked { IfOk result (λ given. (writes : Writing) (trace : List Event) → IsWriting writes → IsReachedBy writes trace self.old
-            → IsReachedBy writes (Tick now (given_shown given) ∷ trace) self.new) }
+        ensures ticked { IfOk result (λ given. (setup : Setup) (writes : Writing) (trace : List Event) → IsWriting writes → IsReachedBy setup writes trace self.old
+            → IsReachedBy setup writes (Tick now (given_shown given) ∷ trace) self.new) }
         ensures err { OnErr result (self.new ≡ self.old) }
     {
         let mut clock = self.clock;
@@ -180,10 +198,9 @@ impl<S: RowStore> Gateway<S> {
     fn tick_between(&mut self, leg: Leg, now: u64) -> Given
         requires room { HasRoom self.old }
         requires none { self.old.book.sending ≡ None }
-        requires fresh { IsLeg [] [] leg }
         requires datagram { most_octets < leg.sender.spare }
-        ensures { (writes : Writing) (trace : List Event) → IsWriting writes → IsReachedBy writes trace self.old
-            → IsReachedBy writes (Tick now (given_shown result) ∷ trace) self.new }
+        ensures { (setup : Setup) (writes : Writing) (trace : List Event) → IsWriting writes → IsLeg setup [] [] leg → IsReachedBy setup writes trace self.old
+            → IsReachedBy setup writes (Tick now (given_shown result) ∷ trace) self.new }
     {
         let moment = self.clock.read(now);
         let calling = serve_calling(&mut self.calling, &mut self.jobs, moment);
@@ -200,8 +217,8 @@ impl<S: RowStore> Gateway<S> {
     /// How many jobs wait.
     pub fn waiting(&self) -> usize
         ensures waiting { result ≡ length self.now.book.waiting }
-        ensures told { (writes : Writing) (trace : List Event) → IsReachedBy writes trace self.now
-            → result ≡ length (book_of (sides writes trace)).waiting }
+        ensures told { (setup : Setup) (writes : Writing) (trace : List Event) → IsReachedBy setup writes trace self.now
+            → result ≡ length (book_of (sides setup writes trace)).waiting }
     {
         self.jobs.waiting()
     }
@@ -209,8 +226,8 @@ impl<S: RowStore> Gateway<S> {
     /// Report i of those that are kept, counted from 0, the oldest.
     pub fn report(&self, i: usize) -> Option<Report>
         ensures report { result ≡ slice_get self.now.book.reports i }
-        ensures told { (writes : Writing) (trace : List Event) → IsReachedBy writes trace self.now
-            → result ≡ slice_get (book_of (sides writes trace)).reports i }
+        ensures told { (setup : Setup) (writes : Writing) (trace : List Event) → IsReachedBy setup writes trace self.now
+            → result ≡ slice_get (book_of (sides setup writes trace)).reports i }
     {
         self.jobs.report(i)
     }
@@ -240,9 +257,9 @@ fn serve_calling<S: RowStore>(
 ) -> Option<Octets>
     requires room { CallingHasRoom calling.old }
     requires page { 1 ≤ jobs.old.spare }
-    ensures ticked { (leg : Option CallingLeg) → IsCalling leg calling.old → IsCalling (ticked_on leg now) calling.new }
-    ensures told { (leg : Option CallingLeg) → IsCalling leg calling.old → result ≡ told_calling leg now }
-    ensures heard { (leg : Option CallingLeg) → IsCalling leg calling.old
+    ensures ticked { (setup : Setup) (leg : Option CallingLeg) → IsCalling setup leg calling.old → IsCalling setup (ticked_on leg now) calling.new }
+    ensures told { (setup : Setup) (leg : Option CallingLeg) → IsCalling setup leg calling.old → result ≡ told_calling setup leg now }
+    ensures heard { (setup : Setup) (leg : Option CallingLeg) → IsCalling setup leg calling.old
         → jobs.new.book ≡ closed_if (ended_on leg now) (confirmed_if calling.old.number (confirmed_on leg now) jobs.old.book) }
     ensures sending { jobs.new.book.sending ≡ jobs.old.book.sending }
 {

@@ -2,6 +2,7 @@
 //! rings, datagrams of both legs and ticks, with the answers of a gateway, from a new one on.
 ghost use Rattle.fax_gateway.specs.Alone.{IsServedAlone};
 ghost use Rattle.fax_gateway.specs.Answers.{EachMcfAnswers};
+ghost use Rattle.fax_gateway.specs.Chain.{ChainsHear, ChainsRelay};
 ghost use Rattle.fax_gateway.specs.Cuts.{JobsAreCut};
 ghost use Rattle.fax_gateway.specs.Forwards.{ForwardsWhatItConfirmed};
 ghost use Rattle.fax_gateway.specs.GoesOn.{LegsAreRead, TracesGoOn};
@@ -88,4 +89,17 @@ pub fn confirms_signals()
 /// at a frame's end, each frame that the call hears is a frame that was sent.
 pub fn hears_sent_frames()
     ensures { HearsSentFrames }
+{}
+
+/// Two gateways in a row: what the second hears of a call of the first, over any honest schedule, are frames and image signals
+/// that the first gave in that call; each page for which it gives MCF is what one of these signals means.
+pub fn chains_hear()
+    ensures { ChainsHear }
+{}
+
+/// Two gateways in a row, where the first sent no EOM in its call: each page that the second confirms is a page that the first
+/// confirmed and emitted in that call, and the places of these pages in the first's job never fall. What comes back to the
+/// first may be any datagrams.
+pub fn chain_relays_pages()
+    ensures { ChainsRelay }
 {}

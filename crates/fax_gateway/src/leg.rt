@@ -1,6 +1,8 @@
 //! What a call has on its leg.
 ghost use Rattle.std.specs.Prelude.{ℕ, List, [], ◌∷◌, ◌≡◌, ◌<◌, ◌≤◌, length, IfSome, IfOk, OnOk, OnErr};
 ghost use Rattle.fax_udptl.specs.Datagrams.{DatagramValue};
+ghost use Rattle.fax_udptl.specs.Sending.{most_redundancy};
+ghost use Rattle.fax_gateway.specs.Setups.{Setup};
 ghost use Rattle.fax_gateway.specs.Legs.{sent};
 ghost use Rattle.fax_gateway.specs.Reached.{IsLeg, leg_alone, most_octets, sent_if, given_with};
 
@@ -19,11 +21,13 @@ pub(crate) struct Leg {
 }
 
 impl Leg {
-    /// A leg on which nothing came and nothing was given. It takes memory for the packets that are sent again.
-    pub fn new(alloc: Global) -> Result<Self, NoMemory>
-        ensures { IfOk result (λ leg. IsLeg [] [] leg) }
+    /// A leg on which nothing came and nothing was given: its datagrams have so many of the packets before their own. It takes
+    /// memory for these.
+    pub fn new(alloc: Global, redundancy: u8) -> Result<Self, NoMemory>
+        requires { redundancy ≤ most_redundancy }
+        ensures { IfOk result (λ leg. (setup : Setup) → redundancy ≡ setup.redundancy → IsLeg setup [] [] leg) }
     {
-        let sender = Sender::new(alloc)?;
+        let sender = Sender::new(alloc, redundancy)?;
         Ok(Leg {
             receiver: Receiver::new(),
             sender,
@@ -31,11 +35,12 @@ impl Leg {
     }
 
     /// The same with the memory of its first datagram.
-    pub fn with_room(alloc: Global) -> Result<Self, NoMemory>
-        ensures fresh { IfOk result (λ leg. IsLeg [] [] leg) }
+    pub fn with_room(alloc: Global, redundancy: u8) -> Result<Self, NoMemory>
+        requires { redundancy ≤ most_redundancy }
+        ensures fresh { IfOk result (λ leg. (setup : Setup) → redundancy ≡ setup.redundancy → IsLeg setup [] [] leg) }
         ensures room { IfOk result (λ leg. most_octets < leg.sender.spare) }
     {
-        let mut leg = Leg::new(alloc)?;
+        let mut leg = Leg::new(alloc, redundancy)?;
         leg.reserve()?;
         Ok(leg)
     }
@@ -43,7 +48,7 @@ impl Leg {
     /// Takes the memory of the next datagram, where its packet has at most `MOST_OCTETS` octets. An `Err` changes nothing.
     pub fn reserve(&mut self) -> Result<(), NoMemory>
         ensures room { OnOk result (most_octets < self.new.sender.spare) }
-        ensures reached { (arrived : List DatagramValue) (given : List (List ℕ)) → IsLeg arrived given self.old → IsLeg arrived given self.new }
+        ensures reached { (setup : Setup) (arrived : List DatagramValue) (given : List (List ℕ)) → IsLeg setup arrived given self.old → IsLeg setup arrived given self.new }
         ensures same { leg_alone self.new ≡ leg_alone self.old }
         ensures err { OnErr result (self.new ≡ self.old) }
     {
@@ -54,8 +59,8 @@ impl Leg {
     pub fn send(&mut self, packet: &[u8]) -> Octets
         requires short { length packet.now ≤ most_octets }
         requires room { most_octets < self.old.sender.spare }
-        ensures { (arrived : List DatagramValue) (given : List (List ℕ)) → IsLeg arrived given self.old
-            → (result ≡ sent given packet.now) × IsLeg arrived (packet.now ∷ given) self.new }
+        ensures { (setup : Setup) (arrived : List DatagramValue) (given : List (List ℕ)) → IsLeg setup arrived given self.old
+            → (result ≡ sent setup given packet.now) × IsLeg setup arrived (packet.now ∷ given) self.new }
     {
         match self.sender.send(packet) {
             Ok(octets) => octets,
@@ -67,8 +72,8 @@ impl Leg {
     pub fn send_if(&mut self, packet: Option<Octets>) -> Option<Octets>
         requires short { IfSome packet (λ packet. length packet ≤ most_octets) }
         requires room { most_octets < self.old.sender.spare }
-        ensures { (arrived : List DatagramValue) (given : List (List ℕ)) → IsLeg arrived given self.old
-            → (result ≡ sent_if given packet) × IsLeg arrived (given_with packet given) self.new }
+        ensures { (setup : Setup) (arrived : List DatagramValue) (given : List (List ℕ)) → IsLeg setup arrived given self.old
+            → (result ≡ sent_if setup given packet) × IsLeg setup arrived (given_with packet given) self.new }
     {
         match packet {
             None => None,

@@ -15,6 +15,7 @@ mod given;
 pub mod laws;
 mod leg;
 mod run;
+mod settings;
 mod side;
 mod wire;
 
@@ -24,5 +25,6 @@ pub use fault::RingFault;
 pub use gateway::Gateway;
 pub use given::Given;
 pub use run::drive;
+pub use settings::Settings;
 pub use side::Side;
 pub use wire::{Wire, WireFault};

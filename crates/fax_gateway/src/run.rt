@@ -2,6 +2,7 @@
 ghost use Rattle.std.specs.Prelude.{◌≡◌, ◌<◌, ◌+◌, ℕ, Bool, cond, List, [], ◌∷◌, ◌++◌, IfOk, OnErr};
 ghost use Rattle.std.specs.List.{count_by};
 ghost use Rattle.fax_call.specs.Writings.{IsWriting, Writing};
+ghost use Rattle.fax_gateway.specs.Setups.{Setup};
 ghost use Rattle.fax_gateway.specs.Events.{Event};
 ghost use Rattle.fax_gateway.specs.Reached.{IsReachedBy};
 ghost use Rattle.fax_gateway.specs.Wires.{greatest_count};
@@ -29,9 +30,9 @@ pub fn drive<S: RowStore, W: Wire>(
     rings: &[u32],
     turns: u32,
 ) -> Result<Driven, NoMemory>
-    ensures driven { IfOk result (λ driven. (writes : Writing) (trace : List Event) → IsWriting writes → IsReachedBy writes trace gateway.old
-        → (rounds : List (List Entry)) × AreRounds start rings.now rounds × Happens writes (log_of rounds) trace gateway.new (W.known wire.old) (W.known wire.new) × Tells turns rounds driven) }
-    ensures failures { IfOk result (λ driven. (writes : Writing) (trace : List Event) → IsWriting writes → IsReachedBy writes trace gateway.old
+    ensures driven { IfOk result (λ driven. (setup : Setup) (writes : Writing) (trace : List Event) → IsWriting writes → IsReachedBy setup writes trace gateway.old
+        → (rounds : List (List Entry)) × AreRounds start rings.now rounds × Happens setup writes (log_of rounds) trace gateway.new (W.known wire.old) (W.known wire.new) × Tells turns rounds driven) }
+    ensures failures { IfOk result (λ driven. (setup : Setup) (writes : Writing) (trace : List Event) → IsWriting writes → IsReachedBy setup writes trace gateway.old
         → (W.known wire.new).failures < greatest_count → (W.known wire.new).failures ≡ (W.known wire.old).failures + (driven.sends_failed + driven.receives_failed)) }
     ensures err { OnErr result ((gateway.new ≡ gateway.old) × (wire.new ≡ wire.old)) }
 {
@@ -50,8 +51,8 @@ pub fn drive<S: RowStore, W: Wire>(
 
 /// Rings where it is to. It answers whether the ring was refused.
 fn ring_if<S: RowStore>(is_due: bool, gateway: &mut Gateway<S>, now: u64) -> bool
-    ensures { (writes : Writing) (trace : List Event) → IsReachedBy writes trace gateway.old
-        → (log : List Entry) × IsRingIf is_due now log × (count_by is_refused_ring log ≡ cond result 1 0) × IsReachedBy writes (events log ++ trace) gateway.new }
+    ensures { (setup : Setup) (writes : Writing) (trace : List Event) → IsReachedBy setup writes trace gateway.old
+        → (log : List Entry) × IsRingIf is_due now log × (count_by is_refused_ring log ≡ cond result 1 0) × IsReachedBy setup writes (events log ++ trace) gateway.new }
 {
     if !is_due {
         return false;

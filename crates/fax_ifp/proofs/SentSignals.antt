@@ -238,7 +238,7 @@ clean_gives es s kind what o is t c e w =
     ∙ ap (λ (n : ℕ). octets_if o ++ (if nat_eq n 7 then end_if (has_octet (joined s.later) || has_octet o) true else [])) (is_six what w)
     ∙ append-nil (octets_if o)
 
-end_gives : (es : List Element) (s : Since) (kind what : ℕ) (o : List ℕ) → since_indicator es ≡ Some s → is_training s.code ≡ true → IsClean (kind_of_training s.code) s.later →
+pub end_gives : (es : List Element) (s : Since) (kind what : ℕ) (o : List ℕ) → since_indicator es ≡ Some s → is_training s.code ≡ true → IsClean (kind_of_training s.code) s.later →
     nat_eq kind (kind_of_training s.code) ≡ true → nat_eq what 7 ≡ true → pieces_at es (Field kind what o) ≡ octets_if o ++ end_if (has_octet (joined s.later ++ o)) true
 end_gives es s kind what o is t c e w =
     let k : ℕ = kind_of_training s.code in
@@ -257,17 +257,17 @@ signal_gives : (es : List Element) (s : Since) (code : ℕ) → since_indicator 
 signal_gives es s code is t c = ap (λ (i : Option Image). end_before i ++ (if is_training code then Start (kind_of_training code) ∷ [] else [])) (opened es s is t c)
 
 -- The sender's side: from a training indicator on.
-since_of : (code k : ℕ) (later : List Element) → IsClean k later → since_indicator (later ++ Signal code ∷ []) ≡ Some (record { code = code; later = later })
+pub since_of : (code k : ℕ) (later : List Element) → IsClean k later → since_indicator (later ++ Signal code ∷ []) ≡ Some (record { code = code; later = later })
 since_of code k [] c = refl
 since_of code k (Field kind what o ∷ later) c = ap (with_later (Field kind what o)) (since_of code k later c.2)
 since_of code k (Missing ∷ later) c = absurd c
 since_of code k (Signal n ∷ later) c = absurd c
 
-reads_on : (o acc : List ℕ) (tail : List Piece) → octets_to_end acc (octets_if o ++ tail) ≡ octets_to_end (acc ++ o) tail
+pub reads_on : (o acc : List ℕ) (tail : List Piece) → octets_to_end acc (octets_if o ++ tail) ≡ octets_to_end (acc ++ o) tail
 reads_on [] acc tail = ap (λ (a : List ℕ). octets_to_end a tail) (sym (append-nil acc))
 reads_on (x ∷ o) acc tail = refl
 
-starts : (code : ℕ) → is_training code ≡ true → (later : List Element) → IsClean (kind_of_training code) later → (tail : List Piece) →
+pub starts : (code : ℕ) → is_training code ≡ true → (later : List Element) → IsClean (kind_of_training code) later → (tail : List Piece) →
     first_signal (pieces_of (later ++ Signal code ∷ []) ++ tail) ≡ octets_to_end (joined later) tail
 starts code t [] c tail = ap (λ (b : Bool). first_signal ((if b then Start (kind_of_training code) ∷ [] else []) ++ tail)) t
 starts code t (Field kind what o ∷ later) c tail =

@@ -10,6 +10,8 @@ use Rattle.fax_jobs.specs.declared.report.Report.{Report}
 use Rattle.fax_jobs.specs.ReportTexts.{report_text}
 use Rattle.fax_call.specs.Writings.{IsWriting, Writing}
 use Rattle.fax_gateway.specs.Events.{Event}
+use Rattle.fax_gateway.specs.declared.settings.Settings.{Settings}
+use Rattle.fax_gateway.specs.Setups.{AreSet, Setup}
 use Rattle.fax_gateway.specs.Sides.{book_of, sides}
 use Rattle.fax_gateway.specs.Traces.{IsTrace}
 use Rattle.fax_command.specs.declared.input_fault.InputFault.{InputFault}
@@ -26,11 +28,11 @@ page_options = record { format = record { width = width.W1728; fine = false }; c
 abbrev pub MeansPage : List ℕ → Type 0
 MeansPage input = (octets : List ℕ) × (rows : List Elements) × IsHexOf input octets × MeansRows (row_width page_options) page_options.coding octets rows
 
--- This is the first report of a gateway, behind some trace, or it has made none; and that is so whatever gives the texts of
--- pages.
-abbrev pub IsFirstReport : Option Report → Type 0
-IsFirstReport report = (writes : Writing) → IsWriting writes
-    → (trace : List Event) × IsTrace writes trace × (report ≡ slice_get (book_of (sides writes trace)).reports 0)
+-- This is the first report of a gateway with these settings, behind some trace, or it has made none; and that is so whatever
+-- gives the texts of pages.
+abbrev pub IsFirstReport : Settings → Option Report → Type 0
+IsFirstReport settings report = (setup : Setup) (writes : Writing) → AreSet setup settings → IsWriting writes
+    → (trace : List Event) × IsTrace setup writes trace × (report ≡ slice_get (book_of (sides setup writes trace)).reports 0)
 
 -- How a run ends: the gateway reports the job, and these rows are told, of which nothing is said here; it reports none; or
 -- something is wrong with the input, or memory is wanted.
@@ -39,10 +41,10 @@ pub data Outcome : Type 0 where
   ReportsNone : Outcome
   Refuses : (fault : InputFault) → Outcome
 
-abbrev pub Allows : List ℕ → Outcome → Type 0
-Allows input (Reports report rows) = MeansPage input × IsFirstReport (Some report)
-Allows input ReportsNone = MeansPage input × IsFirstReport None
-Allows input (Refuses fault) = RefusesPage page_options input fault
+abbrev pub Allows : Settings → List ℕ → Outcome → Type 0
+Allows settings input (Reports report rows) = MeansPage input × IsFirstReport settings (Some report)
+Allows settings input ReportsNone = MeansPage input × IsFirstReport settings None
+Allows settings input (Refuses fault) = RefusesPage page_options input fault
 
 abbrev pub job_status : JobOutcome → ℕ
 job_status job.Delivered = 0
@@ -66,9 +68,9 @@ IsTextOf (Reports report rows) text = (lines : List (List ℕ)) × TellRows line
 IsTextOf ReportsNone text = text ≡ []
 IsTextOf (Refuses fault) text = text ≡ fault_line fault
 
--- the exit status and the text that a run may answer to an input
-pub record Answers (input : List ℕ) (status : ℕ) (text : List ℕ) : Type 0 where
+-- the exit status and the text that a run with these settings may answer to an input
+pub record Answers (settings : Settings) (input : List ℕ) (status : ℕ) (text : List ℕ) : Type 0 where
   pub outcome : Outcome
-  pub allowed : Allows input outcome
+  pub allowed : Allows settings input outcome
   pub status_is : status ≡ status_of outcome
   pub text_is : IsTextOf outcome text

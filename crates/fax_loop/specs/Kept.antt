@@ -7,15 +7,17 @@ use Rattle.fax_call.specs.Writings.{IsWriting, Writing}
 use Rattle.fax_gateway.specs.Driving.{DriverValue, Entry, HasMade}
 use Rattle.fax_gateway.specs.Events.{Event}
 use Rattle.fax_gateway.specs.Reached.{GatewayValue, IsReachedBy}
+use Rattle.fax_gateway.specs.declared.settings.Settings.{Settings}
+use Rattle.fax_gateway.specs.Setups.{AreSet, Setup}
 use Rattle.fax_command.specs.RowLines.{TellRows, text_of_lines}
 use Rattle.fax_loop.specs.Answers.{job_status}
 use Rattle.fax_loop.specs.declared.answer.Answer.{Answer}
 use Rattle.fax_loop.specs.declared.answer.Answer.TheVariants as answer
 
--- A gateway that a trace led to is driven by what made all of some log.
-abbrev pub IsDriven : GatewayValue → DriverValue → Type 0
-IsDriven gateway driver = (writes : Writing) → IsWriting writes
-    → (trace : List Event) × (log : List Entry) × IsReachedBy writes trace gateway × HasMade log driver
+-- A gateway with these settings that a trace led to is driven by what made all of some log.
+abbrev pub IsDriven : Settings → GatewayValue → DriverValue → Type 0
+IsDriven settings gateway driver = (setup : Setup) (writes : Writing) → AreSet setup settings → IsWriting writes
+    → (trace : List Event) × (log : List Entry) × IsReachedBy setup writes trace gateway × HasMade log driver
 
 -- the rows of pages, one after the other
 abbrev pub rows_of : List PageValue → List Elements

@@ -1,6 +1,8 @@
 //! What is answered to an input.
 ghost use Rattle.std.specs.Prelude.{ℕ, ◌≡◌, List, false, OnOk, IfSome};
 ghost use Rattle.std.specs.Io.KnownBytes.{Appends};
+ghost use Rattle.fax_gateway.specs.declared.settings.Settings.{Settings as GatewaySettings};
+ghost use Rattle.fax_gateway.specs.Setups.{AreAllowed};
 ghost use Rattle.fax_command.specs.RowLines.{TellRows, text_of_lines};
 ghost use Rattle.fax_command.specs.Statuses.{status_code};
 ghost use Rattle.fax_command.specs.Streams.{failed_after_write};
@@ -14,6 +16,7 @@ use fax_command::{
     InputFault, MEMORY_LINE, Output, PageOptions, Sink, Status, WriteFault, page_of_hex,
     write_rows, write_text,
 };
+use fax_gateway::Settings;
 use fax_jobs::Outcome;
 use fax_pagestore::{Coding, Format, PackedRows, Page};
 use fax_runcodes::Width;
@@ -84,12 +87,18 @@ impl Answer {
     }
 }
 
-/// The answer to an input. `None`: a socket could not be made.
-pub(crate) fn answer_to<R: Net>(net: &R, alloc: Global, input: Vec<u8>) -> Option<Answer>
-    ensures { IfSome result (λ answer. (text : List ℕ) → IsAnswerText answer text → Answers input.items (status_of_answer answer) text) }
+/// The answer to an input, with these settings. `None`: a socket could not be made.
+pub(crate) fn answer_to<R: Net>(
+    net: &R,
+    alloc: Global,
+    input: Vec<u8>,
+    settings: Settings,
+) -> Option<Answer>
+    requires { AreAllowed settings }
+    ensures { IfSome result (λ answer. (text : List ℕ) → IsAnswerText answer text → Answers settings input.items (status_of_answer answer) text) }
 {
     match page_of_hex(alloc, input, GIVEN) {
-        Ok(page) => answer_to_page(net, alloc, page),
+        Ok(page) => answer_to_page(net, alloc, page, settings),
         Err(InputFault::NoMemory) => Some(Answer::NoMemory),
         Err(fault) => match fault.line(alloc) {
             Ok(line) => Some(Answer::Fault(line)),
@@ -99,10 +108,16 @@ pub(crate) fn answer_to<R: Net>(net: &R, alloc: Global, input: Vec<u8>) -> Optio
 }
 
 /// The answer to a page, which is sent.
-fn answer_to_page<R: Net>(net: &R, alloc: Global, page: Page<PackedRows>) -> Option<Answer>
-    ensures { IfSome result (λ answer. (input text : List ℕ) → MeansPage input → IsAnswerText answer text → Answers input (status_of_answer answer) text) }
+fn answer_to_page<R: Net>(
+    net: &R,
+    alloc: Global,
+    page: Page<PackedRows>,
+    settings: Settings,
+) -> Option<Answer>
+    requires { AreAllowed settings }
+    ensures { IfSome result (λ answer. (input text : List ℕ) → MeansPage input → IsAnswerText answer text → Answers settings input (status_of_answer answer) text) }
 {
-    match send_page(net, alloc, page) {
+    match send_page(net, alloc, page, settings) {
         Ok(ended) => Some(answer_of(alloc, ended)),
         Err(LoopError::NoMemory) => Some(Answer::NoMemory),
         Err(LoopError::Socket) => None,
@@ -111,8 +126,7 @@ fn answer_to_page<R: Net>(net: &R, alloc: Global, page: Page<PackedRows>) -> Opt
 
 /// The answer where a call ended so.
 fn answer_of(alloc: Global, ended: Ended) -> Answer
-    requires { IsFirstReport ended.report }
-    ensures { (input text : List ℕ) → MeansPage input → IsAnswerText result text → Answers input (status_of_answer result) text }
+    ensures { (set : GatewaySettings) (input text : List ℕ) → IsFirstReport set ended.report → MeansPage input → IsAnswerText result text → Answers set input (status_of_answer result) text }
 {
     let Some(report) = ended.report else {
         return Answer::Unreported;

@@ -1,4 +1,7 @@
 //! The machine that is called.
+ghost use Rattle.std.specs.Prelude.{◌≤◌};
+ghost use Rattle.fax_udptl.specs.Sending.{most_redundancy};
+
 use crate::exchange::{MOST_DATAGRAMS, MOST_OCTETS};
 use crate::link::Link;
 use fax_answer::{Answerer, State, Step};
@@ -17,9 +20,11 @@ pub(crate) struct AnsweringMachine<S: RowStore> {
 }
 
 impl<S: RowStore> AnsweringMachine<S> {
-    /// A machine that no datagram has reached.
-    pub fn new(alloc: Global, socket: UdpSocket) -> Result<Self, NoMemory> {
-        let link = Link::new(alloc, socket)?;
+    /// A machine that no datagram has reached, and whose own have this redundancy, at most 8.
+    pub fn new(alloc: Global, socket: UdpSocket, redundancy: u8) -> Result<Self, NoMemory>
+        requires { redundancy ≤ most_redundancy }
+    {
+        let link = Link::new(alloc, socket, redundancy)?;
         Ok(AnsweringMachine {
             answerer: Answerer::new(alloc),
             link,

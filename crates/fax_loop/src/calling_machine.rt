@@ -1,5 +1,6 @@
 //! The machine that calls.
-ghost use Rattle.std.specs.Prelude.{IfOk};
+ghost use Rattle.std.specs.Prelude.{◌≤◌, IfOk};
+ghost use Rattle.fax_udptl.specs.Sending.{most_redundancy};
 ghost use Rattle.fax_call.specs.Following.{IsJobOfCall};
 
 use crate::exchange::{MOST_DATAGRAMS, MOST_OCTETS};
@@ -19,15 +20,17 @@ pub(crate) struct CallingMachine {
 }
 
 impl CallingMachine {
-    /// A machine whose call begins at moment 0.
+    /// A machine whose call begins at moment 0, and whose datagrams have this redundancy, at most 8.
     pub fn new<S: RowStore>(
         alloc: Global,
         socket: UdpSocket,
         job: &Job<S>,
+        redundancy: u8,
     ) -> Result<Self, NoMemory>
+        requires { redundancy ≤ most_redundancy }
         ensures { IfOk result (λ machine. IsJobOfCall machine.caller.procedure job.now) }
     {
-        let link = Link::new(alloc, socket)?;
+        let link = Link::new(alloc, socket, redundancy)?;
         let mut caller = Caller::new(alloc);
         // what it ensures of the job is that it has a page
         let _ = job.pages();

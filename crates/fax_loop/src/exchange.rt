@@ -2,6 +2,8 @@
 ghost use Rattle.std.specs.Prelude.{List, IfOk, OnOk};
 ghost use Rattle.fax_call.specs.Following.{IsJobOfCall};
 ghost use Rattle.fax_call.specs.Writings.{Writing};
+ghost use Rattle.fax_gateway.specs.declared.settings.Settings.{Settings as GatewaySettings};
+ghost use Rattle.fax_gateway.specs.Setups.{AreAllowed, AreSet, Setup};
 ghost use Rattle.fax_gateway.specs.Events.{Event};
 ghost use Rattle.fax_gateway.specs.Reached.{IsReachedBy};
 ghost use Rattle.fax_loop.specs.Answers.{IsFirstReport};
@@ -12,7 +14,7 @@ use crate::calling_machine::CallingMachine;
 use crate::loop_error::LoopError;
 use crate::socket::socket_pair;
 use crate::udp_wire::UdpWire;
-use fax_gateway::{Driver, Gateway};
+use fax_gateway::{Driver, Gateway, Settings};
 use fax_jobs::{Job, Report};
 use fax_pagestore::{PackedRows, Page};
 use std::alloc::Global;
@@ -27,8 +29,8 @@ const ROUND_MS: u64 = 40;
 /// The most datagrams that a machine hears in a round.
 pub(crate) const MOST_DATAGRAMS: u8 = 16;
 
-/// The most octets of a datagram of the gateway: a packet of 100 octets, three of those before it, and their lengths.
-pub(crate) const MOST_OCTETS: usize = 512;
+/// The most octets of a datagram of the gateway: a packet of 100 octets, eight of those before it, and their lengths.
+pub(crate) const MOST_OCTETS: usize = 1024;
 
 /// How a call ended: what the gateway reported, where it did, and the pages that the called machine confirmed.
 #[derive(Drop)]
@@ -47,44 +49,53 @@ struct Exchange {
     answerer: AnsweringMachine<PackedRows>,
 }
 
-/// Sends a page from machine to machine, in rounds, until the gateway reports the job.
+/// Sends a page from machine to machine, in rounds, until the gateway reports the job. All three have these settings.
 pub(crate) fn send_page<R: Net>(
     net: &R,
     alloc: Global,
     page: Page<PackedRows>,
+    settings: Settings,
 ) -> Result<Ended, LoopError>
-    ensures { IfOk result (λ ended. IsFirstReport ended.report) }
+    requires { AreAllowed settings }
+    ensures { IfOk result (λ ended. IsFirstReport settings ended.report) }
 {
     let Ok(job) = Job::of_page(alloc, 0, page) else {
         return Err(LoopError::NoMemory);
     };
-    let mut exchange = Exchange::new(net, alloc, &job)?;
+    let mut exchange = Exchange::new(net, alloc, &job, settings)?;
     exchange.play(&job)?;
     Ok(exchange.end())
 }
 
-/// A gateway that rings at moment 0.
-fn rung_gateway(alloc: Global) -> Result<Gateway<PackedRows>, LoopError>
-    ensures { IfOk result (λ gateway. (writes : Writing) → (trace : List Event) × IsReachedBy writes trace gateway) }
+/// A gateway with these settings that rings at moment 0.
+fn rung_gateway(alloc: Global, settings: Settings) -> Result<Gateway<PackedRows>, LoopError>
+    requires { AreAllowed settings }
+    ensures { IfOk result (λ gateway. (setup : Setup) (writes : Writing) → AreSet setup settings → (trace : List Event) × IsReachedBy setup writes trace gateway) }
 {
-    let mut gateway = Gateway::new(alloc)?;
+    let mut gateway = Gateway::with_settings(alloc, settings)?;
     gateway.ring(0)?;
     Ok(gateway)
 }
 
 impl Exchange {
     /// The machines and the gateway, which rings at moment 0.
-    fn new<R: Net>(net: &R, alloc: Global, job: &Job<PackedRows>) -> Result<Self, LoopError>
+    fn new<R: Net>(
+        net: &R,
+        alloc: Global,
+        job: &Job<PackedRows>,
+        settings: Settings,
+    ) -> Result<Self, LoopError>
+        requires { AreAllowed settings }
         ensures job { IfOk result (λ exchange. IsJobOfCall exchange.caller.caller.procedure job.now) }
-        ensures driven { IfOk result (λ exchange. IsDriven exchange.gateway exchange.driver) }
+        ensures driven { IfOk result (λ exchange. IsDriven settings exchange.gateway exchange.driver) }
     {
         let (caller, calling) = socket_pair(net)?;
         let (called, answerer) = socket_pair(net)?;
         let wire = UdpWire::new(calling, called)?;
-        let caller = CallingMachine::new(alloc, caller, job)?;
-        let answerer = AnsweringMachine::new(alloc, answerer)?;
+        let caller = CallingMachine::new(alloc, caller, job, settings.redundancy)?;
+        let answerer = AnsweringMachine::new(alloc, answerer, settings.redundancy)?;
         let driver = Driver::new(alloc)?;
-        let gateway = rung_gateway(alloc)?;
+        let gateway = rung_gateway(alloc, settings)?;
         Ok(Exchange {
             caller,
             gateway,
@@ -96,9 +107,8 @@ impl Exchange {
 
     /// Plays rounds until the gateway has reported the job, its last 100 receives failed, or there were enough.
     fn play(&mut self, job: &Job<PackedRows>) -> Result<(), LoopError>
-        requires job { IsJobOfCall self.old.caller.caller.procedure job.now }
-        requires driven { IsDriven self.old.gateway self.old.driver }
-        ensures { OnOk result (IsDriven self.new.gateway self.new.driver) }
+        requires { IsJobOfCall self.old.caller.caller.procedure job.now }
+        ensures { OnOk result ((set : GatewaySettings) → IsDriven set self.old.gateway self.old.driver → IsDriven set self.new.gateway self.new.driver) }
     {
         for round in 0..MOST_ROUNDS {
             let goes_on = self.round(job, ROUND_MS * u64::from(round))?;
@@ -112,10 +122,9 @@ impl Exchange {
     /// A round: the machine that calls, the gateway's turn, and the machine that is called. It answers whether the gateway's
     /// last 100 receives did not all fail.
     fn round(&mut self, job: &Job<PackedRows>, now: u64) -> Result<bool, LoopError>
-        requires job { IsJobOfCall self.old.caller.caller.procedure job.now }
-        requires driven { IsDriven self.old.gateway self.old.driver }
+        requires { IsJobOfCall self.old.caller.caller.procedure job.now }
         ensures job { OnOk result (IsJobOfCall self.new.caller.caller.procedure job.now) }
-        ensures driven { OnOk result (IsDriven self.new.gateway self.new.driver) }
+        ensures driven { OnOk result ((set : GatewaySettings) → IsDriven set self.old.gateway self.old.driver → IsDriven set self.new.gateway self.new.driver) }
     {
         self.caller.round(job, now)?;
         let goes_on = self.driver.turn(&mut self.gateway, &mut self.wire, now);
@@ -125,8 +134,7 @@ impl Exchange {
 
     /// How it ended.
     fn end(self) -> Ended
-        requires { IsDriven self.gateway self.driver }
-        ensures { IsFirstReport result.report }
+        ensures { (set : GatewaySettings) → IsDriven set self.gateway self.driver → IsFirstReport set result.report }
     {
         Ended {
             report: self.gateway.report(0),

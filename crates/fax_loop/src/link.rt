@@ -1,5 +1,6 @@
 //! A machine's end of a leg.
 ghost use Rattle.std.specs.Prelude.{◌≤◌, length, IfSome};
+ghost use Rattle.fax_udptl.specs.Sending.{most_redundancy};
 
 use crate::socket::receive;
 use fax_bits::NoMemory;
@@ -16,9 +17,11 @@ pub(crate) struct Link {
 }
 
 impl Link {
-    /// An end over which nothing came or was sent.
-    pub fn new(alloc: Global, socket: UdpSocket) -> Result<Self, NoMemory> {
-        let sender = Sender::new(alloc)?;
+    /// An end over which nothing came or was sent; what is sent has this redundancy, at most 8.
+    pub fn new(alloc: Global, socket: UdpSocket, redundancy: u8) -> Result<Self, NoMemory>
+        requires { redundancy ≤ most_redundancy }
+    {
+        let sender = Sender::new(alloc, redundancy)?;
         Ok(Link {
             socket,
             receiver: Receiver::new(),

@@ -1,28 +1,33 @@
 //! A run of `faxgate loop`, over any streams.
 ghost use Rattle.std.specs.Prelude.{ℕ, List, ◌≡◌, ◌≢◌, ◌+◌, ◌<◌, ◌≤◌, ◌⊎◌, true, false, length, IfSome};
 ghost use Rattle.std.specs.Io.KnownBytes.{Appends, Keeps};
+ghost use Rattle.fax_gateway.specs.Setups.{AreAllowed};
 ghost use Rattle.fax_loop.specs.Answers.{Answers};
 
 use crate::answer::{Answer, answer_to};
 use fax_command::{
     InputError, MOST_AT_ONCE, MOST_OCTETS, MOST_READS, Sink, Source, Status, WriteFault, read_input,
 };
+use fax_gateway::Settings;
 use std::alloc::Global;
 use std::net::Net;
 
 /// Reads a page as hex text, sends it from one machine over a gateway to another, over sockets of the loopback interface,
 /// writes the line of the job and the rows that the called machine confirmed, and says with which exit status the process
-/// ends.
+/// ends. The gateway and both machines have these settings, of which the redundancy is at most 8.
 pub fn run_loop<R: Net, I: Source, O: Sink>(
     net: &R,
     alloc: Global,
     source: &mut I,
     sink: &mut O,
+    settings: Settings,
 ) -> u8
+    requires { AreAllowed settings }
+
     // Where the input is known, what is written is an answer to it, unless a read or a write failed, the input went past its
     // bound, or a socket could not be made.
     ensures answers { result ≢ 4 → IfSome (I.remaining source.old) (λ input. (text : List ℕ)
-        × Answers input result text × Appends (O.contents sink.old) (O.contents sink.new) text) }
+        × Answers settings input result text × Appends (O.contents sink.old) (O.contents sink.new) text) }
     ensures handed_on { result ≢ 4 → O.held_back sink.new ≡ false }
     ensures unwritten { result ≡ 4 → O.failed sink.new ≡ false → Keeps (O.contents sink.old) (O.contents sink.new) }
 
@@ -39,7 +44,7 @@ pub fn run_loop<R: Net, I: Source, O: Sink>(
     ensures failed_write { O.failed sink.old ≡ false → O.failed sink.new ≡ true → result ≡ 4 }
 {
     let answer = match read_input(alloc, source) {
-        Ok(input) => match answer_to(net, alloc, input) {
+        Ok(input) => match answer_to(net, alloc, input, settings) {
             Some(answer) => answer,
             None => return Status::Stream.code(),
         },

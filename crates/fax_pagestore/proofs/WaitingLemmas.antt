@@ -53,6 +53,10 @@ pub record AreHeld (octets : List ℕ) (bits : ℕ) : Type 0 where
   pub within : bits ≤ 8 * length octets
   pub padded : IsPadded octets (take bits (bits_of octets))
 
+pub nonempty : (bits : List Bool) → (bits ≡ [] → ⊥) → 1 ≤ length bits
+nonempty [] some = absurd (some refl)
+nonempty (b ∷ bits) some = omega arith
+
 pub length-held : (octets : List ℕ) (bits : ℕ) → bits ≤ 8 * length octets → length (take bits (bits_of octets)) ≡ bits
 length-held octets bits le = length-take-le bits (bits_of octets) (omega (arith, length-bits_of octets))
 

@@ -221,3 +221,8 @@ all_given page octets w end none has =
     let no_more : length has.text ≡ 0 = ap length no_text in
     let few = has.padded.1 in
     nil_from_length octets (omega arith)
+
+-- bits wait where so many were written, or where all is written and some was
+pub some_wait : (n : ℕ) (place : Place) (bits : List Bool) → 1 ≤ n → (8 * n ≤ length bits) ⊎ (place ≡ End) → (place ≡ End → bits ≡ [] → ⊥) → bits ≡ [] → ⊥
+some_wait n place bits some (inl enough) more none = let long : length bits ≡ 0 = ap length none in absurd (omega arith)
+some_wait n place bits some (inr end) more none = more end none

@@ -4,7 +4,7 @@ use Rattle.fax_runcodes.specs.Rows.{Elements}
 
 -- the most rows of a page (this project's profile)
 abbrev pub most_rows : ℕ
-most_rows = 20000
+most_rows = 65535
 
 -- rows that make a page of a width
 pub record AreRows (width : ℕ) (rows : List Elements) : Type 0 where

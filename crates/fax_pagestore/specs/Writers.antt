@@ -1,5 +1,5 @@
 -- Pages that are written as their octets are due: what a writer is, and which octets are left to it.
-use Rattle.std.specs.Prelude.{◌≡◌, ℕ, zero, suc, Bool, List, [], ◌++◌, Option, None, drop, slice_get}
+use Rattle.std.specs.Prelude.{◌≡◌, ◌≢◌, ℕ, zero, suc, Bool, List, [], ◌++◌, Option, None, drop, slice_get}
 use Rattle.fax_bits.specs.Laws.{AreOctets}
 use Rattle.fax_bits.specs.Writing.{IsPadded}
 use Rattle.fax_runcodes.specs.declared.format.Coding.{Coding}
@@ -37,6 +37,10 @@ pub record WriterValue : Type 0 where
   pub least : ℕ
   pub place : Place
   pub waiting : List Bool
+
+-- something is left to a writer: not all is written, or bits wait
+abbrev pub HasMore : WriterValue → Type 0
+HasMore writer = writer.place ≡ End → writer.waiting ≢ []
 
 -- Of the text of a page these octets are left, which a writer has not given yet.
 pub record HasLeft (page : PageValue) (octets : List ℕ) (writer : WriterValue) : Type 0 where

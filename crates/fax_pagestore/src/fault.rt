@@ -20,8 +20,8 @@ pub enum PageFault {
     /// Six EOLs in a row and no line before them.
     #[error("no line")]
     Empty,
-    /// A line begins behind 20,000 rows.
-    #[error("more than 20,000 rows")]
+    /// A line begins behind 65,535 rows.
+    #[error("more than 65,535 rows")]
     TooManyRows,
     #[error("out of memory")]
     NoMemory,

@@ -15,7 +15,7 @@ mod writing;
 pub use fault::PageFault;
 pub use fax_runcodes::{Coding, Format};
 pub use reader::{Mark, PageReader};
-pub use reading::read_page;
+pub use reading::{MOST_ROWS, read_page};
 pub use store::{PackedRows, Page, PlainRows, RowStore};
 pub use writer::PageWriter;
 pub use writing::write_page;

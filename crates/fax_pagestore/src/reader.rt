@@ -4,6 +4,7 @@ ghost use Rattle.fax_bits.specs.Bits.{bits_of};
 ghost use Rattle.fax_bits.specs.Reading.{Passes};
 ghost use Rattle.fax_runcodes.specs.Rows.{Elements};
 ghost use Rattle.fax_runcodes.specs.Widths.{elements_of};
+ghost use Rattle.fax_pagestore.specs.PageRows.{most_rows};
 ghost use Rattle.fax_pagestore.specs.Pages.{PageValue};
 ghost use Rattle.fax_pagestore.specs.PageTexts.{ReadSoFar, MeansRows, MeansPage, SpellsRow};
 ghost use Rattle.fax_pagestore.specs.PageFaults.{FailsPage, FailsRow, LineBegins, Stops, WantsLine, last_of};
@@ -94,13 +95,14 @@ impl<S: RowStore> Model for PageReader<S> {
     ghost use Rattle.fax_bits.specs.Bits.{bits_of};
     ghost use Rattle.fax_runcodes.specs.Widths.{elements_of};
     ghost use Rattle.fax_pagestore.specs.declared.reader.Settled.TheVariants.{Page};
+    ghost use Rattle.fax_pagestore.specs.PageRows.{most_rows};
     ghost use Rattle.fax_pagestore.specs.Readers.{ReaderValue};
 
     ghost Value = { ReaderValue };
 
     ghost view = { λ r. record { format = r.format; coding = r.coding; rows = S.rows r.rows; tag = r.tag; left = drop r.used (bits_of r.octets.items); settled = r.settled } };
 
-    ghost invariant = { λ r. (r.used ≤ 8 * length r.octets.items) × (length (S.rows r.rows) ≤ 20000)
+    ghost invariant = { λ r. (r.used ≤ 8 * length r.octets.items) × (length (S.rows r.rows) ≤ most_rows)
         × All (λ row. length row ≡ elements_of r.format.width) (S.rows r.rows) × (r.settled ≡ Some Page → 0 < length (S.rows r.rows)) };
 }
 
@@ -337,12 +339,12 @@ fn read_up_to<S: RowStore>(
     end: usize,
 ) -> Result<Reached, NoMemory>
     requires used { used ≤ 8 * length octets.now }
-    requires few { length (S.rows rows.old) ≤ 20000 }
+    requires few { length (S.rows rows.old) ≤ most_rows }
     requires each { All (λ row. length row ≡ elements_of width) (S.rows rows.old) }
     requires within { end ≤ length octets.now }
     requires end { HoldsEol (drop (8 * end) (bits_of octets.now)) → ⊥ }
     ensures same { (more : List Elements) × (S.rows rows.new ≡ S.rows rows.old ++ more) }
-    ensures few { length (S.rows rows.new) ≤ 20000 }
+    ensures few { length (S.rows rows.new) ≤ most_rows }
     ensures each { All (λ row. length row ≡ elements_of width) (S.rows rows.new) }
     ensures place { IfOk result (λ reached. reached.place ≤ 8 * length octets.now) }
     ensures some { IfOk result (λ reached. reached.settled ≡ Some Settled.Page → 0 < length (S.rows rows.new)) }
@@ -423,11 +425,11 @@ fn read_next<S: RowStore>(
     coding: Coding,
     tag: bool,
 ) -> Result<Next, NoMemory>
-    requires few { length (S.rows rows.old) ≤ 20000 }
+    requires few { length (S.rows rows.old) ≤ most_rows }
     requires each { All (λ row. length row ≡ elements_of width) (S.rows rows.old) }
     requires kept { tag ≡ false → 0 < length (S.rows rows.old) → last_of (S.rows rows.old) ≡ Some kept.old }
     ensures row { (next : Bool) → result ≡ Ok (Next.Row next) → ReadsOne coding (elements_of width) tag next (S.rows rows.old) (S.rows rows.new) reader.old reader.new }
-    ensures room { (next : Bool) → result ≡ Ok (Next.Row next) → length (S.rows rows.old) < 20000 }
+    ensures room { (next : Bool) → result ≡ Ok (Next.Row next) → length (S.rows rows.old) < most_rows }
     ensures kept { (next : Bool) → result ≡ Ok (Next.Row next) → next ≡ false → last_of (S.rows rows.new) ≡ Some kept.new }
     ensures no_line { result ≡ Ok Next.NoLine → LineBegins reader.old.left → ⊥ }
     ensures none { result ≡ Ok Next.NoLine → (S.rows rows.new ≡ S.rows rows.old) × (reader.new ≡ reader.old) }
@@ -486,10 +488,10 @@ fn read_rows_on<S: RowStore>(
     first: bool,
     end: u128,
 ) -> Result<Halt, NoMemory>
-    requires few { length (S.rows rows.old) ≤ 20000 }
+    requires few { length (S.rows rows.old) ≤ most_rows }
     requires each { All (λ row. length row ≡ elements_of width) (S.rows rows.old) }
     ensures same { (more : List Elements) × (S.rows rows.new ≡ S.rows rows.old ++ more) }
-    ensures few { length (S.rows rows.new) ≤ 20000 }
+    ensures few { length (S.rows rows.new) ≤ most_rows }
     ensures each { All (λ row. length row ≡ elements_of width) (S.rows rows.new) }
     ensures read { IfOk result (λ halt. (octets : List ℕ) → ReadSoFar coding (elements_of width) octets (S.rows rows.old) 0 first reader.old.left
         → ReadSoFar coding (elements_of width) octets (S.rows rows.new) 0 halt.tag reader.new.left) }
@@ -547,7 +549,7 @@ fn settle<S: RowStore>(
     coding: Coding,
     halt: &Halt,
 ) -> Option<Settled>
-    requires few { length (S.rows rows.now) ≤ 20000 }
+    requires few { length (S.rows rows.now) ≤ most_rows }
     requires each { All (λ row. length row ≡ elements_of width) (S.rows rows.now) }
     requires no_line { halt.now.stop ≡ Stop.NoLine → LineBegins reader.old.left → ⊥ }
     requires stops { (fault : PageFault) → halt.now.stop ≡ Stop.Fault fault → Stops coding (elements_of width) (S.rows rows.now) 0 halt.now.tag reader.old.left fault }
@@ -614,10 +616,10 @@ fn stays_bad<S: RowStore>(
 /// is not whole.
 fn pass_end(reader: &mut BitReader, coding: Coding, tag: bool, count: u32) -> Option<Settled>
     requires no_line { LineBegins reader.old.left → ⊥ }
-    ensures settled { IfSome result (λ what. (width : ℕ) (octets more : List ℕ) (rows : List Elements) → count ≡ length rows → length rows ≤ 20000
+    ensures settled { IfSome result (λ what. (width : ℕ) (octets more : List ℕ) (rows : List Elements) → count ≡ length rows → length rows ≤ most_rows
         → ReadSoFar coding width octets rows 0 tag reader.old.left → AreJudged coding width (octets ++ more) rows (fault_of what)) }
     ensures some { result ≡ Some Settled.Page → 0 < count }
-    ensures none { IsNone result → (width : ℕ) (octets : List ℕ) (rows : List Elements) → count ≡ length rows → length rows ≤ 20000
+    ensures none { IsNone result → (width : ℕ) (octets : List ℕ) (rows : List Elements) → count ≡ length rows → length rows ≤ most_rows
         → ReadSoFar coding width octets rows 0 tag reader.old.left → FailsPage width coding octets PageFault.NoRtc }
 {
     match pass_return_to_control(reader, coding, tag) {
@@ -639,7 +641,7 @@ fn judge<S: RowStore>(
     tag: Option<bool>,
 ) -> Option<PageFault>
     requires used { used ≤ 8 * length octets.now }
-    requires few { length (S.rows rows.now) ≤ 20000 }
+    requires few { length (S.rows rows.now) ≤ most_rows }
     requires each { All (λ row. length row ≡ elements_of width) (S.rows rows.now) }
     ensures judged { (all : List ℕ) → IsReadUpTo coding (elements_of width) all (S.rows rows.now) tag (drop used (bits_of octets.now))
         → NoMoreIsWhole coding (elements_of width) (S.rows rows.now) tag (drop used (bits_of octets.now)) → AreJudged coding (elements_of width) all (S.rows rows.now) result }
@@ -673,7 +675,7 @@ fn judge_line<S: RowStore>(
 ) -> PageFault
     requires each { All (λ row. length row ≡ elements_of width) (S.rows rows.now) }
     requires begins { LineBegins reader.old.left }
-    requires few { length (S.rows rows.now) < 20000 }
+    requires few { length (S.rows rows.now) < most_rows }
     ensures { (BeginsRow coding (elements_of width) tag (last_of (S.rows rows.now)) reader.old.left → ⊥) → Stops coding (elements_of width) (S.rows rows.now) 0 tag reader.old.left result }
 {
     match pass_line(rows, reader, width, tag) {

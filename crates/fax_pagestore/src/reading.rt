@@ -21,7 +21,7 @@ use std::alloc::Global;
 use std::mem;
 
 /// The most rows of a page (this project's profile).
-pub(crate) const MOST_ROWS: u32 = 20_000;
+pub const MOST_ROWS: u32 = 65_535;
 
 /// The fewest zeros before the 1 of an EOL (ITU-T T.4, 4.1.2).
 const EOL_ZEROS: u32 = 11;

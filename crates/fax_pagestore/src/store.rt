@@ -102,7 +102,7 @@ impl RowStore for PlainRows {
     }
 }
 
-/// A page: a format, and 1 to 20,000 rows of its width. Seen as these, whatever the store.
+/// A page: a format, and 1 to 65,535 rows of its width. Seen as these, whatever the store.
 #[derive(Drop)]
 pub struct Page<S: RowStore> {
     format: Format,

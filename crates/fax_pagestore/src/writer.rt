@@ -1,9 +1,9 @@
 //! Pages written as their octets are due.
-ghost use Rattle.std.specs.Prelude.{ℕ, List, [], ◌≡◌, ◌<◌, ◌≤◌, ◌+◌, ◌*◌, ◌⊎◌, ◌↔◌, ◌≢◌, ◌++◌, take, drop, length, IfOk, OnOk, OnErr, IsTrue};
+ghost use Rattle.std.specs.Prelude.{ℕ, List, false, [], ◌≡◌, ◌<◌, ◌≤◌, ◌+◌, ◌*◌, ◌⊎◌, ◌↔◌, ◌≢◌, ◌++◌, take, drop, length, IfOk, OnOk, OnErr, IsTrue};
 ghost use Rattle.fax_bits.specs.Laws.{AreOctets};
 ghost use Rattle.fax_bits.specs.Writing.{IsPadded};
 ghost use Rattle.fax_pagestore.specs.Pages.{PageValue};
-ghost use Rattle.fax_pagestore.specs.Writers.{IsTextOf, HasLeft, WritesOn};
+ghost use Rattle.fax_pagestore.specs.Writers.{IsTextOf, HasLeft, HasMore, WritesOn};
 
 mod waiting;
 
@@ -50,7 +50,8 @@ impl PageWriter {
     /// A writer of a page of this format, of which nothing is given. The least number of bits is that of a
     /// line with its fill and its EOL.
     pub fn new(alloc: Global, format: Format, coding: Coding, least_bits: u32) -> Self
-        ensures { (page : PageValue) (octets : List ℕ) → page.format ≡ format → IsTextOf page coding least_bits octets → HasLeft page octets result }
+        ensures left { (page : PageValue) (octets : List ℕ) → page.format ≡ format → IsTextOf page coding least_bits octets → HasLeft page octets result }
+        ensures more { HasMore result }
     {
         PageWriter {
             format,
@@ -61,11 +62,13 @@ impl PageWriter {
         }
     }
 
-    /// The next n octets of the page's text, fewer at its end. The page is the same each time: of another
-    /// page nothing is said. An `Err` changes nothing.
+    /// The next n octets of the page's text, fewer at its end, and one at least where it has not ended. The page is the
+    /// same each time: of another page nothing else is said. An `Err` changes nothing.
     pub fn next<S: RowStore>(&mut self, page: &Page<S>, n: usize) -> Result<Octets, NoMemory>
         ensures given { IfOk result (λ given. (octets : List ℕ) → HasLeft page.now octets self.old → given ≡ take n octets) }
         ensures left { OnOk result ((octets : List ℕ) → HasLeft page.now octets self.old → HasLeft page.now (drop n octets) self.new) }
+        ensures few { IfOk result (λ given. length given ≤ n) }
+        ensures some { IfOk result (λ given. 1 ≤ n → HasMore self.old → 1 ≤ length given) }
         ensures err { OnErr result (self.new ≡ self.old) }
     {
         let wanted = 8 * n as u128;
@@ -79,7 +82,8 @@ impl PageWriter {
 
     /// Whether no octet of the text is left.
     pub fn ended(&self) -> bool
-        ensures { (page : PageValue) (octets : List ℕ) → HasLeft page octets self.now → IsTrue result ↔ (octets ≡ []) }
+        ensures left { (page : PageValue) (octets : List ℕ) → HasLeft page octets self.now → IsTrue result ↔ (octets ≡ []) }
+        ensures more { result ≡ false → HasMore self.now }
     {
         matches!(self.place, Place::End) && self.waiting.bits() == 0
     }
@@ -88,6 +92,8 @@ impl PageWriter {
     fn write_and_give<S: RowStore>(&mut self, page: &Page<S>, n: usize) -> Result<Octets, NoMemory>
         ensures given { IfOk result (λ given. (octets : List ℕ) → HasLeft page.now octets self.old → given ≡ take n octets) }
         ensures left { OnOk result ((octets : List ℕ) → HasLeft page.now octets self.old → HasLeft page.now (drop n octets) self.new) }
+        ensures few { IfOk result (λ given. length given ≤ n) }
+        ensures some { IfOk result (λ given. 1 ≤ n → HasMore self.old → 1 ≤ length given) }
         ensures err { OnErr result (self.new ≡ self.old) }
     {
         let mut writer = self.waiting.to_writer()?;
@@ -109,6 +115,7 @@ impl PageWriter {
     ) -> Result<Place, NoMemory>
         ensures on { IfOk result (λ place. WritesOn self.now.coding self.now.least page.now self.now.place place writer.old writer.new) }
         ensures enough { IfOk result (λ place. (wanted ≤ length writer.new) ⊎ (place ≡ Place.End)) }
+        ensures more { IfOk result (λ place. (self.now.place ≡ Place.End → writer.old ≢ []) → place ≡ Place.End → writer.new ≢ []) }
     {
         let mut place = self.place;
         while writer.bits() < wanted {

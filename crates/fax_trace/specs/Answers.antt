@@ -1,6 +1,8 @@
 -- What `faxgate trace` answers to an input. (This project's profile.)
 use Rattle.std.specs.Prelude.{◌≡◌, ℕ, ◌+◌, List, [], ◌∷◌, ◌++◌, length, codes, decimal, Result, Ok, Err}
 use Rattle.fax_call.specs.Writings.{IsWriting, Writing}
+use Rattle.fax_gateway.specs.declared.settings.Settings.{Settings}
+use Rattle.fax_gateway.specs.Setups.{AreSet, Setup}
 use Rattle.fax_gateway.specs.Traces.{IsTrace}
 use Rattle.fax_command.specs.RowLines.{lines_of, text_of_lines}
 use Rattle.fax_trace.specs.declared.event.ScriptEvent.{ScriptEvent}
@@ -34,15 +36,15 @@ Ends behind others (Err NoMemory) = Unit {0}
 
 -- A new gateway answers the events by a trace, where this function gives the texts of pages, and the text has the lines that
 -- are told of them, and these last ones behind.
-pub record AreTold (writes : Writing) (events : List ScriptEvent) (last : List (List ℕ)) (text : List ℕ) : Type 0 where
+pub record AreTold (setup : Setup) (writes : Writing) (events : List ScriptEvent) (last : List (List ℕ)) (text : List ℕ) : Type 0 where
   pub played : Played
-  pub is_played : PlaysAll nothing_played events played
-  pub is_trace : IsTrace writes played.trace
+  pub is_played : PlaysAll setup nothing_played events played
+  pub is_trace : IsTrace setup writes played.trace
   pub text_is : text ≡ text_of_lines (played.lines ++ last)
 
--- The exit status and the text that a run may answer to an input: the events of its lines are played, up to where that
+-- The exit status and the text that a run with these settings may answer to an input: the events of its lines are played, up to where that
 -- ends, and told, with the line of a fault that ends it; and that is so whatever gives the texts of pages.
-pub record Answers (input : List ℕ) (status : ℕ) (text : List ℕ) : Type 0 where
+pub record Answers (settings : Settings) (input : List ℕ) (status : ℕ) (text : List ℕ) : Type 0 where
   pub before : List (List ℕ)
   pub others : List (List ℕ)
   pub lines_are : lines_of input ≡ before ++ others
@@ -51,4 +53,4 @@ pub record Answers (input : List ℕ) (status : ℕ) (text : List ℕ) : Type 0 
   pub outcome : Outcome
   pub ends : Ends (length before) others outcome
   pub status_is : status ≡ status_of outcome
-  pub told : (writes : Writing) → IsWriting writes → AreTold writes events (fault_lines outcome) text
+  pub told : (setup : Setup) (writes : Writing) → AreSet setup settings → IsWriting writes → AreTold setup writes events (fault_lines outcome) text

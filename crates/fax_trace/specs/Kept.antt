@@ -1,6 +1,8 @@
 -- What a player and an answer hold of what was played.
 use Rattle.std.specs.Prelude.{◌≡◌, ℕ, List, [], ◌++◌, length, codes}
 use Rattle.fax_call.specs.Writings.{IsWriting, Writing}
+use Rattle.fax_gateway.specs.declared.settings.Settings.{Settings}
+use Rattle.fax_gateway.specs.Setups.{AreSet, Setup}
 use Rattle.fax_gateway.specs.Reached.{IsReachedBy}
 use Rattle.fax_command.specs.RowLines.{lines_of, text_of_lines}
 use Rattle.fax_trace.specs.declared.event.ScriptEvent.{ScriptEvent}
@@ -12,30 +14,30 @@ use Rattle.fax_trace.specs.Playing.{Played, Plays, nothing_played}
 use Rattle.fax_trace.specs.Answers.{Outcome, Ends, AreTold}
 
 -- this was played on its gateway, and told in its text
-pub record IsPlaying (writes : Writing) (played : Played) (player : Player) : Type 0 where
-  pub reached : IsReachedBy writes played.trace player.gateway
+pub record IsPlaying (setup : Setup) (writes : Writing) (played : Played) (player : Player) : Type 0 where
+  pub reached : IsReachedBy setup writes played.trace player.gateway
   pub at : player.moment ≡ played.moment
   pub told : player.text.items ≡ text_of_lines played.lines
 
 -- one event more
-pub record PlaysOn (writes : Writing) (old : Played) (event : ScriptEvent) (player : Player) : Type 0 where
+pub record PlaysOn (setup : Setup) (writes : Writing) (old : Played) (event : ScriptEvent) (player : Player) : Type 0 where
   pub new : Played
-  pub plays : Plays old event new
-  pub is_playing : IsPlaying writes new player
+  pub plays : Plays setup old event new
+  pub is_playing : IsPlaying setup writes new player
 
 -- nothing was played
 abbrev pub IsNew : Player → Type 0
-IsNew player = (writes : Writing) → IsPlaying writes nothing_played player
+IsNew player = (setup : Setup) (writes : Writing) → AreSet setup player.gateway.settings → IsPlaying setup writes nothing_played player
 
 -- the lines of a script were played up to where playing ended, and told in a text
-pub record HasPlayed (script : List ℕ) (outcome : Outcome) (text : List ℕ) : Type 0 where
+pub record HasPlayed (settings : Settings) (script : List ℕ) (outcome : Outcome) (text : List ℕ) : Type 0 where
   pub before : List (List ℕ)
   pub others : List (List ℕ)
   pub lines_are : lines_of script ≡ before ++ others
   pub events : List ScriptEvent
   pub tell : TellEvents before events
   pub ends : Ends (length before) others outcome
-  pub told : (writes : Writing) → IsWriting writes → AreTold writes events [] text
+  pub told : (setup : Setup) (writes : Writing) → AreSet setup settings → IsWriting writes → AreTold setup writes events [] text
 
 -- the exit status and the text of an answer
 abbrev pub status_of_answer : Answer → ℕ

@@ -2,6 +2,7 @@
 use Rattle.std.specs.Prelude.{◌≡◌, ℕ, ◌≤◌, ◌⊎◌, true, false, List, [], ◌∷◌, ◌++◌, codes}
 use Rattle.fax_gateway.specs.Events.{Event, Ring, FromCalling, FromCalled, Tick, moment_of, rings}
 use Rattle.fax_gateway.specs.CallingLegs.{calling_leg, idle_after}
+use Rattle.fax_gateway.specs.Setups.{Setup}
 use Rattle.fax_trace.specs.declared.event.ScriptEvent.{ScriptEvent}
 use Rattle.fax_trace.specs.declared.event.ScriptEvent.TheVariants as script
 use Rattle.fax_trace.specs.Told.{lines_told}
@@ -36,23 +37,23 @@ pub record Accepts (old : Played) (event : ScriptEvent) (new : Played) : Type 0 
   pub new_is : new ≡ record { trace = accepted ∷ old.trace; moment = moment_of accepted; lines = old.lines ++ lines_told accepted }
 
 -- why a ring is refused, as its line says: a call is on; or none is, and no number is left
-abbrev pub IsRefusal : List Event → List ℕ → Type 0
-IsRefusal trace line =
-    ((idle_after (calling_leg trace) ≡ false) × (line ≡ codes "ring refused 1 Busy"))
-    ⊎ ((idle_after (calling_leg trace) ≡ true) × (4294967296 ≤ rings trace) × (line ≡ codes "ring refused 2 NoNumber"))
+abbrev pub IsRefusal : Setup → List Event → List ℕ → Type 0
+IsRefusal setup trace line =
+    ((idle_after (calling_leg setup trace) ≡ false) × (line ≡ codes "ring refused 1 Busy"))
+    ⊎ ((idle_after (calling_leg setup trace) ≡ true) × (4294967296 ≤ rings trace) × (line ≡ codes "ring refused 2 NoNumber"))
 
 -- It refuses a ring: nothing changes, and the cause is told.
-pub record Refuses (old : Played) (event : ScriptEvent) (new : Played) : Type 0 where
+pub record Refuses (setup : Setup) (old : Played) (event : ScriptEvent) (new : Played) : Type 0 where
   pub line : List ℕ
   pub is_ring : event ≡ script.Ring
-  pub cause : IsRefusal old.trace line
+  pub cause : IsRefusal setup old.trace line
   pub new_is : new ≡ record { trace = old.trace; moment = old.moment; lines = old.lines ++ line ∷ [] }
 
 -- one event
-abbrev pub Plays : Played → ScriptEvent → Played → Type 0
-Plays old event new = Accepts old event new ⊎ Refuses old event new
+abbrev pub Plays : Setup → Played → ScriptEvent → Played → Type 0
+Plays setup old event new = Accepts old event new ⊎ Refuses setup old event new
 
 -- all of them
-abbrev pub PlaysAll : Played → List ScriptEvent → Played → Type 0
-PlaysAll old [] new = new ≡ old
-PlaysAll old (event ∷ events) new = (next : Played) × Plays old event next × PlaysAll next events new
+abbrev pub PlaysAll : Setup → Played → List ScriptEvent → Played → Type 0
+PlaysAll setup old [] new = new ≡ old
+PlaysAll setup old (event ∷ events) new = (next : Played) × Plays setup old event next × PlaysAll setup next events new

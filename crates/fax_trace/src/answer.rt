@@ -1,6 +1,7 @@
 //! What is answered to a script.
 ghost use Rattle.std.specs.Prelude.{ℕ, ◌≡◌, ◌++◌, false, List, Err, OnOk, OnErr};
 ghost use Rattle.std.specs.Io.KnownBytes.{Appends};
+ghost use Rattle.fax_gateway.specs.Setups.{AreAllowed};
 ghost use Rattle.fax_command.specs.Statuses.{status_code};
 ghost use Rattle.fax_command.specs.Streams.{failed_after_write};
 ghost use Rattle.fax_command.specs.RowLines.{text_of_lines};
@@ -13,6 +14,7 @@ use crate::script_fault::ScriptFault;
 use crate::told::numbered_line;
 use fax_bits::NoMemory;
 use fax_command::{MEMORY_LINE, Sink, Status, WriteFault, first_line, write_text};
+use fax_gateway::Settings;
 use std::alloc::Global;
 
 /// What a run answers: the lines of what was played, with the line of the fault that ended it.
@@ -53,10 +55,11 @@ impl Answer {
 }
 
 /// The answer to a script.
-pub(crate) fn answer_to(alloc: Global, script: &[u8]) -> Answer
-    ensures { Answers script.now (status_of_answer result) (text_of_answer result) }
+pub(crate) fn answer_to(alloc: Global, script: &[u8], settings: Settings) -> Answer
+    requires { AreAllowed settings }
+    ensures { Answers settings script.now (status_of_answer result) (text_of_answer result) }
 {
-    let Ok(mut player) = Player::new(alloc) else {
+    let Ok(mut player) = Player::new(alloc, settings) else {
         return Answer::NoMemory(Vec::new(alloc));
     };
     let outcome = play_lines(alloc, &mut player, script);
@@ -74,7 +77,7 @@ pub(crate) fn answer_to(alloc: Global, script: &[u8]) -> Answer
 /// Plays the lines of a script, up to the first that has a fault.
 fn play_lines(alloc: Global, player: &mut Player, script: &[u8]) -> Result<(), ScriptFault>
     requires { IsNew player.old }
-    ensures { HasPlayed script.now result player.new.text.items }
+    ensures { HasPlayed player.old.gateway.settings script.now result player.new.text.items }
 {
     let mut rest = script;
     let mut number = 0;

@@ -1,14 +1,15 @@
 //! The playing of a script, event by event.
 ghost use Rattle.std.specs.Prelude.{ℕ, ◌≡◌, List, [], IfOk, OnOk, OnErr};
 ghost use Rattle.fax_call.specs.Writings.{IsWriting, Writing};
+ghost use Rattle.fax_gateway.specs.Setups.{AreAllowed, Setup};
 ghost use Rattle.fax_trace.specs.declared.event.ScriptEvent.TheVariants as script;
-ghost use Rattle.fax_trace.specs.Playing.{Played, nothing_played};
-ghost use Rattle.fax_trace.specs.Kept.{IsPlaying, PlaysOn};
+ghost use Rattle.fax_trace.specs.Playing.{Played};
+ghost use Rattle.fax_trace.specs.Kept.{IsNew, IsPlaying, PlaysOn};
 
 use crate::event::ScriptEvent;
 use crate::told::{lines_of_given, numbered_line};
 use fax_bits::NoMemory;
-use fax_gateway::{Gateway, RingFault};
+use fax_gateway::{Gateway, RingFault, Settings};
 use fax_pagestore::PackedRows;
 use std::alloc::Global;
 
@@ -23,11 +24,13 @@ pub(crate) struct Player {
 }
 
 impl Player {
-    /// A player that has played nothing.
-    pub fn new(alloc: Global) -> Result<Self, NoMemory>
-        ensures { IfOk result (λ player. (writes : Writing) → IsPlaying writes nothing_played player) }
+    /// A player that has played nothing, on a gateway with these settings.
+    pub fn new(alloc: Global, settings: Settings) -> Result<Self, NoMemory>
+        requires { AreAllowed settings }
+        ensures new { IfOk result (λ player. IsNew player) }
+        ensures settings { IfOk result (λ player. player.gateway.settings ≡ settings) }
     {
-        let gateway = Gateway::new(alloc)?;
+        let gateway = Gateway::with_settings(alloc, settings)?;
         Ok(Player {
             alloc,
             gateway,
@@ -38,8 +41,8 @@ impl Player {
 
     /// Plays an event, and tells what the gateway answers. An `Err` leaves the text as it was.
     pub fn play(&mut self, event: ScriptEvent) -> Result<(), NoMemory>
-        ensures played { OnOk result ((writes : Writing) (old : Played) → IsWriting writes → IsPlaying writes old self.old
-            → PlaysOn writes old event self.new) }
+        ensures played { OnOk result ((setup : Setup) (writes : Writing) (old : Played) → IsWriting writes → IsPlaying setup writes old self.old
+            → PlaysOn setup writes old event self.new) }
         ensures err { OnErr result (self.new.text.items ≡ self.old.text.items) }
     {
         match event {
@@ -59,8 +62,8 @@ impl Player {
 
     /// It rings at the moment of the last tick.
     fn ring(&mut self) -> Result<(), NoMemory>
-        ensures played { OnOk result ((writes : Writing) (old : Played) → IsPlaying writes old self.old
-            → PlaysOn writes old script.Ring self.new) }
+        ensures played { OnOk result ((setup : Setup) (writes : Writing) (old : Played) → IsPlaying setup writes old self.old
+            → PlaysOn setup writes old script.Ring self.new) }
         ensures err { OnErr result (self.new.text.items ≡ self.old.text.items) }
     {
         match self.gateway.ring(self.moment) {
@@ -77,8 +80,8 @@ impl Player {
 
     /// The octets of a datagram come on the calling leg, at the moment of the last tick.
     fn hear_calling(&mut self, octets: &[u8]) -> Result<(), NoMemory>
-        ensures played { OnOk result ((writes : Writing) (old : Played) → IsPlaying writes old self.old
-            → PlaysOn writes old (script.FromCalling octets.now) self.new) }
+        ensures played { OnOk result ((setup : Setup) (writes : Writing) (old : Played) → IsPlaying setup writes old self.old
+            → PlaysOn setup writes old (script.FromCalling octets.now) self.new) }
         ensures err { OnErr result (self.new.text.items ≡ self.old.text.items) }
     {
         self.gateway.from_calling(octets, self.moment)?;
@@ -87,8 +90,8 @@ impl Player {
 
     /// The same on the called leg.
     fn hear_called(&mut self, octets: &[u8]) -> Result<(), NoMemory>
-        ensures played { OnOk result ((writes : Writing) (old : Played) → IsPlaying writes old self.old
-            → PlaysOn writes old (script.FromCalled octets.now) self.new) }
+        ensures played { OnOk result ((setup : Setup) (writes : Writing) (old : Played) → IsPlaying setup writes old self.old
+            → PlaysOn setup writes old (script.FromCalled octets.now) self.new) }
         ensures err { OnErr result (self.new.text.items ≡ self.old.text.items) }
     {
         self.gateway.from_called(octets, self.moment)?;
@@ -97,8 +100,8 @@ impl Player {
 
     /// Time goes on to a moment.
     fn tick(&mut self, moment: u64) -> Result<(), NoMemory>
-        ensures played { OnOk result ((writes : Writing) (old : Played) → IsWriting writes → IsPlaying writes old self.old
-            → PlaysOn writes old (script.Tick moment) self.new) }
+        ensures played { OnOk result ((setup : Setup) (writes : Writing) (old : Played) → IsWriting writes → IsPlaying setup writes old self.old
+            → PlaysOn setup writes old (script.Tick moment) self.new) }
         ensures err { OnErr result (self.new.text.items ≡ self.old.text.items) }
     {
         let given = self.gateway.tick(moment)?;

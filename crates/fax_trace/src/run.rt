@@ -1,21 +1,30 @@
 //! A run of `faxgate trace`, over any streams.
 ghost use Rattle.std.specs.Prelude.{ℕ, List, ◌≡◌, ◌≢◌, ◌+◌, ◌<◌, ◌≤◌, ◌⊎◌, true, false, length, IfSome};
 ghost use Rattle.std.specs.Io.KnownBytes.{Appends, Keeps};
+ghost use Rattle.fax_gateway.specs.Setups.{AreAllowed};
 ghost use Rattle.fax_trace.specs.Answers.{Answers};
 
 use crate::answer::{Answer, answer_to};
 use fax_command::{
     InputError, MOST_AT_ONCE, MOST_OCTETS, MOST_READS, Sink, Source, Status, WriteFault, read_input,
 };
+use fax_gateway::Settings;
 use std::alloc::Global;
 
-/// Reads a script whole, plays it on a new gateway, writes what is told of it and nothing else, and says with which exit
-/// status the process ends.
-pub fn run_trace<I: Source, O: Sink>(alloc: Global, source: &mut I, sink: &mut O) -> u8
+/// Reads a script whole, plays it on a new gateway with these settings, of which the redundancy is at most 8, writes what is
+/// told of it and nothing else, and says with which exit status the process ends.
+pub fn run_trace<I: Source, O: Sink>(
+    alloc: Global,
+    source: &mut I,
+    sink: &mut O,
+    settings: Settings,
+) -> u8
+    requires { AreAllowed settings }
+
     // Where the input is known, what is written is the answer to it, unless a read or a write failed or the input went past
     // its bound.
     ensures answers { result ≢ 4 → IfSome (I.remaining source.old) (λ input. (text : List ℕ)
-        × Answers input result text × Appends (O.contents sink.old) (O.contents sink.new) text) }
+        × Answers settings input result text × Appends (O.contents sink.old) (O.contents sink.new) text) }
     ensures handed_on { result ≢ 4 → O.held_back sink.new ≡ false }
     ensures unwritten { result ≡ 4 → O.failed sink.new ≡ false → Keeps (O.contents sink.old) (O.contents sink.new) }
 
@@ -36,7 +45,7 @@ pub fn run_trace<I: Source, O: Sink>(alloc: Global, source: &mut I, sink: &mut O
     ensures failed_write { O.failed sink.old ≡ false → O.failed sink.new ≡ true → result ≡ 4 }
 {
     let answer = match read_input(alloc, source) {
-        Ok(script) => answer_to(alloc, script.as_slice()),
+        Ok(script) => answer_to(alloc, script.as_slice(), settings),
         Err(InputError::NoMemory) => Answer::NoMemory(Vec::new(alloc)),
         Err(InputError::Failed | InputError::TooLong) => return Status::Stream.code(),
     };

@@ -238,17 +238,17 @@ fewer (suc n) (x ∷ xs) =
     let b : length (take n xs) ≤ n = f.1 in (omega arith, omega arith)
 
 pub senders_send_their_list : SendersSendTheirList
-senders_send_their_list later packet given =
+senders_send_their_list redundancy later packet given most =
     let packets : List (List ℕ) = reverse_aux given (packet ∷ reverse_aux later []) in
     let is : packets ≡ reverse (later ++ packet ∷ given) = sym (reverse_both later (packet ∷ given) []) in
-    let few = fewer 3 given in
-    let a : length (take 3 given) ≤ length given = few.0 in
-    let b : length (take 3 given) ≤ 3 = few.1 in
-    subst (λ (ps : List (List ℕ)). IsSentAt ps (length given) (datagram_for given packet)) is
+    let few = fewer redundancy given in
+    let a : length (take redundancy given) ≤ length given = few.0 in
+    let b : length (take redundancy given) ≤ redundancy = few.1 in
+    subst (λ (ps : List (List ℕ)). IsSentAt ps (length given) (datagram_for redundancy given packet)) is
     (record {
       number = refl;
       primary = ap (slice_get packets) (let z : length given ≡ length given + 0 = omega arith in z) ∙ behind given (packet ∷ reverse_aux later []) 0;
       few = a;
       countable = omega arith;
-      secondaries = λ i l. within_take 3 given i l ∙ sym (from_the_end given (packet ∷ reverse_aux later []) i (omega arith));
+      secondaries = λ i l. within_take redundancy given i l ∙ sym (from_the_end given (packet ∷ reverse_aux later []) i (omega arith));
     })

@@ -5,7 +5,7 @@
 use Rattle.std.specs.Prelude.{◌≡◌, ℕ, zero, suc, ◌+◌, ◌-◌, ◌*◌, ◌%◌, ◌<◌, ◌≤◌, ◌⊎◌, max, List, [], ◌∷◌, ◌++◌, length, reverse, slice_get, Option, Some, None}
 use Rattle.fax_bits.specs.Losses.{AreSlotsBefore}
 use Rattle.fax_udptl.specs.Datagrams.{DatagramValue}
-use Rattle.fax_udptl.specs.Sending.{datagram_for}
+use Rattle.fax_udptl.specs.Sending.{datagram_for, most_redundancy}
 use Rattle.fax_udptl.specs.Slots.{decision, newest_slots}
 
 -- The sender's datagram at a place of its list: it has the place's number, the packet of the place, and some of the packets
@@ -71,7 +71,8 @@ pub record ArePartOf (packets : List (List ℕ)) (arrivals : List Arrival) : Typ
 abbrev pub SlotsAreAPart : Type 0
 SlotsAreAPart = (packets : List (List ℕ)) (arrivals : List Arrival) → IsHonest packets arrivals → ArePartOf packets arrivals
 
--- The datagrams of a sender that was given these packets, the newest first, are those of its list.
+-- The datagrams of a sender that was given these packets, the newest first, are those of its list, whatever its redundancy.
 abbrev pub SendersSendTheirList : Type 0
 SendersSendTheirList =
-    (later : List (List ℕ)) (packet : List ℕ) (given : List (List ℕ)) → IsSentAt (reverse (later ++ packet ∷ given)) (length given) (datagram_for given packet)
+    (redundancy : ℕ) (later : List (List ℕ)) (packet : List ℕ) (given : List (List ℕ)) → redundancy ≤ most_redundancy
+    → IsSentAt (reverse (later ++ packet ∷ given)) (length given) (datagram_for redundancy given packet)

@@ -45,7 +45,7 @@ pub fn slots_are_sent()
     ensures in_a_row { SlotsAreAPart }
 {}
 
-/// The datagrams that a sender gives are those of its list of packets, each at its place.
+/// The datagrams that a sender gives are those of its list of packets, each at its place, whatever its redundancy.
 pub fn senders_send_their_list()
     ensures { SendersSendTheirList }
 {}

@@ -1,7 +1,7 @@
 //! A sender of datagrams, each with the packets just before its own.
 ghost use Rattle.std.specs.Prelude.{ℕ, List, [], ◌∷◌, ◌++◌, ◌+◌, ◌*◌, ◌≡◌, ◌<◌, ◌≤◌, length, flat_map, vec_len, vec_capacity, IfOk, OnOk, OnErr};
 ghost use Rattle.fax_udptl.specs.Datagrams.{written_datagram, written_length, written_packet};
-ghost use Rattle.fax_udptl.specs.Sending.{AreShort, HasSent, datagram_for};
+ghost use Rattle.fax_udptl.specs.Sending.{AreShort, HasSent, datagram_for, most_redundancy};
 
 use circular_buffer::HeapCircularBuffer;
 use fax_bits::{NoMemory, Octets};
@@ -9,21 +9,18 @@ use std::alloc::Global;
 use std::marker::Model;
 use std::mem;
 
-/// How many of the packets before its own a datagram has.
-const DEPTH: usize = 3;
-
 /// How many octets a datagram has beside its packets: two for its number, one for the choice of secondaries
 /// and one for their count, which is below 128.
 const FRAME_SIZE: usize = 4;
 
-/// Numbers the packets of a call from 0 and sends each with the three before it. Seen as how many there
-/// were, modulo 65,536, the last three, and `spare`: a packet of fewer octets is sent without asking for
-/// memory.
+/// Numbers the packets of a call from 0 and sends each with those just before it, as many as its redundancy
+/// says. Seen as its redundancy, how many packets there were, modulo 65,536, the last of them, and `spare`: a
+/// packet of fewer octets is sent without asking for memory.
 #[derive(Drop)]
 pub struct Sender {
     alloc: Global,
     count: u16,
-    /// The newest first.
+    /// The newest first; its capacity is the redundancy.
     last: HeapCircularBuffer<Octets>,
     /// Empty: room for the next datagram.
     datagram: Vec<u8>,
@@ -34,23 +31,25 @@ pub struct Sender {
 }
 
 impl Model for Sender {
-    ghost use Rattle.std.specs.Prelude.{◌≡◌, vec_len, vec_capacity};
-    ghost use Rattle.fax_udptl.specs.Sending.{SenderValue, AreShort, HasRoom};
+    ghost use Rattle.std.specs.Prelude.{◌≡◌, ◌≤◌, vec_len, vec_capacity};
+    ghost use Rattle.fax_udptl.specs.Sending.{SenderValue, AreShort, HasRoom, most_redundancy};
 
     ghost Value = { SenderValue };
 
-    ghost view = { λ s. record { count = s.count; last = s.last.items; spare = s.spare } };
+    ghost view = { λ s. record { redundancy = s.last.capacity; count = s.count; last = s.last.items; spare = s.spare } };
 
-    ghost invariant = { λ s. (s.last.capacity ≡ 3) × AreShort s.last.items × (vec_len s.datagram ≡ 0) × (vec_len s.copy ≡ 0)
+    ghost invariant = { λ s. (s.last.capacity ≤ most_redundancy) × AreShort s.last.items × (vec_len s.datagram ≡ 0) × (vec_len s.copy ≡ 0)
         × HasRoom s.spare s.last.items (vec_capacity s.datagram) (vec_capacity s.copy) };
 }
 
 impl Sender {
-    /// A sender to which nothing was given.
-    pub fn new(alloc: Global) -> Result<Self, NoMemory>
-        ensures { IfOk result (λ sender. HasSent [] sender) }
+    /// A sender to which nothing was given: its datagrams have so many of the packets before their own, at
+    /// most 8. It takes memory for these.
+    pub fn new(alloc: Global, redundancy: u8) -> Result<Self, NoMemory>
+        requires { redundancy ≤ most_redundancy }
+        ensures { IfOk result (λ sender. HasSent redundancy [] sender) }
     {
-        let last = HeapCircularBuffer::with_capacity(alloc, DEPTH)?;
+        let last = HeapCircularBuffer::with_capacity(alloc, usize::from(redundancy))?;
         Ok(Sender {
             alloc,
             count: 0,
@@ -67,7 +66,7 @@ impl Sender {
         ensures room { OnOk result (octets < self.new.spare) }
         // Nothing else changes.
         ensures same { self.new ≡ record self.old { spare = self.new.spare } }
-        ensures sent { (given : List (List ℕ)) → HasSent given self.old → HasSent given self.new }
+        ensures sent { (redundancy : ℕ) (given : List (List ℕ)) → HasSent redundancy given self.old → HasSent redundancy given self.new }
         ensures err { OnErr result (self.new ≡ self.old) }
     {
         // a length has two octets at most
@@ -79,14 +78,14 @@ impl Sender {
     }
 
     /// The octets of the datagram of the next packet, which has at most 16,383 octets: its number is how many
-    /// were given before, modulo 65,536, and its secondaries are the last three of these. It takes memory for
+    /// were given before, modulo 65,536, and its secondaries are the last of these. It takes memory for
     /// the datagram and for a copy of the packet, once each, where there is no room for them. An `Err` changes
     /// nothing.
     pub fn send(&mut self, packet: &[u8]) -> Result<Octets, NoMemory>
         requires { length packet.now ≤ 16383 }
         // Whatever was given before, the newest first.
-        ensures sent { IfOk result (λ octets. (given : List (List ℕ)) → HasSent given self.old
-            → (octets ≡ written_datagram (datagram_for given packet.now)) × HasSent (packet.now ∷ given) self.new) }
+        ensures sent { IfOk result (λ octets. (redundancy : ℕ) (given : List (List ℕ)) → HasSent redundancy given self.old
+            → (octets ≡ written_datagram (datagram_for redundancy given packet.now)) × HasSent redundancy (packet.now ∷ given) self.new) }
         ensures err { OnErr result (self.new ≡ self.old) }
         ensures memory { OnErr result (self.old.spare ≤ length packet.now) }
     {

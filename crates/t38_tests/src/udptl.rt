@@ -428,7 +428,7 @@ fn expect_short_fronts(rt: &impl Abort, octets: &[u8]) {
 /// Fails unless a sender sends the packets of one side as these datagrams, each front of a datagram is
 /// short, and a receiver decides each packet.
 fn expect_sent(rt: &impl Abort, alloc: Global, side: &[(&str, &str)]) -> Result<(), NoMemory> {
-    let mut sender = Sender::new(alloc)?;
+    let mut sender = Sender::new(alloc, 3)?;
     let mut receiver = Receiver::new();
     let mut number = 0u16;
     for (packet, datagram) in side {
@@ -491,7 +491,7 @@ fn expect_front(
     length: usize,
 ) -> Result<(), NoMemory> {
     assert!(rt; packet.len() <= 16_383);
-    let sent = Sender::new(alloc)?.send(packet)?;
+    let sent = Sender::new(alloc, 3)?.send(packet)?;
     let octets = sent.as_slice();
     assert!(rt; octets.starts_with(front));
     assert!(rt; octets.len() == length);
@@ -515,7 +515,7 @@ fn writes_lengths_of_one_and_two_octets(rt: HostRuntime) -> Result<(), Fail> {
 
 #[test]
 fn sends_into_room_that_is_there(rt: HostRuntime) -> Result<(), Fail> {
-    let mut sender = Sender::new(rt.alloc())?;
+    let mut sender = Sender::new(rt.alloc(), 3)?;
     let sent = sender.send(b"\x06")?;
     assert_eq!(rt; sent.as_slice(), b"\x00\x00\x01\x06\x00\x00".as_slice());
     // room for more than is sent, and then for less
@@ -535,9 +535,28 @@ fn sends_into_room_that_is_there(rt: HostRuntime) -> Result<(), Fail> {
     Ok(())
 }
 
+/// The k-th datagram of a sender has k of the packets before its own, the nearest first, and not more than its redundancy:
+/// here each packet is one octet, the number of its datagram.
+#[test]
+fn sends_as_many_packets_as_its_redundancy(rt: HostRuntime) -> Result<(), Fail> {
+    for redundancy in [0u8, 1, 2, 7, 8] {
+        let mut sender = Sender::new(rt.alloc(), redundancy)?;
+        for number in 0..12u8 {
+            let mut wanted = Vec::new(rt.alloc());
+            let count = number.min(redundancy);
+            wanted.extend_from_slice(&[0, number, 1, number, 0, count])?;
+            for back in 0..count {
+                wanted.extend_from_slice(&[1, number.wrapping_sub(back).wrapping_sub(1)])?;
+            }
+            expect_datagram(&rt, &mut sender, &[number], wanted.as_slice())?;
+        }
+    }
+    Ok(())
+}
+
 #[test]
 fn numbers_wrap(rt: HostRuntime) -> Result<(), Fail> {
-    let mut sender = Sender::new(rt.alloc())?;
+    let mut sender = Sender::new(rt.alloc(), 3)?;
     for _ in 0..65_535u16 {
         sender.send(b"\x06")?;
     }
@@ -653,7 +672,7 @@ fn called_datagram(alloc: Global, number: u16) -> Result<Vec<u8>, AllocError> {
 
 #[test]
 fn sends_a_whole_call(rt: HostRuntime) -> Result<(), Fail> {
-    let mut sender = Sender::new(rt.alloc())?;
+    let mut sender = Sender::new(rt.alloc(), 3)?;
     let mut receiver = Receiver::new();
     for number in 0..49 {
         let packet = octets_of(rt.alloc(), called_packet(number))?;

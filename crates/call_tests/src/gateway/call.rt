@@ -305,9 +305,9 @@ impl Playing {
 
 /// A gateway, asked for again where it is refused, and how often it was.
 pub(super) fn gateway_of(rt: &impl Abort, alloc: Global) -> (Gateway<PlainRows>, u64) {
-    match Gateway::new(alloc) {
+    match Gateway::new(alloc, 3) {
         Ok(gateway) => (gateway, 0),
-        Err(NoMemory) => (Gateway::new(alloc).expect(rt, "a gateway"), 1),
+        Err(NoMemory) => (Gateway::new(alloc, 3).expect(rt, "a gateway"), 1),
     }
 }
 
@@ -336,7 +336,7 @@ pub(super) fn gives(
 }
 
 /// The moment of a turn.
-fn moment(turn: u32) -> u64 {
+pub(super) fn moment(turn: u32) -> u64 {
     40 * u64::from(turn)
 }
 

@@ -1,8 +1,8 @@
 //! Calls in which pages go out.
 use super::{
     BLACK_PAGE, CFR, CNG, CONFIRMED, Call, DCN_CAME, DIS, EOP, EOP_GIVEN, Event, FINE, FTT, MCF,
-    MPS_GIVEN, ONE, PREAMBLE, PageText, RTN, RTP, SLOW, STARTED, TRAINED, TWO, Training, WHITE,
-    WHITE_PAGE, play,
+    MPS_GIVEN, ONE, PREAMBLE, PageText, RTN, RTP, SLOW, STANDARD, STARTED, TRAINED, TWO, Training,
+    WHITE, WHITE_PAGE, play,
 };
 use crate::Outcome;
 use fax_pagestore::Format;
@@ -62,6 +62,14 @@ const LAST: Training = Training {
     last: "c201f00005",
 };
 
+/// A DIS of V.27 ter at 2400 bit/s, with two-dimensional coding and 20 ms for a line, and the training that it leads to.
+pub(super) const TWO_DIS: &str = "c002800005ffc80100410040";
+
+pub(super) const SLOW_TWO: Training = Training {
+    dcs: "c002800005ffc8c100410040",
+    ..SLOW
+};
+
 /// A DIS of a machine that takes no pages.
 const DEAF: &str = "c002800005ffc80100000040";
 
@@ -89,6 +97,25 @@ const ONE_WIDE_AND_FINE: &[PageText] = &[PageText {
     },
     text: WIDE_WHITE,
 }];
+
+/// A page of twelve white rows.
+pub(super) const TWELVE: &[PageText] = &[PageText {
+    format: STANDARD,
+    text: "0014d9a800a6cd4005366a0029b350014d9a800a6cd4005366a0029b350014d9a800a6cd4005366a0029b350010010010010010010",
+}];
+
+/// It goes out in two dimensions: its text has 84 octets, so that the last packet is as long as the others.
+pub(super) const TWELVE_ROWS: &[Event] = &[
+    Event::Gives(40, "08"),
+    Event::Gives(40, "c201e0000b001a6cd40000000a00000000"),
+    Event::Gives(40, "c201e0000b00069b350000000280000000"),
+    Event::Gives(40, "c201e0000b0001a6cd40000000a0000000"),
+    Event::Gives(40, "c201e0000b000069b35000000028000000"),
+    Event::Gives(40, "c201e0000b00001a6cd40000000a000000"),
+    Event::Gives(40, "c201e0000b0000069b3500000002800000"),
+    Event::Gives(40, "c201f0000b000001800c006003001800c0"),
+    Event::Gives(40, PREAMBLE),
+];
 
 /// Wide pages are not taken.
 const WIDTH_LACKING: &[Event] = &[
@@ -169,7 +196,7 @@ const EARLY: &[Event] = &[
 /// The second of two slots, and behind it the first: both confirm the page.
 const TWICE: &str = "000309c002800002ffc83140000109c002800002ffc83140";
 
-static CALLS: [Call; 13] = [
+static CALLS: [Call; 14] = [
     Call {
         name: "a call with one page",
         pages: ONE,
@@ -206,6 +233,22 @@ static CALLS: [Call; 13] = [
         scripts: &[
             STARTED,
             IN_TWO_DIMENSIONS,
+            CONFIRMED,
+            &[Event::Delivered(1)],
+        ],
+    },
+    Call {
+        name: "a page whose last packet is a whole one",
+        pages: TWELVE,
+        scripts: &[
+            STARTED,
+            &[
+                Event::Comes(TWO_DIS),
+                Event::Trains(40, SLOW_TWO),
+                Event::Comes(CFR),
+            ],
+            TWELVE_ROWS,
+            EOP_GIVEN,
             CONFIRMED,
             &[Event::Delivered(1)],
         ],

@@ -1,5 +1,5 @@
 //! Calls whose pages change their format.
-use super::calls::{AGAIN, FAST, FAST_DIS, SECOND};
+use super::calls::{AGAIN, FAST, FAST_DIS, SECOND, SLOW_TWO};
 use super::{
     BLACK, BLACK_PAGE, CFR, CONFIRMED, Call, DIS, EOM, EOP, EOP_GIVEN, Event, FINE, FTT, MCF,
     MPS_GIVEN, PREAMBLE, PageText, RTN, RTP, SLOW, STANDARD_BLACK, STANDARD_WHITE, STARTED,
@@ -14,14 +14,9 @@ const FINE_DIS: &str = "c002800005ffc80100420040";
 
 const FINE_TWO_DIS: &str = "c002800005ffc80100430040";
 
-/// The training that they lead to for a fine page, and the one that the second leads to for a standard one.
+/// The training that they lead to for a fine page.
 const SLOW_FINE: Training = Training {
     dcs: "c002800005ffc8c100420040",
-    ..SLOW
-};
-
-const SLOW_TWO: Training = Training {
-    dcs: "c002800005ffc8c100410040",
     ..SLOW
 };
 

@@ -1,6 +1,7 @@
 //! A call that is refused memory. Nothing in a test can refuse it: `tools/refuse-test-memory` does, from outside, each
 //! allocation in turn, and reads what the test prints.
-use super::{CONFIRMED, DIS, EOP_GIVEN, Event, Leg, ONE, SLOW, STARTED, WHITE_PAGE};
+use super::calls::{SLOW_TWO, TWELVE, TWELVE_ROWS, TWO_DIS};
+use super::{CONFIRMED, EOP_GIVEN, Event, Leg, STARTED};
 use fax_bits::NoMemory;
 use std::alloc::Global;
 use std::process::Abort;
@@ -8,15 +9,15 @@ use std::test::Fail;
 
 /// The DIS comes, and behind the training a CFR in five fields, for which a list of fields takes memory.
 const TRAINED: &[Event] = &[
-    Event::Comes(DIS),
-    Event::Trains(40, SLOW),
+    Event::Comes(TWO_DIS),
+    Event::Trains(40, SLOW_TWO),
     Event::Comes("c005800000ff800000c88000002141"),
 ];
 
 const CALL: &[&[Event]] = &[
     STARTED,
     TRAINED,
-    WHITE_PAGE,
+    TWELVE_ROWS,
     EOP_GIVEN,
     CONFIRMED,
     &[Event::Delivered(1)],
@@ -24,10 +25,10 @@ const CALL: &[&[Event]] = &[
 
 /// A leg. Where memory is refused it is asked for again once.
 fn leg_of(rt: &impl Abort, alloc: Global) -> Result<Leg, NoMemory> {
-    if let Ok(leg) = Leg::new(rt, alloc, ONE) {
+    if let Ok(leg) = Leg::new(rt, alloc, TWELVE) {
         return Ok(leg);
     }
-    let mut leg = Leg::new(rt, alloc, ONE)?;
+    let mut leg = Leg::new(rt, alloc, TWELVE)?;
     leg.refused_texts = 1;
     Ok(leg)
 }

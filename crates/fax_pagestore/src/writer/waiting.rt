@@ -1,5 +1,5 @@
 //! Bits that wait to be given.
-ghost use Rattle.std.specs.Prelude.{ℕ, List, Bool, [], ◌≡◌, ◌≤◌, ◌*◌, ◌⊎◌, ◌++◌, take, drop, length, IfOk};
+ghost use Rattle.std.specs.Prelude.{ℕ, List, Bool, [], ◌≡◌, ◌≢◌, ◌≤◌, ◌*◌, ◌⊎◌, ◌++◌, take, drop, length, IfOk};
 ghost use Rattle.fax_bits.specs.Laws.{AreOctets};
 ghost use Rattle.fax_bits.specs.Writing.{IsPadded};
 
@@ -83,8 +83,10 @@ impl Waiting {
     /// The first n octets of these bits and others behind them, where there are as many bits here or none
     /// behind them.
     pub fn front(&self, n: usize) -> Result<Octets, NoMemory>
-        ensures { IfOk result (λ front. (octets : List ℕ) (more : List Bool) → AreOctets octets → IsPadded octets (self.now ++ more)
+        ensures front { IfOk result (λ front. (octets : List ℕ) (more : List Bool) → AreOctets octets → IsPadded octets (self.now ++ more)
             → (8 * n ≤ length self.now) ⊎ (more ≡ []) → front ≡ take n octets) }
+        ensures few { IfOk result (λ front. length front ≤ n) }
+        ensures some { IfOk result (λ front. 1 ≤ n → self.now ≢ [] → 1 ≤ length front) }
     {
         let front = first(*self.octets.allocator(), &self.octets[self.given..], n)?;
         Ok(front)

@@ -1,6 +1,7 @@
 use Rattle.std.proofs.Common.{◌≡◌, [], ◌∷◌, ◌++◌, length, refl, rules, arith, inl, inr, sym, ◌∙◌, ap, append_assoc, append-nil, length-append}
 use Rattle.std.proofs.lemmas.List.Elements.{All-push}
 use Rattle.fax_runcodes.specs.Widths.{elements_of}
+use Rattle.fax_pagestore.specs.PageRows.{most_rows}
 use Rattle.fax_command.specs.RowLines.{lines_of}
 use Rattle.fax_command.proofs.TellLemmas.{TellRows-push, TellRows-empty, ComesBehind-told}
 use Rattle.fax_command.proofs.answer.rows_of_lines.Goals as goal
@@ -10,7 +11,7 @@ returns-then-number-ge-MOST_ROWS-clause-fault g c =
     let so_far = c.loop-line.invariant in
     let rows = g.S.RowStore.rows c.loop-line.rows in
     let lines_are = so_far.lines_are ∙ ap (λ rest. so_far.before ++ rest) c.in-Some.ensures.lines in
-    inr (refl, c.in-Some.line.now, ComesBehind-told (elements_of c.args.width) c.args.input.now so_far.before rows 20000 c.in-Some.line.now (lines_of c.in-Some.behind.now) lines_are so_far.told so_far.each (omega (arith, so_far.few)))
+    inr (refl, c.in-Some.line.now, ComesBehind-told (elements_of c.args.width) c.args.input.now so_far.before rows most_rows c.in-Some.line.now (lines_of c.in-Some.behind.now) lines_are so_far.told so_far.each (omega (arith, so_far.few)))
 
 pub returns-in_default-2-clause-fault : goal.returns-in_default-2-clause-fault
 returns-in_default-2-clause-fault g c =

@@ -4,14 +4,14 @@ use Rattle.fax_gateway.proofs.DrivingLemmas.{byte_is, carries_none, failures_tol
 use Rattle.fax_gateway.proofs.run.drive.Goals as goal
 
 pub returns-then-not-turn-clause-driven : goal.returns-then-not-turn-clause-driven
-returns-then-not-turn-clause-driven g c writes trace writing reached =
-    let before = c.loop-turn.invariant.ran writes trace writing reached in
+returns-then-not-turn-clause-driven g c setup writes trace writing reached =
+    let before = c.loop-turn.invariant.ran setup writes trace writing reached in
     let rounds : List (List Entry) = before.0 in
     let log : List Entry = log_of rounds in
-    let ring = c.ring_if-is_refused.ensures writes (events log ++ trace) before.5.reached in
-    let rung = ring_made writes c.contains.result c.moment-now.result ring.0 log (events log ++ trace) _ (g.W.Wire.known c.loop-turn.wire) _ ring.1 ring.3 before.6 in
-    let turn = c.if-not-turn.ensures.turned writes (events ring.0 ++ (events log ++ trace)) (ring.0 ++ log) writing ring.3 rung in
-    let more = round_more writes c.args.start c.loop-turn.turn-counter c.moment-now.result c.args.rings.now c.contains.result rounds ring.0 turn.0 trace _ _ _ _ _ _ _ _ _ _
+    let ring = c.ring_if-is_refused.ensures setup writes (events log ++ trace) before.5.reached in
+    let rung = ring_made setup writes c.contains.result c.moment-now.result ring.0 log (events log ++ trace) _ (g.W.Wire.known c.loop-turn.wire) _ ring.1 ring.3 before.6 in
+    let turn = c.if-not-turn.ensures.turned setup writes (events ring.0 ++ (events log ++ trace)) (ring.0 ++ log) writing ring.3 rung in
+    let more = round_more setup writes c.args.start c.loop-turn.turn-counter c.moment-now.result c.args.rings.now c.contains.result rounds ring.0 turn.0 trace _ _ _ _ _ _ _ _ _ _
     before.1 before.2 before.3 before.5 before.6 before.4 c.moment-now.ensures c.contains.ensures.value ring.1 (ring.2 ∙ sym (byte_is _) ∙ sym c.from-rings_refused.ensures) ring.3 turn.1 turn.2 turn.3 in
     let all : List (List Entry) = (turn.0 ++ ring.0) ∷ rounds in
     let many : length rounds ≡ c.loop-turn.turn-counter = before.2 in (
@@ -23,27 +23,27 @@ returns-then-not-turn-clause-driven g c writes trace writing reached =
     )
 
 pub returns-then-not-turn-clause-failures : goal.returns-then-not-turn-clause-failures
-returns-then-not-turn-clause-failures g c writes trace writing reached low =
-    let told = returns-then-not-turn-clause-driven g c writes trace writing reached in
+returns-then-not-turn-clause-failures g c setup writes trace writing reached low =
+    let told = returns-then-not-turn-clause-driven g c setup writes trace writing reached in
     failures_told c.args.turns told.0 c.told.result (g.W.Wire.known c.args.wire.now) (g.W.Wire.known c.turn.new.wire) told.2.carried told.3 low
 
 pub loop-turn-init : goal.loop-turn-init
 loop-turn-init g c = record {
   few = omega arith;
-  ran = λ writes trace writing reached. ([], tt, refl, omega arith, refl, record { reached = reached; wanting = tt; carried = carries_none (g.W.Wire.known c.args.wire.now) }, c.in_ok-driver.ensures);
+  ran = λ setup writes trace writing reached. ([], tt, refl, omega arith, refl, record { reached = reached; wanting = tt; carried = carries_none (g.W.Wire.known c.args.wire.now) }, c.in_ok-driver.ensures);
 }
 
 pub loop-turn-preserved : goal.loop-turn-preserved
 loop-turn-preserved g c = record {
   few = let b = c.from-rings_refused.ensures in let k = byte_is c.ring_if-is_refused.result in grind (arith);
-  ran = λ writes trace writing reached.
-      let before = c.loop-turn.invariant.ran writes trace writing reached in
+  ran = λ setup writes trace writing reached.
+      let before = c.loop-turn.invariant.ran setup writes trace writing reached in
       let rounds : List (List Entry) = before.0 in
       let log : List Entry = log_of rounds in
-      let ring = c.ring_if-is_refused.ensures writes (events log ++ trace) before.5.reached in
-      let rung = ring_made writes c.contains.result c.moment-now.result ring.0 log (events log ++ trace) _ (g.W.Wire.known c.loop-turn.wire) _ ring.1 ring.3 before.6 in
-      let turn = c.if-not-turn.ensures.turned writes (events ring.0 ++ (events log ++ trace)) (ring.0 ++ log) writing ring.3 rung in
-      let more = round_more writes c.args.start c.loop-turn.turn-counter c.moment-now.result c.args.rings.now c.contains.result rounds ring.0 turn.0 trace _ _ _ _ _ _ _ _ _ _
+      let ring = c.ring_if-is_refused.ensures setup writes (events log ++ trace) before.5.reached in
+      let rung = ring_made setup writes c.contains.result c.moment-now.result ring.0 log (events log ++ trace) _ (g.W.Wire.known c.loop-turn.wire) _ ring.1 ring.3 before.6 in
+      let turn = c.if-not-turn.ensures.turned setup writes (events ring.0 ++ (events log ++ trace)) (ring.0 ++ log) writing ring.3 rung in
+      let more = round_more setup writes c.args.start c.loop-turn.turn-counter c.moment-now.result c.args.rings.now c.contains.result rounds ring.0 turn.0 trace _ _ _ _ _ _ _ _ _ _
       before.1 before.2 before.3 before.5 before.6 before.4 c.moment-now.ensures c.contains.ensures.value ring.1 (ring.2 ∙ sym (byte_is _) ∙ sym c.from-rings_refused.ensures) ring.3 turn.1 turn.2 turn.3 in
       let all : List (List Entry) = (turn.0 ++ ring.0) ∷ rounds in
       let many : length rounds ≡ c.loop-turn.turn-counter = before.2 in
@@ -51,8 +51,8 @@ loop-turn-preserved g c = record {
 }
 
 pub returns-clause-driven : goal.returns-clause-driven
-returns-clause-driven g c writes trace writing reached =
-    let before = c.loop-turn.invariant.ran writes trace writing reached in
+returns-clause-driven g c setup writes trace writing reached =
+    let before = c.loop-turn.invariant.ran setup writes trace writing reached in
     let rounds : List (List Entry) = before.0 in
     let many : length rounds ≡ c.loop-turn.turn-counter = before.2 in (
       rounds,
@@ -62,6 +62,6 @@ returns-clause-driven g c writes trace writing reached =
     )
 
 pub returns-clause-failures : goal.returns-clause-failures
-returns-clause-failures g c writes trace writing reached low =
-    let told = returns-clause-driven g c writes trace writing reached in
+returns-clause-failures g c setup writes trace writing reached low =
+    let told = returns-clause-driven g c setup writes trace writing reached in
     failures_told c.args.turns told.0 c.told-2.result (g.W.Wire.known c.args.wire.now) (g.W.Wire.known c.loop-turn.wire) told.2.carried told.3 low

@@ -7,8 +7,8 @@ use Rattle.fax_gateway.proofs.DrivingLemmas.{rings_so}
 use Rattle.fax_gateway.proofs.run.ring_if.Goals as goal
 
 pub returns : goal.returns
-returns g c writes trace reached =
+returns g c setup writes trace reached =
     let new : GatewayValue = c.ring.new.self in
-    let h = rings_so writes trace c.args.now c.args.gateway.now new c.ring.result c.ring.ensures.rung c.ring.ensures.err reached in
-    subst (λ (b : Bool). (log : List Entry) × IsRingIf b c.args.now log × (count_by is_refused_ring log ≡ cond c.is_err.result 1 0) × IsReachedBy writes (events log ++ trace) new) (sym c.if-not-is_due.false)
-    (subst (λ (b : Bool). (log : List Entry) × IsRingIf true c.args.now log × (count_by is_refused_ring log ≡ cond b 1 0) × IsReachedBy writes (events log ++ trace) new) (sym c.is_err.ensures.value) h)
+    let h = rings_so setup writes trace c.args.now c.args.gateway.now new c.ring.result c.ring.ensures.rung c.ring.ensures.err reached in
+    subst (λ (b : Bool). (log : List Entry) × IsRingIf b c.args.now log × (count_by is_refused_ring log ≡ cond c.is_err.result 1 0) × IsReachedBy setup writes (events log ++ trace) new) (sym c.if-not-is_due.false)
+    (subst (λ (b : Bool). (log : List Entry) × IsRingIf true c.args.now log × (count_by is_refused_ring log ≡ cond b 1 0) × IsReachedBy setup writes (events log ++ trace) new) (sym c.is_err.ensures.value) h)

@@ -6,15 +6,15 @@ use Rattle.fax_loop.specs.Kept.{rows_of}
 use Rattle.fax_loop.proofs.answer.answer_of.Goals as goal
 
 pub returns-in-Ok : goal.returns-in-Ok
-returns-in-Ok c = λ input text means told.
+returns-in-Ok c = λ settings input text first means told.
     let report = c.in-Some.report in
     record {
       outcome = Reports report (rows_of c.args.ended.confirmed.items);
-      allowed = (means, subst IsFirstReport c.in-Some.is c.requires);
+      allowed = (means, subst (IsFirstReport settings) c.in-Some.is first);
       status_is = refl;
       text_is = (told.0, told.1, told.2 ∙ ap (λ line. (line ++ 10 ∷ []) ++ text_of_lines told.0) c.in-Ok.ensures.ok);
     }
 
 pub returns-in-Err : goal.returns-in-Err
-returns-in-Err c = λ input text means told.
+returns-in-Err c = λ settings input text first means told.
     record { outcome = Refuses NoMemory; allowed = tt; status_is = refl; text_is = told }

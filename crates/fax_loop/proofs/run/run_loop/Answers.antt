@@ -14,7 +14,7 @@ returns-in-Ok-write-clause-answers g c = λ other.
     elim c.match-read_input.branch [
       | in-Ok+in-Some w ↦
           let text_of : IsAnswerText w.in-Some.answer text = rw w.answer-is at is in
-          Answers-read told _ _ _ text old new w.in-Ok.ensures.whole (w.in-Some.ensures text text_of) (status ∙ ap status_of_answer w.answer-is) written
+          Answers-read c.args.settings told _ _ _ text old new w.in-Ok.ensures.whole (w.in-Some.ensures text text_of) (status ∙ ap status_of_answer w.answer-is) written
       | in-Err-NoMemory w ↦
-          Answers-unread told _ text old new (status ∙ ap status_of_answer w.answer-is) (rw w.answer-is at is) written
+          Answers-unread c.args.settings told _ text old new (status ∙ ap status_of_answer w.answer-is) (rw w.answer-is at is) written
     ]

@@ -1,4 +1,4 @@
-use Rattle.std.proofs.Common.{[], ◌∷◌, ◌++◌, refl, arith, sym, ◌∙◌, ap, append_assoc, length-append}
+use Rattle.std.proofs.Common.{ℕ, ◌+◌, [], ◌∷◌, ◌++◌, refl, rules, arith, sym, ◌∙◌, ap, append_assoc, length-append}
 use Rattle.fax_command.specs.RowLines.{lines_of}
 use Rattle.fax_trace.specs.Playing.{nothing_played}
 use Rattle.fax_trace.proofs.PlayLemmas.{PlaysAll-push}
@@ -14,7 +14,7 @@ loop-line-init c = record {
   short = omega arith;
   events = [];
   tell = tt;
-  played = λ writes written. (nothing_played, refl, c.requires writes);
+  played = λ setup writes set written. (nothing_played, refl, c.requires setup writes set);
 }
 
 pub loop-line-preserved : goal.loop-line-preserved
@@ -30,10 +30,10 @@ loop-line-preserved c =
       short = omega (arith, so_far.short, c.in-Some.ensures.shorter);
       events = so_far.events ++ event ∷ [];
       tell = TellEvents-push so_far.before so_far.events line event so_far.tell told;
-      played = λ writes written.
-          let p = so_far.played writes written in
-          let next = c.in_ok-play.ensures.played writes p.0 written p.2 in
-          (next.new, PlaysAll-push nothing_played so_far.events event p.0 next.new p.1 next.plays, next.is_playing);
+      played = λ setup writes set written.
+          let p = so_far.played setup writes set written in
+          let next = c.in_ok-play.ensures.played setup writes p.0 written p.2 in
+          (next.new, PlaysAll-push setup nothing_played so_far.events event p.0 next.new p.1 next.plays, next.is_playing);
     }
 
 pub returns : goal.returns
@@ -47,7 +47,52 @@ returns c =
       events = so_far.events;
       tell = so_far.tell;
       ends = refl;
-      told = λ writes written.
-          let p = so_far.played writes written in
+      told = λ setup writes set written.
+          let p = so_far.played setup writes set written in
           record { played = p.0; is_played = p.1; is_trace = p.2.reached.is_trace; text_is = text_of_none p.0.lines _ p.2.told };
+    }
+
+pub returns-in_err-event : goal.returns-in_err-event
+returns-in_err-event c =
+    let so_far = c.loop-line.invariant in
+    record {
+      before = so_far.before;
+      others = lines_of c.loop-line.rest.now;
+      lines_are = so_far.lines_are;
+      events = so_far.events;
+      tell = so_far.tell;
+      ends = search rules;
+      told = λ setup writes set written.
+          let p = so_far.played setup writes set written in
+          record { played = p.0; is_played = p.1; is_trace = p.2.reached.is_trace; text_is = text_of_none p.0.lines _ p.2.told };
+    }
+
+pub returns-in_default-2 : goal.returns-in_default-2
+returns-in_default-2 c =
+    let so_far = c.loop-line.invariant in
+    record {
+      before = so_far.before;
+      others = lines_of c.loop-line.rest.now;
+      lines_are = so_far.lines_are;
+      events = so_far.events;
+      tell = so_far.tell;
+      ends = (ap (λ (n : ℕ). n + 1) so_far.so_many, c.in-Some.line.now, lines_of c.in-Some.behind.now, c.in-Some.ensures.lines, rw c.in_default-2.is at c.in_ok-event.ensures.none);
+      told = λ setup writes set written.
+          let p = so_far.played setup writes set written in
+          record { played = p.0; is_played = p.1; is_trace = p.2.reached.is_trace; text_is = text_of_none p.0.lines _ p.2.told };
+    }
+
+pub returns-in_err-play : goal.returns-in_err-play
+returns-in_err-play c =
+    let so_far = c.loop-line.invariant in
+    record {
+      before = so_far.before;
+      others = lines_of c.loop-line.rest.now;
+      lines_are = so_far.lines_are;
+      events = so_far.events;
+      tell = so_far.tell;
+      ends = search rules;
+      told = λ setup writes set written.
+          let p = so_far.played setup writes set written in
+          record { played = p.0; is_played = p.1; is_trace = p.2.reached.is_trace; text_is = c.in_err-play.ensures.err ∙ text_of_none p.0.lines _ p.2.told };
     }

@@ -1,6 +1,7 @@
 use Rattle.std.proofs.Common.{◌≡◌, ◌+◌, ◌≤◌, ℕ, List, ◌++◌, length}
 use Rattle.fax_call.specs.Writings.{IsWriting, Writing}
 use Rattle.fax_command.specs.RowLines.{lines_of}
+use Rattle.fax_gateway.specs.Setups.{AreSet, Setup}
 use Rattle.fax_trace.specs.declared.event.ScriptEvent.{ScriptEvent}
 use Rattle.fax_trace.specs.Scripts.{TellEvents}
 use Rattle.fax_trace.specs.Playing.{Played, PlaysAll, nothing_played}
@@ -17,7 +18,7 @@ invariant-loop-line l =
       short : l.number + length l.rest ≤ length l.script;
       events : List ScriptEvent;
       tell : TellEvents before events;
-      played : (writes : Writing) → IsWriting writes → (p : Played) × PlaysAll nothing_played events p × IsPlaying writes p l.player;
+      played : (setup : Setup) (writes : Writing) → AreSet setup l.fn.player.gateway.settings → IsWriting writes → (p : Played) × PlaysAll setup nothing_played events p × IsPlaying setup writes p l.player;
     }
 
 abbrev pub decreases-loop-line : goal.decreases-loop-line

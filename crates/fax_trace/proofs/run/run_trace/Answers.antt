@@ -13,9 +13,9 @@ returns-in-Ok-write-clause-answers g c = λ other.
     elim c.match-read_input.branch [
       | in-Ok w ↦
           let answers = rw w.as_slice.ensures.value at w.answer_to-answer.ensures in
-          Answers-read told _ _ _ _ _ old new w.in-Ok.ensures.whole answers
+          Answers-read c.args.settings told _ _ _ _ _ old new w.in-Ok.ensures.whole answers
           (status ∙ ap status_of_answer w.answer-is) (ap text_of_answer w.answer-is) c.in-Ok-write.ensures.text
       | in-Err-NoMemory w ↦
-          Answers-unread told _ _ old new (status ∙ ap status_of_answer w.answer-is)
+          Answers-unread c.args.settings told _ _ old new (status ∙ ap status_of_answer w.answer-is)
           (ap text_of_answer w.answer-is ∙ ap (λ (text : List ℕ). text ++ codes "fault memory\n") w.new.ensures.items) c.in-Ok-write.ensures.text
     ]

@@ -1,8 +1,11 @@
-use Rattle.std.proofs.Common.{◌≡◌, ◌+◌, ℕ, List, refl, sym, ◌∙◌, ap, subst}
+use Rattle.std.proofs.Common.{rules, ◌≡◌, ◌+◌, ℕ, List, length, take, refl, sym, ◌∙◌, ap, subst}
+use Rattle.std.proofs.Math.Seq.{take-length}
+use Rattle.fax_ifp.specs.declared.piece.Piece as code_pieces
 use Rattle.fax_ifp.specs.Pieces.{Piece}
 use Rattle.fax_ifp.specs.Shown.{piece_of, pieces_shown}
 use Rattle.fax_answer.specs.Reached.{TakesAll}
-use Rattle.fax_answer.proofs.SlotsLemmas.{takes_more, shown_more, front_on}
+use Rattle.fax_answer.proofs.SlotsLemmas.{takes_none, takes_more, shown_more}
+use Rattle.fax_answer.proofs.ImageLemmas.{goes_itself, goes_further}
 use Rattle.fax_answer.proofs.answerer.Answerer.hear_all.Goals as goal
 
 pub loop-piece-preserved : goal.loop-piece-preserved
@@ -12,12 +15,28 @@ loop-piece-preserved g c =
     record {
       heard = λ core s.
           subst (λ (ps : List Piece). TakesAll ps c.args.now core c.hear.new.self) (shown_more c.args.pieces.now i c.piece-item.result c.loop-piece-test.true c.piece-item.is)
-          (takes_more core c.args.now (pieces_shown (Rattle.std.proofs.Common.take i c.args.pieces.now)) (piece_of c.piece-item.result) c.loop-piece.self c.hear.new.self (before.heard core s) c.in_ok-hear.ensures.heard);
+          (takes_more core c.args.now (pieces_shown (take i c.args.pieces.now)) (piece_of c.piece-item.result) c.loop-piece.self c.hear.new.self (before.heard core s) c.in_ok-hear.ensures.heard);
       tracked = c.hear.ensures.tracked ∙ before.tracked;
-      front = front_on c.args.self.now.image.octets c.loop-piece.self.image.octets c.hear.new.self.image.octets before.front c.hear.ensures.front;
-      waits = λ n.
-          let m = before.waits n in
-          let k = c.hear.ensures.waits (λ e. n (sym m.0 ∙ e)) in
-          (k.0 ∙ m.0, k.1 ∙ m.1);
+      goes_on = goes_further c.args.self.now.image.readers c.loop-piece.self.image.readers c.hear.new.self.image.readers before.goes_on c.hear.ensures.goes_on;
+      confirmed = c.hear.ensures.confirmed ∙ before.confirmed;
       spare = c.hear.ensures.spare ∙ before.spare;
     }
+
+pub loop-piece-init : goal.loop-piece-init
+loop-piece-init g c = record {
+  heard = λ core s. takes_none core c.args.now c.args.self.now s;
+  tracked = refl;
+  goes_on = goes_itself c.args.self.now.image.readers;
+  confirmed = refl;
+  spare = refl;
+}
+
+pub returns-in_err-hear-clause-goes_on : goal.returns-in_err-hear-clause-goes_on
+returns-in_err-hear-clause-goes_on g c =
+    goes_further c.args.self.now.image.readers c.loop-piece.self.image.readers c.hear.new.self.image.readers c.loop-piece.invariant.goes_on c.hear.ensures.goes_on
+
+pub returns-clause-heard : goal.returns-clause-heard
+returns-clause-heard g c core s =
+    let end : c.loop-piece.piece-index ≡ length c.args.pieces.now = search rules in
+    let all : take c.loop-piece.piece-index c.args.pieces.now ≡ c.args.pieces.now = ap (λ (n : ℕ). take n c.args.pieces.now) end ∙ take-length c.args.pieces.now in
+    subst (λ (ps : List code_pieces.Piece). TakesAll (pieces_shown ps) c.args.now core c.loop-piece.self) all (c.loop-piece.invariant.heard core s)

@@ -1,11 +1,12 @@
-use Rattle.std.proofs.Common.{◌≡◌, ◌++◌, ℕ, List, Some, map, take, length, sym, ◌∙◌, ap, subst}
+use Rattle.std.proofs.Common.{rules, ◌≡◌, ◌++◌, ℕ, List, Some, map, sym, ◌∙◌, ap, subst}
 use Rattle.fax_ifp.specs.Elements.{Slot}
 use Rattle.fax_ifp.specs.Tracked.{Tracked, Tracks, Gives, lost_slots}
 use Rattle.fax_ifp.specs.Pieces.{Piece}
-use Rattle.fax_answer.specs.declared.pending.Pending.TheVariants.{Nothing}
 use Rattle.fax_udptl.specs.Reading.{texts}
+use Rattle.fax_answer.specs.Images.{GoesOn}
 use Rattle.fax_answer.specs.Reached.{Kept, HearsSo, Stands, TakesAll}
-use Rattle.fax_answer.proofs.SlotsLemmas.{hears_more, slots_more, front_on}
+use Rattle.fax_answer.proofs.ImageLemmas.{goes_same, goes_further}
+use Rattle.fax_answer.proofs.SlotsLemmas.{hears_more, slots_more}
 use Rattle.fax_answer.proofs.answerer.Answerer.hear_slots.Goals as goal
 
 pub loop-packet-preserved : goal.loop-packet-preserved
@@ -26,14 +27,24 @@ loop-packet-preserved g c =
           (λ a s.
           let k = subst (λ (x : Kept). Stands a x) (sym c.self-in-loop-packet.view_is) s in
           subst (λ (ps : List Piece). TakesAll ps c.args.now a c.hear_all.new.self) told
-          (c.in_ok-hear_all.ensures.heard a (record { follows = k.follows; holds = k.holds }))));
-      front =
-          let here = subst (λ (k : Kept). take (length k.image.octets) c.hear_all.new.self.image.octets ≡ k.image.octets) c.self-in-loop-packet.view_is c.hear_all.ensures.front in
-          front_on c.args.self.now.image.octets mid.image.octets c.hear_all.new.self.image.octets before.front here;
-      waits = λ n.
-          let m = before.waits n in
-          let same : (c.hear_all.new.self.procedure.pending ≡ mid.procedure.pending) × (c.hear_all.new.self.confirmed ≡ mid.confirmed) =
-          subst (λ (k : Kept). (k.procedure.pending ≡ Nothing → ⊥) → (c.hear_all.new.self.procedure.pending ≡ k.procedure.pending) × (c.hear_all.new.self.confirmed ≡ k.confirmed)) c.self-in-loop-packet.view_is c.hear_all.ensures.waits (λ e. n (sym m.0 ∙ e)) in
-          (same.0 ∙ m.0, same.1 ∙ m.1);
+          (c.in_ok-hear_all.ensures.heard a (record { confirmed = k.confirmed; confirms = k.confirms; follows = k.follows; holds = k.holds }))));
+      goes_on =
+          let here = subst (λ (k : Kept). GoesOn k.image.readers c.hear_all.new.self.image.readers) c.self-in-loop-packet.view_is c.hear_all.ensures.goes_on in
+          goes_further c.args.self.now.image.readers mid.image.readers c.hear_all.new.self.image.readers before.goes_on here;
+      confirmed = c.hear_all.ensures.confirmed ∙ ap (λ (k : Kept). k.confirmed) c.self-in-loop-packet.view_is ∙ before.confirmed;
       spare = c.hear_all.ensures.spare ∙ ap (λ (k : Kept). k.spare) c.self-in-loop-packet.view_is ∙ before.spare;
     }
+
+pub loop-packet-init : goal.loop-packet-init
+loop-packet-init g c = record {
+  heard = search rules;
+  goes_on = goes_same _ _ (search rules);
+  confirmed = search rules;
+  spare = search rules;
+}
+
+pub returns-in_err-hear_all-clause-goes_on : goal.returns-in_err-hear_all-clause-goes_on
+returns-in_err-hear_all-clause-goes_on g c =
+    let mid : Kept = c.loop-packet.self in
+    let here = subst (λ (k : Kept). GoesOn k.image.readers c.hear_all.new.self.image.readers) c.self-in-loop-packet.view_is c.hear_all.ensures.goes_on in
+    goes_further c.args.self.now.image.readers mid.image.readers c.hear_all.new.self.image.readers c.loop-packet.invariant.goes_on here

@@ -4,7 +4,8 @@ use Rattle.fax_answer.specs.History.{PassesOver}
 use Rattle.fax_answer.specs.Reached.{Kept, IsReached}
 use Rattle.fax_answer.specs.Shown.{confirmed_shown}
 use Rattle.fax_answer.proofs.HearingLemmas.{over_can}
-use Rattle.fax_answer.proofs.SlotsLemmas.{loses, same_pending}
+use Rattle.fax_answer.proofs.ReachedLemmas.{settled_follows}
+use Rattle.fax_answer.proofs.SlotsLemmas.{loses}
 use Rattle.fax_answer.proofs.answerer.Answerer.lose.Goals as goal
 
 pub returns-then-count-gt0-clause-heard : goal.returns-then-count-gt0-clause-heard
@@ -14,12 +15,8 @@ returns-then-count-gt0-clause-heard g c heard core r =
     let old : Kept = record { tracked = c.self.inside.signals; procedure = c.self.inside.procedure; image = c.self.inside.image; confirmed = confirmed; spare = c.self.inside.room } in
     let new : Kept = record { tracked = c.lose.new.self; procedure = c.note.new.self; image = c.self.inside.image; confirmed = confirmed; spare = c.self.inside.room } in
     let some : 0 < c.args.count = search rules in
-    loses c.args.count c.args.now heard core old new k c.lose.ensures.tracked c.lose.ensures.pieces refl
-    (λ zero. absurd (omega arith), λ h. c.note.ensures.noted core confirmed Gap PassesOver k.stands.follows refl refl (over_can core k.stands.follows.rests))
-
-pub returns-then-count-gt0-clause-pending : goal.returns-then-count-gt0-clause-pending
-returns-then-count-gt0-clause-pending g c =
-    same_pending c.self.inside.procedure.pending c.note.new.self.pending c.note.ensures.waits c.note.ensures.free ∙ ap (λ (x : Kept). x.procedure.pending) c.self.view_is
+    loses c.args.count c.args.now heard core old new k c.lose.ensures.tracked c.lose.ensures.pieces refl refl
+    (λ zero. absurd (omega arith), λ h. c.note.ensures.noted core confirmed Gap PassesOver (settled_follows heard core old k) refl refl (over_can core k.stands.follows.rests))
 
 pub returns-else-count-gt0-clause-heard : goal.returns-else-count-gt0-clause-heard
 returns-else-count-gt0-clause-heard g c heard core r =
@@ -28,4 +25,4 @@ returns-else-count-gt0-clause-heard g c heard core r =
     let old : Kept = record { tracked = c.self.inside.signals; procedure = c.self.inside.procedure; image = c.self.inside.image; confirmed = confirmed; spare = c.self.inside.room } in
     let new : Kept = record { tracked = c.lose.new.self; procedure = c.self.inside.procedure; image = c.self.inside.image; confirmed = confirmed; spare = c.self.inside.room } in
     let none : c.args.count ≡ 0 = search rules in
-    loses c.args.count c.args.now heard core old new k c.lose.ensures.tracked c.lose.ensures.pieces refl (λ zero. (refl, refl), λ h. absurd (omega arith))
+    loses c.args.count c.args.now heard core old new k c.lose.ensures.tracked c.lose.ensures.pieces refl refl (λ zero. refl, λ h. absurd (omega arith))

@@ -8,7 +8,7 @@ use Rattle.fax_answer.specs.Following.{gives_now}
 use Rattle.fax_answer.specs.Reached.{Kept, IsReached}
 use Rattle.fax_answer.specs.Shown.{confirmed_shown}
 use Rattle.fax_answer.proofs.PacketLemmas.{short_as}
-use Rattle.fax_answer.proofs.ReachedLemmas.{reached_rests, step_rests, reached_gives, step_gives, given_gives, left_if, taken_if}
+use Rattle.fax_answer.proofs.ReachedLemmas.{reached_rests, step_rests, reached_gives, step_gives, given_gives, left_if, taken_if, settled_follows}
 use Rattle.fax_answer.proofs.answerer.Answerer.tick.Goals as goal
 
 not_true : (b : Bool) → not b ≡ true → b ≡ false
@@ -23,7 +23,7 @@ pub returns-then-not-gives-clause-ticked : goal.returns-then-not-gives-clause-ti
 returns-then-not-gives-clause-ticked g c heard core r =
     let now : ℕ = c.args.now in
     let s = subst (λ (k : Kept). IsReached heard core k) (sym c.self.view_is) r in
-    let acted = c.act.ensures.acted core _ s.stands.follows in
+    let acted = c.act.ensures.acted core _ (settled_follows heard core _ s) in
     let off : c.gives.result ≡ false = search rules in
     let none : gives_now (timed core now) now ≡ false = sym (c.gives.ensures.gives (timed core now) _ acted) ∙ off in
     (reached_rests heard core now _ c.act.new.self s acted none, step_rests {S = g.row.S.Denot} core now none)
@@ -32,7 +32,7 @@ pub returns-clause-ticked : goal.returns-clause-ticked
 returns-clause-ticked g c heard core r =
     let now : ℕ = c.args.now in
     let s = subst (λ (k : Kept). IsReached heard core k) (sym c.self.view_is) r in
-    let acted = c.act.ensures.acted core _ s.stands.follows in
+    let acted = c.act.ensures.acted core _ (settled_follows heard core _ s) in
     let on : c.gives.result ≡ true = search rules in
     let gives : gives_now (timed core now) now ≡ true = sym (c.gives.ensures.gives (timed core now) _ acted) ∙ on in
     let next = c.give-ended.ensures (timed core now) _ acted in
@@ -59,5 +59,5 @@ returns-in_err-room-clause-memory g c =
     let on : c.gives.result ≡ true = search rules in
     on_err c.from_residual.result (λ (heard : List Slot) (core : Answering) (r : IsReached heard core c.args.self.now).
     let s = subst (λ (k : Kept). IsReached heard core k) (sym c.self.view_is) r in
-    let acted = c.act.ensures.acted core _ s.stands.follows in
+    let acted = c.act.ensures.acted core _ (settled_follows heard core _ s) in
     given_gives core now (sym (c.gives.ensures.gives (timed core now) _ acted) ∙ on))

@@ -25,10 +25,10 @@ loop-packet-preserved c =
           (subst (λ (t : Tracked). Gives (Some c.in-Some.packet.now) t given) tracked c.in_ok-slot_into.ensures.pieces)
           c.hear_all.ensures.tracked
           (λ a f.
-          subst (λ (ps : List Piece). Follows writes job (came_all a ps c.args.now) c.hear_all.new.self.text c.hear_all.new.self.procedure) told
-          (c.hear_all.ensures.heard writes job a (subst (λ (k : Kept). Follows writes job a k.text k.procedure) (sym c.self-in-loop-packet.view_is) f))));
+          subst (λ (ps : List Piece). Follows writes job (came_all a ps c.args.now) c.hear_all.new.self.writer c.hear_all.new.self.procedure) told
+          (c.hear_all.ensures.heard writes job a (subst (λ (k : Kept). Follows writes job a k.writer k.procedure) (sym c.self-in-loop-packet.view_is) f))));
       job = λ job h. c.hear_all.ensures.job job (subst (λ (k : Kept). IsJobOfCall k.procedure job) (sym c.self-in-loop-packet.view_is) (before.job job h));
-      text = c.hear_all.ensures.text ∙ ap (λ (k : Kept). k.text) c.self-in-loop-packet.view_is ∙ before.text;
+      writer = c.hear_all.ensures.writer ∙ ap (λ (k : Kept). k.writer) c.self-in-loop-packet.view_is ∙ before.writer;
       spare = c.hear_all.ensures.spare ∙ ap (λ (k : Kept). k.spare) c.self-in-loop-packet.view_is ∙ before.spare;
     }
 

@@ -14,6 +14,6 @@ abbrev pub invariant-loop-packet : goal.invariant-loop-packet
 invariant-loop-packet l = record {
   heard : (writes : Writing) (job : JobValue) (heard : List Slot) (core : Calling) → IsReached writes job heard core l.fn.self → Hears writes job (lost_slots l.decided.lost ++ map Some (texts l.yielded)) l.now heard core l.self;
   job : (job : JobValue) → IsJobOfCall l.fn.self.procedure job → IsJobOfCall l.self.procedure job;
-  text : l.self.text ≡ l.fn.self.text;
+  writer : l.self.writer ≡ l.fn.self.writer;
   spare : l.self.spare ≡ l.fn.self.spare;
 }

@@ -16,11 +16,11 @@ loop-piece-preserved c =
     record {
       fit = c.hear.ensures.fit;
       idle = λ e. c.hear.ensures.idle (ap (λ (p : Procedure). p.state) (before.idle e) ∙ e) ∙ before.idle e;
-      text = λ text h. c.hear.ensures.text text (before.text text h);
-      heard = λ writes job core text f.
-          subst (λ (ps : List Piece). Follows writes job (came_all core ps c.args.now) text c.hear.new.self) (shown_more c.args.pieces.now i c.piece-item.result c.loop-piece-test.true c.piece-item.is)
-          (subst (λ (a : Calling). Follows writes job a text c.hear.new.self) (sym (came_more core (pieces_shown (take i c.args.pieces.now)) (piece_of c.piece-item.result) c.args.now))
-          (c.hear.ensures.heard writes job _ text (before.heard writes job core text f)));
+      text = λ writer h. c.hear.ensures.text writer (before.text writer h);
+      heard = λ writes job core writer f.
+          subst (λ (ps : List Piece). Follows writes job (came_all core ps c.args.now) writer c.hear.new.self) (shown_more c.args.pieces.now i c.piece-item.result c.loop-piece-test.true c.piece-item.is)
+          (subst (λ (a : Calling). Follows writes job a writer c.hear.new.self) (sym (came_more core (pieces_shown (take i c.args.pieces.now)) (piece_of c.piece-item.result) c.args.now))
+          (c.hear.ensures.heard writes job _ writer (before.heard writes job core writer f)));
     }
 
 pub returns-clause-job : goal.returns-clause-job

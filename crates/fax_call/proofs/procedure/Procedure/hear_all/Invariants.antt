@@ -1,6 +1,7 @@
-use Rattle.std.proofs.Common.{◌≡◌, ℕ, List, take}
+use Rattle.std.proofs.Common.{◌≡◌, take}
 use Rattle.fax_ifp.specs.Shown.{pieces_shown}
 use Rattle.fax_jobs.specs.Jobs.{JobValue}
+use Rattle.fax_pagestore.specs.Writers.{WriterValue}
 use Rattle.fax_call.specs.declared.state.State.TheVariants.{Idle}
 use Rattle.fax_call.specs.Writings.{Writing}
 use Rattle.fax_call.specs.Calls.{Calling, came_all}
@@ -12,6 +13,6 @@ abbrev pub invariant-loop-piece : goal.invariant-loop-piece
 invariant-loop-piece l = record {
   fit : IsFit l.self;
   idle : l.fn.self.state ≡ Idle → l.self ≡ l.fn.self;
-  text : (text : List ℕ) → HasText l.fn.self.pending text → HasText l.self.pending text;
-  heard : (writes : Writing) (job : JobValue) (core : Calling) (text : List ℕ) → Follows writes job core text l.fn.self → Follows writes job (came_all core (pieces_shown (take l.piece-index l.pieces)) l.now) text l.self;
+  text : (writer : WriterValue) → HasText l.fn.self.pending writer → HasText l.self.pending writer;
+  heard : (writes : Writing) (job : JobValue) (core : Calling) (writer : WriterValue) → Follows writes job core writer l.fn.self → Follows writes job (came_all core (pieces_shown (take l.piece-index l.pieces)) l.now) writer l.self;
 }

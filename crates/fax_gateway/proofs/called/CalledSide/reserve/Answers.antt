@@ -5,6 +5,6 @@ use Rattle.fax_gateway.proofs.Serving.{side_keeps}
 use Rattle.fax_gateway.proofs.called.CalledSide.reserve.Goals as goal
 
 pub returns-clause-reached : goal.returns-clause-reached
-returns-clause-reached c writes leg r =
+returns-clause-reached c setup writes leg r =
     let new : CalledSide = record { caller = c.reserve.new.self; leg = c.reserve-2.new.self } in
-    side_keeps writes leg c.args.self.now new c.reserve.ensures.reached (ap (λ (k : call.Kept). k.procedure.format) c.reserve.ensures.same) c.reserve-2.ensures.reached r
+    side_keeps setup writes leg c.args.self.now new c.reserve.ensures.reached (ap (λ (k : call.Kept). k.procedure.format) c.reserve.ensures.same) (c.reserve-2.ensures.reached setup) r

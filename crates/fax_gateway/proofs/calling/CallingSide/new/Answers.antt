@@ -3,4 +3,4 @@ use Rattle.fax_gateway.proofs.calling.CallingSide.new.Goals as goal
 
 pub returns : goal.returns
 unfolding newest_slots slots
-returns g c = record { number = tt; core = c.new-2.ensures; on_leg = c.in_ok-leg.ensures }
+returns g c setup set = record { number = tt; core = c.new-2.ensures; on_leg = c.in_ok-leg.ensures setup set }

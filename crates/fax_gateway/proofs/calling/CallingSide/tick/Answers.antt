@@ -4,15 +4,15 @@ use Rattle.fax_gateway.proofs.Serving.{side_ticks, side_tells}
 use Rattle.fax_gateway.proofs.calling.CallingSide.tick.Goals as goal
 
 pub returns-clause-ticked : goal.returns-clause-ticked
-returns-clause-ticked g c leg r =
+returns-clause-ticked g c setup leg r =
     let inside = c.self.inside in
-    let s = subst (λ (k : CallingValue). IsCalling leg k) (sym c.self.view_is) r in
+    let s = subst (λ (k : CallingValue). IsCalling setup leg k) (sym c.self.view_is) r in
     let new : CallingValue = record { number = inside.number; kept = c.tick.new.self; leg = c.send_if.new.self } in
-    side_ticks {S = g.row.S.Denot} leg c.args.now _ new c.in-Ok.step c.send_if.result refl c.in-Ok.ensures.ticked c.send_if.ensures s
+    side_ticks {S = g.row.S.Denot} setup leg c.args.now _ new c.in-Ok.step c.send_if.result refl c.in-Ok.ensures.ticked (c.send_if.ensures setup) s
 
 pub returns-clause-told : goal.returns-clause-told
-returns-clause-told g c leg r =
+returns-clause-told g c setup leg r =
     let inside = c.self.inside in
-    let s = subst (λ (k : CallingValue). IsCalling leg k) (sym c.self.view_is) r in
+    let s = subst (λ (k : CallingValue). IsCalling setup leg k) (sym c.self.view_is) r in
     let new : CallingValue = record { number = inside.number; kept = c.tick.new.self; leg = c.send_if.new.self } in
-    side_tells {S = g.row.S.Denot} leg c.args.now _ new c.in-Ok.step _ c.in-Ok.ensures.ticked c.send_if.ensures refl refl s
+    side_tells {S = g.row.S.Denot} setup leg c.args.now _ new c.in-Ok.step _ c.in-Ok.ensures.ticked (c.send_if.ensures setup) refl refl s

@@ -5,9 +5,9 @@ use Rattle.fax_gateway.proofs.DrivingLemmas.{carries_datagram, carries_failure, 
 use Rattle.fax_gateway.proofs.driver.Driver.receive.Goals as goal
 
 pub returns-in-Ok-Some : goal.returns-in-Ok-Some
-returns-in-Ok-Some g c writes trace earlier reached made =
+returns-in-Ok-Some g c setup writes trace earlier reached made =
     let at : Side = c.args.side in
-    let h = c.hand_on-is_accepted.ensures writes trace reached in
+    let h = c.hand_on-is_accepted.ensures setup writes trace reached in
     let k = c.receive.ensures in
     let buffer : List ℕ = c.receive.new.buffer in
     let count : ℕ = c.in-Ok-Some.count in
@@ -26,7 +26,7 @@ returns-in-Ok-Some g c writes trace earlier reached made =
     )
 
 pub returns-in-Ok-None : goal.returns-in-Ok-None
-returns-in-Ok-None g c writes trace earlier reached made =
+returns-in-Ok-None g c setup writes trace earlier reached made =
     let at : Side = c.args.side in
     let k = c.receive.ensures in (
       ReceivesNothing at,
@@ -42,7 +42,7 @@ returns-in-Ok-None g c writes trace earlier reached made =
     )
 
 pub returns-in-Err : goal.returns-in-Err
-returns-in-Err g c writes trace earlier reached made =
+returns-in-Err g c setup writes trace earlier reached made =
     let at : Side = c.args.side in
     let k = c.receive.ensures in (
       FailsToReceive at,

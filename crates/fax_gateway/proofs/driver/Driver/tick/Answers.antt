@@ -7,33 +7,33 @@ use Rattle.fax_gateway.proofs.DrivingLemmas.{carries_unseen, made_refused_tick, 
 use Rattle.fax_gateway.proofs.driver.Driver.tick.Goals as goal
 
 pub returns-in-Ok : goal.returns-in-Ok
-returns-in-Ok g c writes trace earlier writing reached made =
+returns-in-Ok g c setup writes trace earlier writing reached made =
     let e : Entry = Accepts (Tick c.args.now (given_shown c.in-Ok.given)) in
-    let step : Steps writes (e ∷ []) trace earlier c.tick.new.self (g.W.Wire.known c.args.wire.now) (g.W.Wire.known c.args.wire.now) c.args.self.now = record {
+    let step : Steps setup writes (e ∷ []) trace earlier c.tick.new.self (g.W.Wire.known c.args.wire.now) (g.W.Wire.known c.args.wire.now) c.args.self.now = record {
       happens = record {
-        reached = c.in-Ok.ensures.ticked writes trace writing reached;
+        reached = c.in-Ok.ensures.ticked setup writes trace writing reached;
         wanting = (tt, tt);
         carried = carries_unseen e _ refl refl refl refl;
       };
       made = made_unseen earlier e _ refl refl refl refl made;
     } in
     let first = c.send.ensures (e ∷ earlier) step.made in
-    let steps = steps_more writes (e ∷ []) first.0 trace earlier _ _ _ _ _ _ _ step
-    (steps_send writes side.Calling c.in-Ok.given.calling first.0 (events (e ∷ []) ++ trace) (e ∷ earlier) _ _ _ _ first.1 first.2 first.3 step.happens.reached) in
+    let steps = steps_more setup writes (e ∷ []) first.0 trace earlier _ _ _ _ _ _ _ step
+    (steps_send setup writes side.Calling c.in-Ok.given.calling first.0 (events (e ∷ []) ++ trace) (e ∷ earlier) _ _ _ _ first.1 first.2 first.3 step.happens.reached) in
     let second = c.send-in-Ok.ensures ((first.0 ++ e ∷ []) ++ earlier) steps.made in (
       second.0 ++ (first.0 ++ e ∷ []),
       inl (given_shown c.in-Ok.given, first.0, second.0, first.1, second.1, refl),
-      steps_more writes (first.0 ++ e ∷ []) second.0 trace earlier _ _ _ _ _ _ _ steps
-          (steps_send writes side.Called c.in-Ok.given.called second.0 (events (first.0 ++ e ∷ []) ++ trace) ((first.0 ++ e ∷ []) ++ earlier) _ _ _ _ second.1 second.2 second.3 steps.happens.reached),
+      steps_more setup writes (first.0 ++ e ∷ []) second.0 trace earlier _ _ _ _ _ _ _ steps
+          (steps_send setup writes side.Called c.in-Ok.given.called second.0 (events (first.0 ++ e ∷ []) ++ trace) ((first.0 ++ e ∷ []) ++ earlier) _ _ _ _ second.1 second.2 second.3 steps.happens.reached),
     )
 
 pub returns-in-Err : goal.returns-in-Err
-returns-in-Err g c writes trace earlier writing reached made = (
+returns-in-Err g c setup writes trace earlier writing reached made = (
   RefusesTick ∷ [],
   inr refl,
   record {
     happens = record {
-      reached = c.in-Err.ensures.kept writes trace reached;
+      reached = c.in-Err.ensures.kept setup writes trace reached;
       wanting = (tt, tt);
       carried = carries_unseen RefusesTick _ refl refl refl refl;
     };

@@ -10,15 +10,15 @@ use Rattle.fax_gateway.proofs.Ticking.{IsHeard, same_served, serves_off, ticks}
 use Rattle.fax_gateway.proofs.gateway.Gateway.tick_between.Goals as goal
 
 pub returns : goal.returns
-returns g c writes trace writing r =
+returns g c setup writes trace writing fresh r =
     let at : ℕ = c.args.now in
     let inside = c.self.inside in
-    let s = subst (λ (k : GatewayValue). IsReachedBy writes trace k) (sym c.self.view_is) r in
-    let old : GatewayValue = record { clock = inside.clock; rings = inside.rings; calling = inside.calling; called = inside.called; book = inside.jobs.book; spare = inside.jobs.spare } in
+    let s = subst (λ (k : GatewayValue). IsReachedBy setup writes trace k) (sym c.self.view_is) r in
+    let old : GatewayValue = record { settings = inside.settings; clock = inside.clock; rings = inside.rings; calling = inside.calling; called = inside.called; book = inside.jobs.book; spare = inside.jobs.spare } in
     let left = c.end_job-report.new.jobs in
     let side : CalledSide = c.begin-called.new.self in
-    let new : GatewayValue = record { clock = c.read-moment.new.self; rings = inside.rings; calling = c.serve_calling-calling.new.calling; called = side; book = left.book; spare = left.spare } in
-    let leg : Option CallingLeg = calling_leg trace in
+    let new : GatewayValue = record { settings = inside.settings; clock = c.read-moment.new.self; rings = inside.rings; calling = c.serve_calling-calling.new.calling; called = side; book = left.book; spare = left.spare } in
+    let leg : Option CallingLeg = calling_leg setup trace in
     let now_is : c.read-moment.result ≡ max at (clock trace) = c.read-moment.ensures.moment ∙ c.read-moment.ensures.later ∙ ap (λ (m : ℕ). max at m) s.at in
     let served = c.serve_calling-calling.ensures in
     let heard : Book = c.serve_calling-calling.new.jobs.book in
@@ -27,14 +27,14 @@ returns g c writes trace writing r =
     let o = outcome_kept side.caller.procedure in
     let d : ℕ = side.caller.procedure.counts.delivered in
     let given = c.begin-called.result in
-    let l : Option CalledLeg = (sides writes trace).leg in
-    ticks writes trace at _ old new s c.read-moment.ensures.later refl
-    (subst (λ (m : ℕ). IsCalling (ticked_on leg m) new.calling) now_is (served.ticked leg s.calling))
-    (served.told leg s.calling ∙ ap (λ (m : ℕ). told_calling leg m) now_is)
-    (same_served writes (max at (clock trace)) (in_tick writes trace at) (in_tick writes trace at) side given _ c.end_job-report.result _ left.book refl
+    let l : Option CalledLeg = (sides setup writes trace).leg in
+    ticks setup writes trace at _ old new s c.read-moment.ensures.later refl refl
+    (subst (λ (m : ℕ). IsCalling setup (ticked_on leg m) new.calling) now_is (served.ticked setup leg s.calling))
+    (served.told setup leg s.calling ∙ ap (λ (m : ℕ). told_calling setup leg m) now_is)
+    (same_served setup writes (max at (clock trace)) (in_tick setup writes trace at) (in_tick setup writes trace at) side given _ c.end_job-report.result _ left.book refl
     (c.end_job-report.ensures.report ∙ ap (λ (b : Book). report_if b.sending o d) next)
     (c.end_job-report.ensures.ended ∙ ap (λ (b : Book). ended_if b.sending o d b) next)
-    (serves_off writes trace at old side given heard s none
-    (subst (λ (m : ℕ). IsHeard trace m old heard) now_is (served.heard leg s.calling))
-    (subst (λ (m : ℕ). Begins writes l (taken heard).sending m given inside.called side) now_is
-    (subst (λ (b : Book). Begins writes l b.sending c.read-moment.result given inside.called side) next (c.begin-called.ensures.begun writes l writing s.called)))))
+    (serves_off setup writes trace at old side given heard s none
+    (subst (λ (m : ℕ). IsHeard setup trace m old heard) now_is (served.heard setup leg s.calling))
+    (subst (λ (m : ℕ). Begins setup writes l (taken heard).sending m given inside.called side) now_is
+    (subst (λ (b : Book). Begins setup writes l b.sending c.read-moment.result given inside.called side) next (c.begin-called.ensures.begun setup writes l writing fresh s.called)))))

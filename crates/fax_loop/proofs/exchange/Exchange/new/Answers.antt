@@ -2,8 +2,8 @@ use Rattle.std.proofs.Common.{[]}
 use Rattle.fax_loop.proofs.exchange.Exchange.new.Goals as goal
 
 pub returns-clause-driven : goal.returns-clause-driven
-returns-clause-driven g c = λ writes writing.
-    let (trace, reached) = c.in_ok-gateway.ensures writes in
+returns-clause-driven g c = λ setup writes set writing.
+    let (trace, reached) = c.in_ok-gateway.ensures setup writes set in
     (trace, [], reached, c.in_ok-driver.ensures)
 
 pub returns-clause-job : goal.returns-clause-job

@@ -1,4 +1,5 @@
 use Rattle.fax_call.specs.Following.{IsJobOfCall}
+use Rattle.fax_gateway.specs.declared.settings.Settings.{Settings}
 use Rattle.fax_loop.specs.Kept.{IsDriven}
 use Rattle.fax_loop.proofs.exchange.Exchange.play.Given as goal
 
@@ -6,5 +7,5 @@ use Rattle.fax_loop.proofs.exchange.Exchange.play.Given as goal
 abbrev pub invariant-loop-round : goal.invariant-loop-round
 invariant-loop-round l = record {
   job : IsJobOfCall l.self.caller.caller.procedure l.job;
-  driven : IsDriven l.self.gateway l.self.driver;
+  driven : (settings : Settings) → IsDriven settings l.fn.self.gateway l.fn.self.driver → IsDriven settings l.self.gateway l.self.driver;
 }

@@ -6,8 +6,8 @@ use Rattle.fax_trace.proofs.TextLemmas.{text_of_none}
 use Rattle.fax_trace.proofs.player.Player.hear_calling.Goals as goal
 
 pub returns-clause-played : goal.returns-clause-played
-returns-clause-played c = λ writes old is.
-    let heard = c.in_ok-from_calling.ensures.heard writes old.trace is.reached in
-    plays_accepted writes old (script.FromCalling c.args.octets.now) _
+returns-clause-played c = λ setup writes old is.
+    let heard = c.in_ok-from_calling.ensures.heard setup writes old.trace is.reached in
+    plays_accepted setup writes old (script.FromCalling c.args.octets.now) _
     (FromCalling c.args.octets.now c.args.self.now.moment c.in_ok-from_calling.field-0 heard.read) refl is.at heard.reached refl
     (text_of_none old.lines _ is.told)

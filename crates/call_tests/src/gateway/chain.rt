@@ -1,0 +1,272 @@
+//! Two gateways in a row: what the first gives on its called leg comes to the calling leg of the second, and back.
+use super::call::{COMES, DELIVERED, gateway_of, moment, octets_of};
+use fax_answer::{Answerer, State, Step};
+use fax_bits::Octets;
+use fax_gateway::{Gateway, Given, Side};
+use fax_jobs::{Outcome, Report};
+use fax_pagestore::{Page, PlainRows, RowStore};
+use fax_runcodes::Width;
+use fax_udptl::{Receiver, Sender};
+use std::alloc::Global;
+use std::mem;
+use std::process::Abort;
+
+/// How many turns there are: for a call, and for one in vain behind it, which is given up after 35 seconds.
+const TURNS: u32 = 1000;
+
+/// How many turns there are where the second gateway's call is answered: for a call whose first gateway gives up too, after
+/// three waits of 3 seconds.
+const ANSWERED_TURNS: u32 = 500;
+
+/// How many datagrams the first gives in an undisturbed call: CNG, a preamble, DCS, an indicator, 38 of the training check, an
+/// indicator, one of the image, and EOP and DCN behind a preamble each.
+const SENT: u32 = 48;
+
+/// What is told of the second's job where nobody answers.
+const UNANSWERED: Report = Report {
+    delivered: 0,
+    outcome: Outcome::NoAnswer,
+    ..DELIVERED
+};
+
+/// What a network does with the datagrams of the first, which are counted from 0.
+#[derive(Clone, Copy, Debug, PartialEq)]
+enum Network {
+    Keeps,
+    /// So many of them from one on are lost.
+    Loses(u32, u32),
+    /// One comes twice.
+    Repeats(u32),
+    /// One comes behind the next one.
+    Exchanges(u32),
+}
+
+#[test]
+fn a_page_goes_through_two_gateways(rt: HostRuntime) {
+    let mut chain = Chain::new(&rt, rt.alloc(), Network::Keeps, false);
+    chain.play(&rt, TURNS);
+    assert!(rt; chain.sent == SENT);
+    assert!(rt; chain.first_report == Some(DELIVERED));
+    assert!(rt; chain.second_report == Some(UNANSWERED));
+}
+
+#[test]
+fn the_second_holds_the_page_of_the_first(rt: HostRuntime) {
+    let alloc = rt.alloc();
+    for place in 0..SENT {
+        // what is lost or late comes again in the next three datagrams
+        for network in [
+            Network::Loses(place, 1),
+            Network::Repeats(place),
+            Network::Exchanges(place),
+        ] {
+            let pages = pages_behind(&rt, alloc, network);
+            assert_eq!(rt; pages, 1, "at {network:?}");
+        }
+    }
+}
+
+/// Where so many datagrams are lost that packets are, the second holds the page, or none.
+#[test]
+fn the_second_holds_no_other_page(rt: HostRuntime) {
+    let mut without = 0u32;
+    for place in 0..SENT {
+        if pages_behind(&rt, rt.alloc(), Network::Loses(place, 5)) == 0 {
+            without = without.saturating_add(1);
+        }
+    }
+    assert!(rt; 0 < without && without < SENT);
+}
+
+/// How many pages the machine confirms that the second gateway calls. It fails unless each is one white row.
+fn pages_behind(rt: &impl Abort, alloc: Global, network: Network) -> u32 {
+    let mut chain = Chain::new(rt, alloc, network, true);
+    chain.play(rt, ANSWERED_TURNS);
+    match &chain.machine {
+        Some(machine) => machine.pages,
+        None => 0,
+    }
+}
+
+/// Two gateways, a caller that sends one page to the first, and the machine that the second calls, where there is one.
+#[derive(Drop)]
+struct Chain {
+    first: Gateway<PlainRows>,
+    second: Gateway<PlainRows>,
+    machine: Option<Machine>,
+    network: Network,
+    /// How many datagrams the first gave on its called leg.
+    sent: u32,
+    /// The datagram of it that comes behind the next one.
+    late: Option<Octets>,
+    first_report: Option<Report>,
+    second_report: Option<Report>,
+}
+
+impl Chain {
+    fn new(rt: &impl Abort, alloc: Global, network: Network, is_answered: bool) -> Self {
+        let (first, _) = gateway_of(rt, alloc);
+        let (second, _) = gateway_of(rt, alloc);
+        let machine = if is_answered {
+            Some(Machine::new(rt, alloc))
+        } else {
+            None
+        };
+        Chain {
+            first,
+            second,
+            machine,
+            network,
+            sent: 0,
+            late: None,
+            first_report: None,
+            second_report: None,
+        }
+    }
+
+    fn play(&mut self, rt: &impl Abort, turns: u32) {
+        self.first.ring(0).expect(rt, "the first call");
+        for turn in 0..turns {
+            self.caller_sends(rt, turn);
+            self.first_gives(rt, moment(turn));
+            self.second_gives(rt, moment(turn));
+            self.machine_gives(rt, moment(turn));
+        }
+    }
+
+    /// What comes to the first gateway in a turn.
+    fn caller_sends(&mut self, rt: &impl Abort, turn: u32) {
+        for (at, side, head, zeros, tail) in COMES {
+            if *at == turn && *side == Side::Calling {
+                let datagram = octets_of(*head, *zeros, *tail);
+                self.first
+                    .from_calling(datagram.as_slice(), moment(turn))
+                    .expect(rt, "a datagram of the caller");
+            }
+        }
+    }
+
+    fn first_gives(&mut self, rt: &impl Abort, now: u64) {
+        let Given { called, report, .. } = self.first.tick(now).expect(rt, "a tick of the first");
+        if report.is_some() {
+            self.first_report = report;
+        }
+        let Some(datagram) = called else {
+            return;
+        };
+        if self.sent == 0 {
+            self.second.ring(now).expect(rt, "the second call");
+        }
+        self.goes(rt, datagram, now);
+    }
+
+    /// A datagram of the first goes over the network.
+    fn goes(&mut self, rt: &impl Abort, datagram: Octets, now: u64) {
+        let place = self.sent;
+        self.sent = place.saturating_add(1);
+        match self.network {
+            Network::Loses(from, count) if place.wrapping_sub(from) < count => (),
+            Network::Exchanges(late) if late == place => {
+                self.late = Some(datagram);
+                return;
+            }
+            Network::Repeats(twice) if twice == place => {
+                self.comes(rt, &datagram, now);
+                self.comes(rt, &datagram, now);
+            }
+            _ => self.comes(rt, &datagram, now),
+        }
+        if let Some(late) = mem::replace(&mut self.late, None) {
+            self.comes(rt, &late, now);
+        }
+    }
+
+    fn comes(&mut self, rt: &impl Abort, datagram: &Octets, now: u64) {
+        self.second
+            .from_calling(datagram.as_slice(), now)
+            .expect(rt, "a datagram of the first");
+    }
+
+    fn second_gives(&mut self, rt: &impl Abort, now: u64) {
+        let given = self.second.tick(now).expect(rt, "a tick of the second");
+        if given.report.is_some() {
+            self.second_report = given.report;
+        }
+        if let Some(datagram) = &given.calling {
+            self.first
+                .from_called(datagram.as_slice(), now)
+                .expect(rt, "a datagram of the second");
+        }
+        if let (Some(datagram), Some(machine)) = (&given.called, &mut self.machine) {
+            machine.hears(rt, datagram.as_slice(), now);
+        }
+    }
+
+    fn machine_gives(&mut self, rt: &impl Abort, now: u64) {
+        if let Some(machine) = &mut self.machine {
+            if let Some(datagram) = machine.gives(rt, now) {
+                self.second
+                    .from_called(datagram.as_slice(), now)
+                    .expect(rt, "a datagram of the machine");
+            }
+        }
+    }
+}
+
+/// A machine that a gateway calls. It counts the pages that it confirmed.
+#[derive(Drop)]
+struct Machine {
+    answerer: Answerer<PlainRows>,
+    receiver: Receiver,
+    sender: Sender,
+    has_rung: bool,
+    pages: u32,
+}
+
+impl Machine {
+    fn new(rt: &impl Abort, alloc: Global) -> Self {
+        Machine {
+            answerer: Answerer::new(alloc),
+            receiver: Receiver::new(),
+            sender: Sender::new(alloc, 3).expect(rt, "a sender"),
+            has_rung: false,
+            pages: 0,
+        }
+    }
+
+    /// A datagram comes, by the first of which it is rung.
+    fn hears(&mut self, rt: &impl Abort, datagram: &[u8], now: u64) {
+        if !self.has_rung && self.answerer.state() == State::Idle {
+            self.answerer.ring(now);
+        }
+        self.has_rung = true;
+        if let Ok(decided) = self.receiver.take(datagram) {
+            self.answerer.slots(&decided, now).expect(rt, "slots");
+        }
+    }
+
+    /// Time goes on. It fails unless a page that is confirmed is one white row.
+    fn gives(&mut self, rt: &impl Abort, now: u64) -> Option<Octets> {
+        let Step {
+            packet,
+            confirmed,
+            ..
+        } = self.answerer.tick(now).expect(rt, "a tick of the machine");
+        if let Some(confirmed) = confirmed {
+            assert!(rt; is_white_row(&confirmed.page));
+            self.pages = self.pages.saturating_add(1);
+        }
+        let packet = packet?;
+        Some(self.sender.send(packet.as_slice()).expect(rt, "a datagram"))
+    }
+}
+
+/// Whether a page is one white row of 1,728 elements, in the standard resolution.
+fn is_white_row(page: &Page<PlainRows>) -> bool {
+    let format = page.format();
+    let rows = page.rows();
+    format.width == Width::W1728
+        && !format.fine
+        && rows.len() == 1
+        && rows.lend(0).changes().is_empty()
+}

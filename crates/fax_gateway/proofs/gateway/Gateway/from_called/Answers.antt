@@ -1,0 +1,30 @@
+use Rattle.std.proofs.Common.{◌≡◌, ℕ, max, Bool, List, Option, Some, None, option_map, refl, sym, ◌∙◌, ap, subst}
+use Rattle.fax_gateway.specs.Setups.{Setup}
+use Rattle.fax_gateway.specs.Events.{FromCalled, clock}
+use Rattle.fax_gateway.specs.CallingLegs.{CallingLeg, calling_after, calling_leg}
+use Rattle.fax_gateway.specs.CalledLegs.{hears}
+use Rattle.fax_gateway.specs.Sides.{sides}
+use Rattle.fax_gateway.specs.Reached.{GatewayValue, IsCalled, IsCalling, IsReachedBy}
+use Rattle.fax_gateway.proofs.gateway.Gateway.from_called.Goals as goal
+
+same_leg : (setup : Setup) (leg : Option CallingLeg) (now : ℕ) (octets : List ℕ) (at : ℕ) (decided : Bool) → leg ≡ calling_after setup leg now (FromCalled octets at decided)
+same_leg setup None now octets at decided = refl
+same_leg setup (Some l) now octets at decided = refl
+
+pub returns-clause-heard : goal.returns-clause-heard
+returns-clause-heard g c = λ setup writes trace r.
+    let at : ℕ = c.args.now in
+    let octets : List ℕ = c.args.octets.now in
+    let s = subst (λ (k : GatewayValue). IsReachedBy setup writes trace k) (sym c.self.view_is) r in
+    let now : c.read.new.self ≡ max at (clock trace) = c.read.ensures.later ∙ ap (λ (m : ℕ). max at m) s.at in
+    let leg = (sides setup writes trace).leg in
+    let new = c.hear.new.self in
+    record {
+      is_trace = (c.in_ok-decided.ensures.decided setup writes leg s.called, s.is_trace);
+      set = s.set;
+      at = now;
+      rung = s.rung;
+      calling = subst (λ (o : Option CallingLeg). IsCalling setup o c.self.inside.calling) (same_leg setup (calling_leg setup trace) (max at (clock trace)) octets at c.in_ok-decided.decided) s.calling;
+      called = subst (λ (m : ℕ). IsCalled setup writes (option_map (hears writes octets m) leg) new) (c.read.ensures.moment ∙ now) (c.in_ok-decided.ensures.heard setup writes leg s.called);
+      book = s.book;
+    }

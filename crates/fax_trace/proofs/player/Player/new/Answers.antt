@@ -1,0 +1,11 @@
+use Rattle.std.proofs.Common.{refl, sym, subst}
+use Rattle.fax_gateway.specs.declared.settings.Settings.{Settings}
+use Rattle.fax_gateway.specs.Setups.{AreSet}
+use Rattle.fax_trace.proofs.player.Player.new.Goals as goal
+
+pub returns-clause-new : goal.returns-clause-new
+returns-clause-new c = λ setup writes set. record {
+  reached = c.in_ok-gateway.ensures.reached setup writes (subst (λ (s : Settings). AreSet setup s) c.in_ok-gateway.ensures.settings set);
+  at = refl;
+  told = c.new.ensures.items;
+}
