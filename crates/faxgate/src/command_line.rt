@@ -1,7 +1,9 @@
 //! The command line.
+use crate::capture_line::{Machines, capture_command, machines_of};
 use clap::builder::ValueParser;
 use clap::{Arg, ArgAction, ArgMatches, Command, Error};
 use fax_command::{Output, PageOptions};
+use fax_gateway::Settings;
 use fax_pagestore::{Coding, Format};
 use fax_runcodes::Width;
 use std::alloc::{AllocError, Global};
@@ -12,10 +14,12 @@ use std::convert::AsStr;
 pub enum Request {
     /// The rows of a page, or the page of rows.
     Page(PageOptions),
-    /// What a gateway answers to a script.
-    Trace,
-    /// A page that goes through a gateway, over sockets.
-    Loop,
+    /// What a gateway with these settings answers to a script.
+    Trace(Settings),
+    /// The script of a captured call, between these machines.
+    Capture(Machines),
+    /// A page that goes through a gateway with these settings, over sockets.
+    Loop(Settings),
 }
 
 /// What the words of a command line ask for, of which the first is the program's name. An `Err` is the
@@ -25,9 +29,15 @@ pub fn request_of<'a, S: AsStr>(alloc: Global, words: &'a [S]) -> Result<Request
     if let Some(page) = matches.subcommand_matches("page") {
         return Ok(Request::Page(options_of(page)));
     }
-    match matches.subcommand_matches("loop") {
-        Some(_) => Ok(Request::Loop),
-        None => Ok(Request::Trace),
+    if let Some(capture) = matches.subcommand_matches("capture") {
+        return Ok(Request::Capture(machines_of(alloc, capture)?));
+    }
+    if let Some(given) = matches.subcommand_matches("loop") {
+        return Ok(Request::Loop(settings_of(given)));
+    }
+    match matches.subcommand_matches("trace") {
+        Some(given) => Ok(Request::Trace(settings_of(given))),
+        None => Ok(Request::Trace(Settings::default())),
     }
 }
 
@@ -52,6 +62,14 @@ fn options_of(page: &ArgMatches<'_>) -> PageOptions {
     }
 }
 
+/// The settings of the gateway that were given, and the defaults of those that were not.
+fn settings_of(given: &ArgMatches<'_>) -> Settings {
+    match given.get_one::<u8>("redundancy") {
+        Some(redundancy) => Settings { redundancy },
+        None => Settings::default(),
+    }
+}
+
 /// What is to be made of the input.
 fn output_of(page: &ArgMatches<'_>) -> Output {
     if page.get_flag("back") {
@@ -63,6 +81,9 @@ fn output_of(page: &ArgMatches<'_>) -> Output {
     }
 }
 
+/// The most of the packets before its own that a datagram has.
+pub const MOST_REDUNDANCY: u8 = 8;
+
 /// What `faxgate --version` prints behind the name.
 const VERSION: &str = "0.1.0";
 
@@ -72,26 +93,41 @@ fn faxgate_command<'a>(alloc: Global) -> Result<Command<'a>, AllocError> {
         .bin_name("faxgate")?
         .version(VERSION)
         .about(
-            "Reads and writes the pages of a fax gateway, plays what came to one, and sends a page through one",
+            "Reads and writes the pages of a fax gateway, plays what came to one, from a capture too, and sends a page through one",
         )
         .subcommand_required(true)
         .subcommand(page_command(alloc)?)?
-        .subcommand(trace_command(alloc))?
-        .subcommand(loop_command(alloc))
+        .subcommand(trace_command(alloc)?)?
+        .subcommand(capture_command(alloc)?)?
+        .subcommand(loop_command(alloc)?)
 }
 
 /// The command line of `faxgate trace`.
-fn trace_command<'a>(alloc: Global) -> Command<'a> {
-    Command::new(alloc, "trace").about(
-        "Play a script on a new gateway, and print what it answers. Lines of a script: R (it rings), A HEX and B HEX (a datagram came on the calling or on the called leg), T MS (time goes on to a moment)",
-    )
+fn trace_command<'a>(alloc: Global) -> Result<Command<'a>, AllocError> {
+    Command::new(alloc, "trace")
+        .about(
+            "Play a script on a new gateway, and print what it answers. Lines of a script: R (it rings), A HEX and B HEX (a datagram came on the calling or on the called leg), T MS (time goes on to a moment)",
+        )
+        .arg(redundancy_option(alloc))
 }
 
 /// The command line of `faxgate loop`.
-fn loop_command<'a>(alloc: Global) -> Command<'a> {
-    Command::new(alloc, "loop").about(
-        "Send a page from one machine through a gateway to another, over UDP on this host: read its octets as hex text, and print how the job ended and the rows that were confirmed",
-    )
+fn loop_command<'a>(alloc: Global) -> Result<Command<'a>, AllocError> {
+    Command::new(alloc, "loop")
+        .about(
+            "Send a page from one machine through a gateway to another, over UDP on this host: read its octets as hex text, and print how the job ended and the rows that were confirmed",
+        )
+        .arg(redundancy_option(alloc))
+}
+
+/// The option of the redundancy.
+fn redundancy_option<'a>(alloc: Global) -> Arg<'a> {
+    Arg::new(alloc, "redundancy")
+        .long("redundancy")
+        .value_name("PACKETS")
+        .value_parser(ValueParser::Unsigned(0, u64::from(MOST_REDUNDANCY)))
+        .default_value("3")
+        .help("How many of the packets before its own each datagram has, from 0 to 8")
 }
 
 /// The command line of `faxgate page`.

@@ -1,14 +1,20 @@
 //! `faxgate page` prints the rows of a page (ITU-T T.4), or the page of rows; `faxgate trace` prints what a gateway
-//! answers to a script of what came to it; `faxgate loop` sends a page through a gateway, over sockets of this host.
+//! answers to a script of what came to it; `faxgate capture` prints the script of a captured call; `faxgate loop` sends a
+//! page through a gateway, over sockets of this host.
 #![tactic(auto)]
 
+ghost use Rattle.fax_gateway.specs.Setups.{AreAllowed};
+
+mod capture_line;
 mod command_line;
 #[cfg(test)]
 mod tests;
 
 use clap::error::ErrorKind;
-use command_line::{Request, request_of};
+use command_line::{MOST_REDUNDANCY, Request, request_of};
+use fax_capture::run_capture;
 use fax_command::{Status, StdSink, StdSource, run_page};
+use fax_gateway::Settings;
 use fax_loop::run_loop;
 use fax_trace::run_trace;
 use std::net::Net;
@@ -35,8 +41,37 @@ fn run_words<R: Print + Eprint + Input + Env + AllocGlobal, N: Net>(rt: &R, net:
     let mut sink = StdSink::new(io::writer(rt));
     match request {
         Request::Page(options) => run_page(rt.alloc(), &mut source, &mut sink, options),
-        Request::Trace => run_trace(rt.alloc(), &mut source, &mut sink),
-        Request::Loop => run_loop(net, rt.alloc(), &mut source, &mut sink),
+        Request::Trace(settings) => run_trace(
+            rt.alloc(),
+            &mut source,
+            &mut sink,
+            allowed(settings),
+        ),
+        Request::Capture(machines) => run_capture(
+            rt.alloc(),
+            &mut source,
+            &mut sink,
+            &machines.caller,
+            &machines.called,
+        ),
+        Request::Loop(settings) => run_loop(
+            net,
+            rt.alloc(),
+            &mut source,
+            &mut sink,
+            allowed(settings),
+        ),
+    }
+}
+
+/// These settings. The command line refuses those beyond the limits; they would be the defaults.
+fn allowed(settings: Settings) -> Settings
+    ensures { AreAllowed result }
+{
+    if settings.redundancy <= MOST_REDUNDANCY {
+        settings
+    } else {
+        Settings::default()
     }
 }
 

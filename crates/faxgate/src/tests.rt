@@ -74,29 +74,56 @@ const ANSWERS: &[(&[&str], &str, u8, &str)] = &[
     ),
     (&["faxgate", "trace"], "R\nS\n", 1, "ring 0\nfault line 2\n"),
     (
+        &["faxgate", "trace", "--redundancy", "0"],
+        "R\nT 0\nT 40\n",
+        0,
+        "ring 0\na 000001040000\na 000101060000\n",
+    ),
+    (
+        &["faxgate", "loop", "--redundancy=8"],
+        PAGE,
+        0,
+        "job 0 1728 standard 1 1 Delivered\n1728\n",
+    ),
+    (
         &["faxgate", "loop"],
         PAGE,
         0,
         "job 0 1728 standard 1 1 Delivered\n1728\n",
     ),
     (&["faxgate", "loop"], "ff", 1, "fault 1 NoEol\n"),
+    (
+        &[
+            "faxgate",
+            "capture",
+            "--caller",
+            "192.0.2.10",
+            "--called",
+            "[2001:db8::1]:6000",
+        ],
+        "R",
+        1,
+        "fault 1 NoCapture\n",
+    ),
     (&["faxgate", "--version"], "", 0, "faxgate 0.1.0\n"),
     (&["faxgate", "--help"], "", 0, HELP),
     (&["faxgate", "page", "--help"], "", 0, PAGE_HELP),
     (&["faxgate", "trace", "-h"], "", 0, TRACE_HELP),
+    (&["faxgate", "capture", "-h"], "", 0, CAPTURE_HELP),
     (&["faxgate", "help", "loop"], "", 0, LOOP_HELP),
 ];
 
 const HELP: &str = "\
-Reads and writes the pages of a fax gateway, plays what came to one, and sends a page through one
+Reads and writes the pages of a fax gateway, plays what came to one, from a capture too, and sends a page through one
 
 Usage: faxgate <COMMAND>
 
 Commands:
-  page   Read the octets of a page as hex text, and print each row as a line of run lengths, white first
-  trace  Play a script on a new gateway, and print what it answers. Lines of a script: R (it rings), A HEX and B HEX (a datagram came on the calling or on the called leg), T MS (time goes on to a moment)
-  loop   Send a page from one machine through a gateway to another, over UDP on this host: read its octets as hex text, and print how the job ended and the rows that were confirmed
-  help   Print this message or the help of the given subcommand(s)
+  page     Read the octets of a page as hex text, and print each row as a line of run lengths, white first
+  trace    Play a script on a new gateway, and print what it answers. Lines of a script: R (it rings), A HEX and B HEX (a datagram came on the calling or on the called leg), T MS (time goes on to a moment)
+  capture  Read a capture made at a gateway (pcap or pcapng), and print the script of its call for faxgate trace: the ring, the datagrams of both machines at their ticks, and ticks until 40 s behind the last
+  loop     Send a page from one machine through a gateway to another, over UDP on this host: read its octets as hex text, and print how the job ended and the rows that were confirmed
+  help     Print this message or the help of the given subcommand(s)
 
 Options:
   -h, --help     Print help
@@ -121,19 +148,45 @@ Options:
 const TRACE_HELP: &str = "\
 Play a script on a new gateway, and print what it answers. Lines of a script: R (it rings), A HEX and B HEX (a datagram came on the calling or on the called leg), T MS (time goes on to a moment)
 
-Usage: faxgate trace
+Usage: faxgate trace [OPTIONS]
 
 Options:
-  -h, --help  Print help
+      --redundancy <PACKETS>  How many of the packets before its own each datagram has, from 0 to 8 [default: 3]
+  -h, --help                  Print help
+";
+
+const CAPTURE_HELP: &str = "\
+Read a capture made at a gateway (pcap or pcapng), and print the script of its call for faxgate trace: the ring, the datagrams of both machines at their ticks, and ticks until 40 s behind the last
+
+Usage: faxgate capture --caller <ADDRESS> --called <ADDRESS>
+
+Options:
+      --caller <ADDRESS>  Where the calling machine sends from: 192.0.2.10, 192.0.2.10:6000, 2001:db8::1 or [2001:db8::1]:6000
+      --called <ADDRESS>  Where the called machine sends from
+  -h, --help              Print help
+
+Prints:
+  R       it rings
+  T MS    a tick each 40 ms: T 0 is the moment of the first datagram that one of the two sent or was sent
+  A HEX   a datagram that the caller sent, behind the tick at or before it
+  B HEX   a datagram that the called machine sent
+
+Statuses:
+  0  the script was printed
+  1  the capture has none, and one line tells why: fault 1 NoCapture, 2 Cut, 3 Damaged, 4 NoAddress or 5 TooLong
+  2  the command line was refused
+  3  memory was wanted and refused: fault memory
+  4  a read or a write failed, or the capture has more than 16,777,216 octets
 ";
 
 const LOOP_HELP: &str = "\
 Send a page from one machine through a gateway to another, over UDP on this host: read its octets as hex text, and print how the job ended and the rows that were confirmed
 
-Usage: faxgate loop
+Usage: faxgate loop [OPTIONS]
 
 Options:
-  -h, --help  Print help
+      --redundancy <PACKETS>  How many of the packets before its own each datagram has, from 0 to 8 [default: 3]
+  -h, --help                  Print help
 ";
 
 /// The words of a command line that is refused, and what is told; nothing is printed.
@@ -141,7 +194,7 @@ const REFUSALS: &[(&[&str], &str)] = &[
     (
         &["faxgate"],
         "error: 'faxgate' requires a subcommand but one was not provided
-  [subcommands: page, trace, loop, help]
+  [subcommands: page, trace, capture, loop, help]
 
 Usage: faxgate <COMMAND>
 ",
@@ -189,10 +242,37 @@ Usage: faxgate page --pbm
 ",
     ),
     (
+        &["faxgate", "capture", "--caller", "192.0.2.10"],
+        "error: the following required arguments were not provided:
+  --called <ADDRESS>
+
+Usage: faxgate capture --caller <ADDRESS> --called <ADDRESS>
+",
+    ),
+    (
+        &[
+            "faxgate",
+            "capture",
+            "--caller",
+            "192.0.2.256",
+            "--called",
+            "192.0.2.20",
+        ],
+        "error: invalid value '192.0.2.256' for '--caller <ADDRESS>': no address of a host, with a port or without
+
+Usage: faxgate capture --caller <ADDRESS> --called <ADDRESS>
+",
+    ),
+    (
         &["faxgate", "trace", "--fine"],
         "error: unexpected argument '--fine' found
 
-Usage: faxgate trace
+Usage: faxgate trace [OPTIONS]
+",
+    ),
+    (
+        &["faxgate", "loop", "--redundancy", "9"],
+        "error: invalid value '9' for '--redundancy <PACKETS>': 9 is not in 0..=8
 ",
     ),
 ];

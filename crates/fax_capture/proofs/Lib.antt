@@ -1,0 +1,4 @@
+pub mod AnswerLemmas
+pub mod FollowLemmas
+pub mod StopLemmas
+pub mod TickLemmas

@@ -1,0 +1,30 @@
+-- ADDRESSES of the two machines, and what a datagram is to them. (This project's profile.)
+use Rattle.std.specs.Prelude.{◌≡◌, ℕ, ◌⊎◌, List, Option, Some, None}
+use Rattle.fax_pcap.specs.Frames.{EndpointValue, DatagramValue}
+use Rattle.fax_capture.specs.declared.address.Host.{Host}
+use Rattle.fax_capture.specs.declared.address.Host.TheVariants.{V4, V6}
+use Rattle.fax_capture.specs.declared.address.Address.{Address}
+use Rattle.fax_capture.specs.declared.address.Role.{Role}
+use Rattle.fax_capture.specs.declared.address.Role.TheVariants.{FromCaller, FromCalled, ToEither, Unrelated}
+
+-- the octets of a host's address
+abbrev pub host_octets : Host → List ℕ
+host_octets (V4 octets) = octets
+host_octets (V6 octets) = octets
+
+-- An address without a port means every port of its host.
+abbrev pub HasPort : Option ℕ → ℕ → Type 0
+HasPort None port = Unit {0}
+HasPort (Some wanted) port = wanted ≡ port
+
+abbrev pub IsAt : Address → EndpointValue → Type 0
+IsAt address endpoint = (host_octets address.host ≡ endpoint.host) × HasPort address.port endpoint.port
+
+-- Whoever sends a datagram decides, the caller first: a capture at the gateway has what they send to the gateway.
+abbrev pub IsRole : Address → Address → DatagramValue → Role → Type 0
+IsRole caller called datagram FromCaller = IsAt caller datagram.source
+IsRole caller called datagram FromCalled = (IsAt caller datagram.source → ⊥) × IsAt called datagram.source
+IsRole caller called datagram ToEither =
+    (IsAt caller datagram.source → ⊥) × (IsAt called datagram.source → ⊥) × (IsAt caller datagram.destination ⊎ IsAt called datagram.destination)
+IsRole caller called datagram Unrelated =
+    (IsAt caller datagram.source → ⊥) × (IsAt called datagram.source → ⊥) × (IsAt caller datagram.destination → ⊥) × (IsAt called datagram.destination → ⊥)

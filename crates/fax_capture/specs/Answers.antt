@@ -1,0 +1,87 @@
+-- What `faxgate capture` answers to an input. (This project's profile.)
+use Rattle.std.specs.Prelude.{◌≡◌, ◌≢◌, ℕ, ◌<◌, ◌⊎◌, List, [], length, codes, Option, Result, Ok, Err}
+use Rattle.fax_command.specs.RowLines.{text_of_lines}
+use Rattle.fax_pcap.specs.declared.fault.CaptureFault.{CaptureFault}
+use Rattle.fax_pcap.specs.declared.fault.CaptureFault.TheVariants as capture
+use Rattle.fax_pcap.specs.Captures.{TimedDatagram, CaptureValue, Follow, capture_of, read_of_record, record_at}
+use Rattle.fax_pcap.specs.Fields.{◌>>=◌}
+use Rattle.fax_capture.specs.declared.address.Address.{Address}
+use Rattle.fax_capture.specs.declared.script_fault.ScriptFault.{ScriptFault}
+use Rattle.fax_capture.specs.declared.script_fault.ScriptFault.TheVariants.{Capture, NoAddress, TooLong}
+use Rattle.fax_capture.specs.Scripts.{Told, TellsAll, only_ring, script_lines}
+
+-- a script, or what is wrong with the input
+abbrev pub Outcome : Type 0
+Outcome = Result (List ℕ) ScriptFault
+
+-- the most octets of a script: no more are read of one
+abbrev pub most_octets : ℕ
+most_octets = 16777216
+
+-- So far a capture was read, record by record, and its datagrams were told.
+pub record ToldSoFar (caller called : Address) (input : List ℕ) (state : CaptureValue) (told : Told) : Type 0 where
+  pub first : CaptureValue
+  pub opened : capture_of input ≡ Ok first
+  pub found : List (Option TimedDatagram)
+  pub follow : Follow first found state
+  pub tells : TellsAll caller called only_ring found told
+
+-- A capture was read to its end.
+pub record ToldWhole (caller called : Address) (input : List ℕ) (told : Told) : Type 0 where
+  pub state : CaptureValue
+  pub so_far : ToldSoFar caller called input state told
+  pub at_end : state.rest ≡ []
+
+-- a fault of the capture is met at its head, or at the record behind those that were read
+abbrev pub FailsCapture : Address → Address → List ℕ → CaptureFault → Type 0
+FailsCapture caller called input fault = (capture_of input ≡ Err fault)
+    ⊎ ((state : CaptureValue) × (told : Told) × ToldSoFar caller called input state told × (state.rest ≢ [])
+    × (record_at state >>= read_of_record ≡ Err fault))
+
+-- Memory may be wanting at any input.
+abbrev pub FailsReading : Address → Address → List ℕ → CaptureFault → Type 0
+FailsReading caller called input capture.NoMemory = Unit {0}
+FailsReading caller called input fault = FailsCapture caller called input fault
+
+-- what is wrong: the capture has a fault; none of its datagrams was sent by one of the two, or to one; or the script of so
+-- much of it is too long
+abbrev pub Fails : Address → Address → List ℕ → ScriptFault → Type 0
+Fails caller called input (Capture fault) = FailsReading caller called input fault
+Fails caller called input NoAddress = (told : Told) × ToldWhole caller called input told × (told.ticks ≡ 0)
+Fails caller called input TooLong =
+    (state : CaptureValue) × (told : Told) × ToldSoFar caller called input state told × (most_octets < length (text_of_lines (script_lines told)))
+
+abbrev pub Allows : Address → Address → List ℕ → Outcome → Type 0
+Allows caller called input (Ok text) =
+    (told : Told) × ToldWhole caller called input told × (0 < told.ticks) × (text ≡ text_of_lines (script_lines told))
+Allows caller called input (Err fault) = Fails caller called input fault
+
+abbrev pub capture_fault_line : CaptureFault → List ℕ
+capture_fault_line capture.NoCapture = codes "fault 1 NoCapture\n"
+capture_fault_line capture.Cut = codes "fault 2 Cut\n"
+capture_fault_line capture.Damaged = codes "fault 3 Damaged\n"
+capture_fault_line capture.NoMemory = codes "fault memory\n"
+
+abbrev pub fault_line : ScriptFault → List ℕ
+fault_line (Capture fault) = capture_fault_line fault
+fault_line NoAddress = codes "fault 4 NoAddress\n"
+fault_line TooLong = codes "fault 5 TooLong\n"
+
+abbrev pub fault_status : ScriptFault → ℕ
+fault_status (Capture capture.NoMemory) = 3
+fault_status fault = 1
+
+abbrev pub text_of : Outcome → List ℕ
+text_of (Ok text) = text
+text_of (Err fault) = fault_line fault
+
+abbrev pub status_of : Outcome → ℕ
+status_of (Ok text) = 0
+status_of (Err fault) = fault_status fault
+
+-- The exit status and the text that a run may answer to an input, for the addresses of the caller and the called machine.
+pub record Answers (caller called : Address) (input : List ℕ) (status : ℕ) (text : List ℕ) : Type 0 where
+  pub outcome : Outcome
+  pub allowed : Allows caller called input outcome
+  pub status_is : status ≡ status_of outcome
+  pub text_is : text ≡ text_of outcome

@@ -1,0 +1,7 @@
+-- want of memory
+use Rattle.fax_pcap.specs.declared.fault.CaptureFault.TheVariants.{NoMemory}
+use Rattle.fax_capture.specs.declared.script_fault.ScriptFault.{ScriptFault}
+use Rattle.fax_capture.specs.declared.script_fault.ScriptFault.TheVariants.{Capture}
+
+abbrev pub no_memory : ScriptFault
+no_memory = Capture NoMemory

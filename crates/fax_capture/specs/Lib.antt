@@ -1,0 +1,6 @@
+pub mod Addresses
+pub mod Answers
+pub mod Faults
+pub mod Growing
+pub mod Kept
+pub mod Scripts

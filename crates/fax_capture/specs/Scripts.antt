@@ -1,0 +1,78 @@
+-- SCRIPTS: what a capture's datagrams tell, as `faxgate trace` reads it. (This project's profile.)
+use Rattle.std.specs.Prelude.{◌≡◌, ℕ, zero, suc, ◌+◌, ◌-◌, ◌*◌, ◌/◌, max, List, [], ◌∷◌, ◌++◌, codes, decimal, Option, Some, None}
+use Rattle.hex.specs.Hex.{encode_lower}
+use Rattle.fax_pcap.specs.Captures.{TimedDatagram}
+use Rattle.fax_capture.specs.declared.address.Address.{Address}
+use Rattle.fax_capture.specs.declared.address.Role.{Role}
+use Rattle.fax_capture.specs.declared.address.Role.TheVariants.{FromCaller, FromCalled, ToEither, Unrelated}
+use Rattle.fax_capture.specs.Addresses.{IsRole}
+
+-- tick k is the moment 40 k, in milliseconds
+abbrev pub tick_line : ℕ → List ℕ
+tick_line tick = codes "T " ++ decimal (40 * tick)
+
+-- so many ticks, from one on
+unfoldable pub tick_lines : ℕ → ℕ → List (List ℕ)
+tick_lines from zero = []
+tick_lines from (suc count) = tick_line from ∷ tick_lines (from + 1) count
+
+-- the line of a datagram: one that the caller sent came on the calling leg, one that the called machine sent on the called
+-- leg. Those that are sent to them have none: the gateway gives them anew.
+abbrev pub role_lines : Role → List ℕ → List (List ℕ)
+role_lines FromCaller octets = (codes "A " ++ encode_lower octets) ∷ []
+role_lines FromCalled octets = (codes "B " ++ encode_lower octets) ∷ []
+role_lines ToEither octets = []
+role_lines Unrelated octets = []
+
+-- What was told: when the first of the datagrams was captured that one of the two sent or was sent, where that is known;
+-- how many ticks were told, from 0 on; and the lines.
+pub record Told : Type 0 where
+  pub start : Option ℕ
+  pub ticks : ℕ
+  pub lines : List (List ℕ)
+
+-- it rings
+abbrev pub only_ring : Told
+only_ring = record { start = None; ticks = 0; lines = codes "R" ∷ [] }
+
+abbrev pub start_of : Option ℕ → Option ℕ → Option ℕ
+start_of None time = time
+start_of (Some start) time = Some start
+
+-- The tick at or before a time, 40 ms each. One that is not known, or lies before the start, has the first tick.
+abbrev pub tick_of : Option ℕ → Option ℕ → ℕ
+tick_of None time = 0
+tick_of (Some start) None = 0
+tick_of (Some start) (Some time) = (time - start) / 40000000
+
+-- Ticks are told up to that of a datagram, and then the datagram. None is told again.
+abbrev pub ticks_to : Told → Option ℕ → ℕ
+ticks_to told time = max told.ticks (tick_of (start_of told.start time) time + 1)
+
+abbrev pub told_with : Told → Option ℕ → Role → List ℕ → Told
+told_with told time role octets = record {
+  start = start_of told.start time;
+  ticks = ticks_to told time;
+  lines = (told.lines ++ tick_lines told.ticks (ticks_to told time - told.ticks)) ++ role_lines role octets;
+}
+
+-- one datagram more
+abbrev pub told_of : Told → TimedDatagram → Role → Told
+told_of told captured Unrelated = told
+told_of told captured role = told_with told captured.time role captured.datagram.octets
+
+abbrev pub Tells : Address → Address → Told → TimedDatagram → Told → Type 0
+Tells caller called old captured new = (role : Role) × IsRole caller called captured.datagram role × (new ≡ told_of old captured role)
+
+-- what was found in the records of a capture, one by one
+abbrev pub TellsFound : Address → Address → Told → Option TimedDatagram → Told → Type 0
+TellsFound caller called old None new = new ≡ old
+TellsFound caller called old (Some captured) new = Tells caller called old captured new
+
+abbrev pub TellsAll : Address → Address → Told → List (Option TimedDatagram) → Told → Type 0
+TellsAll caller called old [] new = new ≡ old
+TellsAll caller called old (found ∷ more) new = (next : Told) × TellsFound caller called old found next × TellsAll caller called next more new
+
+-- 40 s behind the last tick of a datagram: a thousand ticks more
+abbrev pub script_lines : Told → List (List ℕ)
+script_lines told = told.lines ++ tick_lines told.ticks 1000

@@ -1,0 +1,11 @@
+//! Captures of calls as scripts of what came to a gateway: what `faxgate capture` answers, over any streams of octets.
+#![tactic(auto)]
+
+mod address;
+mod answer;
+mod run;
+mod script;
+mod script_fault;
+
+pub use address::{Address, Host};
+pub use run::run_capture;

@@ -1,0 +1,201 @@
+//! A script that grows by the datagrams of a capture.
+ghost use Rattle.std.specs.Prelude.{ℕ, List, ◌≡◌, ◌+◌, ◌-◌, ◌<◌, ◌^◌, ◌==◌, ◌++◌, ◌∷◌, [], max, length, IfOk, IfErr, Err, OnOk, ◌≤◌};
+ghost use Rattle.hex.specs.Hex.{encode_lower};
+ghost use Rattle.fax_command.specs.RowLines.{text_of_lines};
+ghost use Rattle.fax_capture.specs.Growing.{Stops};
+ghost use Rattle.fax_capture.specs.Kept.{Holds};
+ghost use Rattle.fax_capture.specs.Scripts.{Told, only_ring, role_lines, script_lines, start_of, tick_line, tick_lines, tick_of, told_of, ticks_to};
+
+use crate::address::Role;
+use crate::script_fault::ScriptFault;
+use fax_bits::NoMemory;
+use fax_command::MOST_OCTETS;
+use fax_pcap::Captured;
+use itoa::Buffer;
+use std::alloc::Global;
+
+/// How many nanoseconds pass from a tick to the next: 40 ms.
+const NANOSECONDS_OF_TICK: u128 = 40_000_000;
+
+/// How many ticks are told behind that of the last datagram: 40 s.
+const TICKS_BEHIND: u128 = 1000;
+
+/// How many milliseconds pass from a tick to the next.
+const MILLISECONDS_OF_TICK: u128 = 40;
+
+/// A script: when the first of its datagrams was captured, where that is known, how many ticks were told, and its text.
+#[derive(Drop)]
+pub(crate) struct Script {
+    start: Option<u128>,
+    ticks: u128,
+    text: Vec<u8>,
+}
+
+impl Script {
+    /// It rings.
+    pub fn new(alloc: Global) -> Result<Script, NoMemory>
+        ensures few { IfOk result (λ script. script.ticks ≤ 2 ^ 103) }
+        ensures ring { IfOk result (λ script. Holds script only_ring) }
+    {
+        Ok(Script {
+            start: None,
+            ticks: 0,
+            text: Vec::from_slice(alloc, b"R\n")?,
+        })
+    }
+
+    /// Whether no datagram was told.
+    pub fn is_empty(&self) -> bool
+        ensures { result ≡ (self.now.ticks == 0) }
+    {
+        self.ticks == 0
+    }
+
+    /// Tells a datagram, behind the ticks up to its own, unless it is unrelated.
+    pub fn tell(
+        &mut self,
+        alloc: Global,
+        captured: &Captured<'_>,
+        role: Role,
+    ) -> Result<(), ScriptFault>
+        requires few { self.old.ticks ≤ 2 ^ 103 }
+        ensures few { OnOk result (self.new.ticks ≤ 2 ^ 103) }
+        ensures ok { (told : Told) → Holds self.old told → OnOk result (Holds self.new (told_of told captured.now role)) }
+        ensures err { (told : Told) → Holds self.old told → IfErr result (λ e. Stops e (text_of_lines (told_of told captured.now role).lines)) }
+    {
+        if role == Role::Unrelated {
+            return Ok(());
+        }
+        let time = captured.time();
+        let start = start_at(self.start, time);
+        let ticks = self.ticks.max(tick_at(start, time) + 1);
+        push_ticks(alloc, &mut self.text, self.ticks, ticks)?;
+        push_datagram(alloc, &mut self.text, role, captured.datagram().octets())?;
+        self.start = start;
+        self.ticks = ticks;
+        Ok(())
+    }
+
+    /// The text, with the ticks behind the last datagram.
+    pub fn finish(self, alloc: Global) -> Result<Vec<u8>, ScriptFault>
+        requires few { self.ticks ≤ 2 ^ 103 }
+        ensures ok { (told : Told) → Holds self told → IfOk result (λ text. text.items ≡ text_of_lines (script_lines told)) }
+        ensures err { (told : Told) → Holds self told → IfErr result (λ e. Stops e (text_of_lines (script_lines told))) }
+    {
+        let mut text = self.text;
+        push_ticks(alloc, &mut text, self.ticks, self.ticks + TICKS_BEHIND)?;
+        Ok(text)
+    }
+}
+
+/// When the first datagram was captured, once one more was.
+fn start_at(start: Option<u128>, time: Option<u128>) -> Option<u128>
+    ensures { result ≡ start_of start time }
+{
+    match start {
+        Some(start) => Some(start),
+        None => time,
+    }
+}
+
+/// The tick at or before a time; the first where that is not known or lies before the start.
+fn tick_at(start: Option<u128>, time: Option<u128>) -> u128
+    ensures is { result ≡ tick_of start time }
+    ensures small { result < 2 ^ 103 }
+{
+    match (start, time) {
+        (Some(start), Some(time)) => time.saturating_sub(start) / NANOSECONDS_OF_TICK,
+        _ => 0,
+    }
+}
+
+/// Adds the lines of ticks from one on up to another.
+fn push_ticks(alloc: Global, text: &mut Vec<u8>, from: u128, to: u128) -> Result<(), ScriptFault>
+    requires few { to ≤ 2 ^ 104 }
+    requires order { from ≤ to }
+    ensures ok { OnOk result (text.new.items ≡ text.old.items ++ text_of_lines (tick_lines from (to - from))) }
+    ensures err { IfErr result (λ e. Stops e (text.old.items ++ text_of_lines (tick_lines from (to - from)))) }
+{
+    for tick in from..to {
+        push_tick(alloc, text, tick)?;
+    }
+    Ok(())
+}
+
+/// Adds the line of a tick.
+fn push_tick(alloc: Global, text: &mut Vec<u8>, tick: u128) -> Result<(), ScriptFault>
+    requires { tick < 2 ^ 104 }
+    ensures ok { OnOk result (text.new.items ≡ text.old.items ++ (tick_line tick ++ 10 ∷ [])) }
+    ensures err { IfErr result (λ e. Stops e (text.old.items ++ (tick_line tick ++ 10 ∷ []))) }
+{
+    let line = line_of_tick(alloc, tick)?;
+    push(text, line.as_slice())
+}
+
+/// The line of a tick, and its line feed.
+fn line_of_tick(alloc: Global, tick: u128) -> Result<Vec<u8>, NoMemory>
+    requires { tick < 2 ^ 104 }
+    ensures { IfOk result (λ line. line.items ≡ tick_line tick ++ 10 ∷ []) }
+{
+    let mut buffer = Buffer::new();
+    let mut line = Vec::from_slice(alloc, b"T ")?;
+    line.extend_from_slice(buffer.format(MILLISECONDS_OF_TICK * tick).as_bytes())?;
+    line.push(b'\n')?;
+    Ok(line)
+}
+
+/// Adds the line of a datagram, where the caller or the called machine sent it.
+fn push_datagram(
+    alloc: Global,
+    text: &mut Vec<u8>,
+    role: Role,
+    octets: &[u8],
+) -> Result<(), ScriptFault>
+    ensures ok { OnOk result (text.new.items ≡ text.old.items ++ text_of_lines (role_lines role octets.now)) }
+    ensures err { IfErr result (λ e. Stops e (text.old.items ++ text_of_lines (role_lines role octets.now))) }
+{
+    match role {
+        Role::FromCaller => push_octets(alloc, text, b"A ", octets),
+        Role::FromCalled => push_octets(alloc, text, b"B ", octets),
+        Role::ToEither | Role::Unrelated => Ok(()),
+    }
+}
+
+/// Adds a line of a letter and a space, and of octets as hex text, in lower case.
+fn push_octets(
+    alloc: Global,
+    text: &mut Vec<u8>,
+    letter: &[u8],
+    octets: &[u8],
+) -> Result<(), ScriptFault>
+    ensures ok { OnOk result (text.new.items ≡ text.old.items ++ ((letter.now ++ encode_lower octets.now) ++ 10 ∷ [])) }
+    ensures err { IfErr result (λ e. Stops e (text.old.items ++ ((letter.now ++ encode_lower octets.now) ++ 10 ∷ []))) }
+{
+    let line = line_of_octets(alloc, letter, octets)?;
+    push(text, line.as_slice())
+}
+
+/// A letter and a space, octets as hex text, in lower case, and a line feed.
+fn line_of_octets(alloc: Global, letter: &[u8], octets: &[u8]) -> Result<Vec<u8>, NoMemory>
+    ensures { IfOk result (λ line. line.items ≡ (letter.now ++ encode_lower octets.now) ++ 10 ∷ []) }
+{
+    let digits = hex::encode(alloc, octets)?;
+    let mut line = Vec::from_slice(alloc, letter)?;
+    line.extend_from_slice(digits.as_bytes())?;
+    line.push(b'\n')?;
+    Ok(line)
+}
+
+/// Adds octets, where the text is not too long with them.
+fn push(text: &mut Vec<u8>, octets: &[u8]) -> Result<(), ScriptFault>
+    ensures ok { OnOk result (text.new.items ≡ text.old.items ++ octets.now) }
+    ensures err { IfErr result (λ e. Stops e (text.old.items ++ octets.now)) }
+{
+    if text.len() > MOST_OCTETS as usize || octets.len() > MOST_OCTETS as usize - text.len() {
+        return Err(ScriptFault::TooLong);
+    }
+    if text.extend_from_slice(octets).is_err() {
+        return Err(NoMemory.into());
+    }
+    Ok(())
+}

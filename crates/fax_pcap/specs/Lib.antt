@@ -1,0 +1,4 @@
+pub mod Blocks
+pub mod Captures
+pub mod Fields
+pub mod Frames

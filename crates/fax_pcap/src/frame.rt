@@ -1,0 +1,77 @@
+//! Where a UDP datagram stands in a packet.
+ghost use Rattle.std.specs.Prelude.{◌≡◌, ◌+◌, ◌≤◌};
+ghost use Rattle.fax_pcap.specs.Fields.{Gives};
+ghost use Rattle.fax_pcap.specs.Frames.{untagged, protocol_at, behind_header, frame_at};
+
+use crate::datagram::Datagram;
+use crate::fields::{ByteOrder, read_16, split_front};
+use crate::ip::{read_ip, read_ip_4, read_ip_6};
+use crate::link::LinkType;
+
+/// The types of protocol of IPv4 and IPv6, and of the tags of IEEE 802.1Q before them.
+const IP_4: u16 = 0x0800;
+
+const IP_6: u16 = 0x86dd;
+
+const CUSTOMER_TAG: u16 = 0x8100;
+
+const SERVICE_TAG: u16 = 0x88a8;
+
+/// Why a packet gives no datagram.
+#[derive(Clone, Copy, PartialEq, Eq, Debug)]
+pub(crate) enum FrameFault {
+    /// It is traffic of another kind.
+    Other,
+    /// Its octets end inside a header or a datagram.
+    Short,
+}
+
+/// The datagram in a packet of this link.
+#[tactic(auto, unfolding(crate::specs::Frames::frame_at))]
+pub(crate) fn read_frame(link: LinkType, octets: &[u8]) -> Result<Datagram<'_>, FrameFault>
+    ensures { Gives (λ d. d) result (frame_at link octets.now) }
+{
+    match link {
+        LinkType::Ethernet => read_behind_header(14, 12, octets),
+        LinkType::LinuxCooked => read_behind_header(16, 14, octets),
+        LinkType::LinuxCooked2 => read_behind_header(20, 0, octets),
+        LinkType::RawIp => read_ip(octets),
+        LinkType::Unread => Err(FrameFault::Other),
+    }
+}
+
+/// The datagram behind a header of so many octets, in which the type of protocol stands at a place.
+#[tactic(auto, unfolding(crate::specs::Frames::behind_header, crate::specs::Fields::front_of))]
+fn read_behind_header(count: usize, place: usize, octets: &[u8]) -> Result<Datagram<'_>, FrameFault>
+    requires { place + 2 ≤ count }
+    ensures { Gives (λ d. d) result (behind_header count place octets.now) }
+{
+    let (header, rest) = split_front(FrameFault::Short, count, octets)?;
+    read_protocol(read_16(ByteOrder::Big, header, place), rest)
+}
+
+/// The datagram in the octets of a protocol, behind two tags at most.
+#[tactic(auto, unfolding(crate::specs::Frames::protocol_at))]
+fn read_protocol(protocol: u16, octets: &[u8]) -> Result<Datagram<'_>, FrameFault>
+    ensures { Gives (λ d. d) result (protocol_at protocol octets.now) }
+{
+    let (protocol, octets) = pass_tag(protocol, octets)?;
+    let (protocol, octets) = pass_tag(protocol, octets)?;
+    match protocol {
+        IP_4 => read_ip_4(octets),
+        IP_6 => read_ip_6(octets),
+        _ => Err(FrameFault::Other),
+    }
+}
+
+/// The type of protocol behind a tag, where there is one, and its octets.
+#[tactic(auto, unfolding(crate::specs::Frames::untagged, crate::specs::Fields::front_of))]
+fn pass_tag(protocol: u16, octets: &[u8]) -> Result<(u16, &[u8]), FrameFault>
+    ensures { Gives (λ p. (p.0, p.1.now)) result (untagged protocol octets.now) }
+{
+    if protocol != CUSTOMER_TAG && protocol != SERVICE_TAG {
+        return Ok((protocol, octets));
+    }
+    let (tag, rest) = split_front(FrameFault::Short, 4, octets)?;
+    Ok((read_16(ByteOrder::Big, tag, 2), rest))
+}

@@ -1,0 +1,20 @@
+//! Captures of networks: the UDP datagrams in pcap and pcapng files. Every octet is read safely, and memory is taken only for
+//! what pcapng describes of an interface.
+#![tactic(auto)]
+
+mod capture;
+mod datagram;
+mod fault;
+mod fields;
+mod frame;
+mod interface;
+mod ip;
+mod link;
+mod packet;
+mod pcap;
+mod pcapng;
+
+pub use capture::Capture;
+pub use datagram::{Datagram, Endpoint};
+pub use fault::CaptureFault;
+pub use packet::Captured;
