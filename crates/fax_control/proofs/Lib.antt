@@ -1,0 +1,2 @@
+pub mod SpaceLemmas
+pub mod WordLemmas

@@ -1,0 +1,14 @@
+//! What is said to a running gateway, and what it answers: control words, one a line, and the lines of a client.
+#![tactic(auto)]
+
+mod answer;
+mod hearing;
+mod reading;
+mod refusal;
+mod word;
+
+pub use answer::Answer;
+pub use hearing::{ClientLines, Heard};
+pub use reading::read_word;
+pub use refusal::Refusal;
+pub use word::{Leg, MOST_OCTETS, MOST_TAG_OCTETS, Word};

@@ -1,0 +1,42 @@
+-- Counts as text (Prometheus' text format, version 0.0.4; the names are this project's profile).
+use Rattle.std.specs.Prelude.{ℕ, List, ◌++◌, codes, decimal}
+use Rattle.fax_events.specs.declared.counters.Counters.{Counters}
+use Rattle.fax_events.specs.declared.metrics.Kind.{Kind}
+use Rattle.fax_events.specs.declared.metrics.Kind.TheVariants.{Counter, Gauge}
+
+abbrev pub kind_name : Kind → List ℕ
+kind_name Counter = codes "counter"
+kind_name Gauge = codes "gauge"
+
+-- the type of a count, and its value, a line each
+abbrev pub count_text : List ℕ → Kind → ℕ → List ℕ
+count_text name kind value =
+    codes "# TYPE " ++ (name ++ (codes " " ++ (kind_name kind ++ (codes "\n" ++ (name ++ (codes " " ++ (decimal value ++ codes "\n")))))))
+
+unfoldable pub call_counts : Counters → List ℕ
+call_counts counters =
+    count_text (codes "faxgate_lines") Gauge counters.lines
+    ++ count_text (codes "faxgate_calls_total") Counter counters.calls
+    ++ count_text (codes "faxgate_pages_confirmed_total") Counter counters.pages_confirmed
+    ++ count_text (codes "faxgate_pages_refused_total") Counter counters.pages_refused
+    ++ count_text (codes "faxgate_pages_delivered_total") Counter counters.pages_delivered
+
+unfoldable pub job_counts : Counters → List ℕ
+job_counts counters =
+    count_text (codes "faxgate_jobs_delivered_total") Counter counters.jobs_delivered
+    ++ count_text (codes "faxgate_jobs_failed_total") Counter counters.jobs_failed
+    ++ count_text (codes "faxgate_jobs_waiting") Gauge counters.jobs_waiting
+    ++ count_text (codes "faxgate_events_lost_total") Counter counters.events_lost
+
+unfoldable pub wire_counts : Counters → List ℕ
+wire_counts counters =
+    count_text (codes "faxgate_datagrams_received_total") Counter counters.datagrams_received
+    ++ count_text (codes "faxgate_datagrams_sent_total") Counter counters.datagrams_sent
+    ++ count_text (codes "faxgate_receive_failures_total") Counter counters.receive_failures
+    ++ count_text (codes "faxgate_send_failures_total") Counter counters.send_failures
+    ++ count_text (codes "faxgate_turns_late_total") Counter counters.turns_late
+    ++ count_text (codes "faxgate_skipped_milliseconds_total") Counter counters.skipped_ms
+
+-- all counts, and the mark of the end
+abbrev pub metrics_text : Counters → List ℕ
+metrics_text counters = call_counts counters ++ job_counts counters ++ wire_counts counters ++ codes "# EOF\n"

@@ -1,0 +1,102 @@
+-- Events as lines of JSON (RFC 8259; which members an event has is this project's profile).
+use Rattle.std.specs.Prelude.{◌≡◌, ℕ, List, [], ◌∷◌, ◌++◌, codes, decimal, Option, None, Some, option_map}
+use Rattle.json.specs.Token.{Token, begin_object, end_object, key, string, number, null}
+use Rattle.json.specs.Print.{print}
+use Rattle.json.specs.Written.{Written}
+use Rattle.fax_runcodes.specs.Widths.{elements_of}
+use Rattle.fax_runcodes.specs.declared.format.Format.{Format}
+use Rattle.fax_jobs.specs.Outcomes.{outcome_name}
+use Rattle.fax_jobs.specs.ReportTexts.{resolution_name}
+use Rattle.fax_pagestore.specs.declared.fault.PageFault.{PageFault}
+use Rattle.fax_pagestore.specs.declared.fault.PageFault.TheVariants as page
+use Rattle.fax_control.specs.Words.{leg_text}
+use Rattle.fax_events.specs.declared.event.Direction.{Direction}
+use Rattle.fax_events.specs.declared.event.Direction.TheVariants.{Receives, Sends}
+use Rattle.fax_events.specs.declared.event.Ending.{Ending}
+use Rattle.fax_events.specs.declared.event.Ending.TheVariants.{Done, HungUp, GivenUp, NotKept}
+use Rattle.fax_events.specs.declared.event.What.{What}
+use Rattle.fax_events.specs.declared.event.What.TheVariants.{Rung, Page, RefusedPage, Ended, Dial, Job, Wire, Late}
+use Rattle.fax_events.specs.declared.event.Event.{Event}
+
+abbrev pub direction_name : Direction → List ℕ
+direction_name Receives = codes "receives"
+direction_name Sends = codes "sends"
+
+abbrev pub ending_name : Ending → List ℕ
+ending_name Done = codes "Done"
+ending_name HungUp = codes "HungUp"
+ending_name GivenUp = codes "GivenUp"
+ending_name NotKept = codes "NotKept"
+
+abbrev pub fault_name : PageFault → List ℕ
+fault_name page.NoEol = codes "NoEol"
+fault_name (page.BadLine n) = codes "BadLine"
+fault_name page.NoRtc = codes "NoRtc"
+fault_name page.Empty = codes "Empty"
+fault_name page.TooManyRows = codes "TooManyRows"
+fault_name page.NoMemory = codes "NoMemory"
+
+abbrev pub event_name : What → List ℕ
+event_name (Rung call tag) = codes "rung"
+event_name (Page kept) = codes "page"
+event_name (RefusedPage call fault) = codes "refused_page"
+event_name (Ended call how) = codes "ended"
+event_name (Dial call tag) = codes "dial"
+event_name (Job report tag) = codes "job"
+event_name (Wire leg direction count) = codes "wire"
+event_name (Late span) = codes "late"
+
+-- ---- members of an object
+
+abbrev pub text_member : List ℕ → List ℕ → List Token
+text_member name text = key name ∷ string text ∷ []
+
+abbrev pub number_member : List ℕ → ℕ → List Token
+number_member name n = key name ∷ number (decimal n) ∷ []
+
+-- the tag of a call; `null` where it was rung with none
+abbrev pub tag_value : Option (List ℕ) → Token
+tag_value None = null
+tag_value (Some tag) = string tag
+
+abbrev pub tag_member : Option (List ℕ) → List Token
+tag_member tag = key (codes "tag") ∷ tag_value tag ∷ []
+
+abbrev pub format_members : Format → List Token
+format_members format = number_member (codes "width") (elements_of format.width) ++ text_member (codes "resolution") (resolution_name format.fine)
+
+-- what is wrong with a page, and behind how many rows where it is a line
+abbrev pub fault_members : PageFault → List Token
+fault_members (page.BadLine n) = text_member (codes "fault") (codes "BadLine") ++ number_member (codes "row") n
+fault_members fault = text_member (codes "fault") (fault_name fault)
+
+-- ---- the members of each event
+
+abbrev pub what_members : What → List Token
+what_members (Rung call tag) = number_member (codes "call") call ++ tag_member (option_map (λ text. text.now) tag)
+what_members (Page kept) =
+    number_member (codes "call") kept.call ++ (number_member (codes "number") kept.number ++ (format_members kept.format ++ number_member (codes "rows") kept.rows))
+what_members (RefusedPage call fault) = number_member (codes "call") call ++ fault_members fault
+what_members (Ended call how) = number_member (codes "call") call ++ text_member (codes "how") (ending_name how)
+what_members (Dial call tag) = number_member (codes "call") call ++ tag_member (option_map (λ text. text.now) tag)
+what_members (Job report tag) =
+    number_member (codes "call") report.call ++ (tag_member (option_map (λ text. text.now) tag) ++ (format_members report.format
+    ++ (number_member (codes "pages") report.pages ++ (number_member (codes "delivered") report.delivered ++ text_member (codes "outcome") (outcome_name report.outcome)))))
+what_members (Wire leg direction count) =
+    text_member (codes "leg") (leg_text leg) ++ (text_member (codes "direction") (direction_name direction) ++ number_member (codes "failures") count)
+what_members (Late span) = number_member (codes "ms") span
+
+-- an event as an object: its name, its line, its moment, and what it tells
+abbrev pub event_tokens : Event → List Token
+event_tokens event =
+    begin_object ∷ (text_member (codes "event") (event_name event.what) ++ (text_member (codes "line") event.line.now
+    ++ (number_member (codes "at") event.at ++ (what_members event.what ++ end_object ∷ []))))
+
+-- the line of an event, its line feed with it: JSON with no space
+abbrev pub event_line : Event → List ℕ
+event_line event = print (event_tokens event) ++ 10 ∷ []
+
+-- Some tokens were written behind those before.
+pub record Adds (old new : Written) (tokens : List Token) : Type 0 where
+  pub before : new.before ≡ old.before
+  pub added : new.tokens ≡ old.tokens ++ tokens

@@ -1,0 +1,3 @@
+pub mod Counts
+pub mod Events
+pub mod Queues

@@ -1,0 +1,36 @@
+//! What a gateway counts.
+
+/// What a gateway has counted since it began, over all of its lines.
+#[derive(Clone, Copy, PartialEq, Eq, Debug, Default)]
+pub struct Counters {
+    /// Lines of the configuration.
+    pub lines: u64,
+    /// Calls that were rung.
+    pub calls: u64,
+    /// Pages that were confirmed.
+    pub pages_confirmed: u64,
+    /// Pages that were refused (RTN).
+    pub pages_refused: u64,
+    /// Pages that called machines confirmed.
+    pub pages_delivered: u64,
+    /// Jobs that were delivered whole.
+    pub jobs_delivered: u64,
+    /// Jobs that ended otherwise.
+    pub jobs_failed: u64,
+    /// Jobs that wait or are under way now.
+    pub jobs_waiting: u64,
+    /// Datagrams that came.
+    pub datagrams_received: u64,
+    /// Datagrams that were handed to the system, repeats with them.
+    pub datagrams_sent: u64,
+    /// Receives that failed.
+    pub receive_failures: u64,
+    /// Sends that failed.
+    pub send_failures: u64,
+    /// Turns that came more than 100 ms late.
+    pub turns_late: u64,
+    /// Moments by which lines were set on, where turns came more than 1 s late, in milliseconds.
+    pub skipped_ms: u64,
+    /// Lines of events that readers lost.
+    pub events_lost: u64,
+}

@@ -1,0 +1,114 @@
+//! What happens on a line.
+ghost use Rattle.std.specs.Prelude.{◌≡◌};
+ghost use Rattle.fax_events.specs.Events.{direction_name, ending_name, event_name};
+
+use fax_control::Leg;
+use fax_jobs::Report;
+use fax_pagestore::{Format, PageFault};
+
+/// Which way datagrams go.
+#[derive(Clone, Copy, PartialEq, Eq, Debug)]
+pub enum Direction {
+    Receives,
+    Sends,
+}
+
+impl Direction {
+    /// The direction's name in an event.
+    pub(crate) fn name(self) -> &'static str
+        ensures { result.now ≡ direction_name self }
+    {
+        match self {
+            Direction::Receives => "receives",
+            Direction::Sends => "sends",
+        }
+    }
+}
+
+/// How a call on the calling leg ended.
+#[derive(Clone, Copy, PartialEq, Eq, Debug)]
+pub enum Ending {
+    /// The peer said so (DCN, ITU-T T.30, 5.3.6.1.6), or its pages were confirmed and it said no more.
+    Done,
+    /// The peer's call was gone: an operator said so.
+    HungUp,
+    /// The gateway gave the call up: the peer said nothing for too long, or nothing that it could take.
+    GivenUp,
+    /// No page of the call could be kept.
+    NotKept,
+}
+
+impl Ending {
+    /// The ending's name in an event.
+    pub(crate) fn name(self) -> &'static str
+        ensures { result.now ≡ ending_name self }
+    {
+        match self {
+            Ending::Done => "Done",
+            Ending::HungUp => "HungUp",
+            Ending::GivenUp => "GivenUp",
+            Ending::NotKept => "NotKept",
+        }
+    }
+}
+
+/// A page that was confirmed.
+#[derive(Clone, Copy, PartialEq, Eq, Debug)]
+pub struct PageKept {
+    /// The number of its call.
+    pub call: u32,
+    /// Its number in the call, from 1 on.
+    pub number: u32,
+    pub format: Format,
+    /// How many rows it has.
+    pub rows: u32,
+}
+
+/// What happened.
+#[derive(Clone, Copy, PartialEq, Eq, Debug)]
+pub enum What<'a> {
+    /// The calling leg was rung: the number of the call, and its tag.
+    Rung(u32, Option<&'a str>),
+    /// A page was confirmed.
+    Page(PageKept),
+    /// A page was refused (RTN): the number of its call, and what is wrong with it.
+    RefusedPage(u32, PageFault),
+    /// A call of this number ended.
+    Ended(u32, Ending),
+    /// The call of a job begins: the number of the call that its pages came in, and the tag of that.
+    Dial(u32, Option<&'a str>),
+    /// A job ended: its report, and the tag of the call that its pages came in.
+    Job(Report, Option<&'a str>),
+    /// A leg's receives or sends fail: so many did since the line began.
+    Wire(Leg, Direction, u64),
+    /// The line was turned so many milliseconds late.
+    Late(u64),
+}
+
+impl<'a> What<'a> {
+    /// The name of the event.
+    pub fn name(&self) -> &'static str
+        ensures { result.now ≡ event_name self.now }
+    {
+        match self {
+            What::Rung(_, _) => "rung",
+            What::Page(_) => "page",
+            What::RefusedPage(_, _) => "refused_page",
+            What::Ended(_, _) => "ended",
+            What::Dial(_, _) => "dial",
+            What::Job(_, _) => "job",
+            What::Wire(_, _, _) => "wire",
+            What::Late(_) => "late",
+        }
+    }
+}
+
+/// Something that happened on a line.
+#[derive(Clone, Copy, PartialEq, Eq, Debug)]
+pub struct Event<'a> {
+    /// The name of the line.
+    pub line: &'a str,
+    /// When, in milliseconds since the gateway began.
+    pub at: u64,
+    pub what: What<'a>,
+}

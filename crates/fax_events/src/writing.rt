@@ -1,0 +1,155 @@
+//! From an event to its line.
+ghost use Rattle.std.specs.Prelude.{◌≡◌, option_map, IfOk, OnOk};
+ghost use Rattle.fax_jobs.specs.ReportTexts.{resolution_name};
+ghost use Rattle.fax_events.specs.Events.{Adds, event_line, fault_members, fault_name, format_members, number_member, tag_member, text_member, what_members};
+
+use crate::event::{Direction, Event, PageKept, What};
+use fax_bits::NoMemory;
+use fax_control::Leg;
+use fax_jobs::Report;
+use fax_pagestore::{Format, PageFault};
+use json::Writer;
+use std::alloc::{AllocError, Global};
+
+/// The line of an event, its line feed with it: a JSON object of one line.
+pub fn write_event(alloc: Global, event: &Event<'_>) -> Result<Vec<u8>, NoMemory>
+    ensures { IfOk result (λ line. line.items ≡ event_line event.now) }
+{
+    let mut writer = Writer::new(Vec::new(alloc));
+    writer.begin_object()?;
+    put_text(&mut writer, "event", event.what.name())?;
+    put_text(&mut writer, "line", event.line)?;
+    put_number(&mut writer, "at", event.at)?;
+    put_what(&mut writer, &event.what)?;
+    writer.end_object()?;
+    let mut line = writer.into_inner();
+    line.push(b'\n')?;
+    Ok(line)
+}
+
+/// Writes a member whose value is a text.
+fn put_text(writer: &mut Writer, name: &str, text: &str) -> Result<(), AllocError>
+    ensures { OnOk result (Adds writer.old writer.new (text_member name.now text.now)) }
+{
+    writer.key(name)?;
+    writer.string(text)
+}
+
+/// Writes a member whose value is a number.
+fn put_number(writer: &mut Writer, name: &str, number: u64) -> Result<(), AllocError>
+    ensures { OnOk result (Adds writer.old writer.new (number_member name.now number)) }
+{
+    writer.key(name)?;
+    writer.u64(number)
+}
+
+/// Writes the tag of a call.
+fn put_tag(writer: &mut Writer, tag: Option<&str>) -> Result<(), AllocError>
+    ensures { OnOk result (Adds writer.old writer.new (tag_member (option_map (λ text. text.now) tag.entry))) }
+{
+    writer.key("tag")?;
+    match tag {
+        Some(text) => writer.string(text),
+        None => writer.null(),
+    }
+}
+
+/// Writes the format of a page.
+fn put_format(writer: &mut Writer, format: Format) -> Result<(), AllocError>
+    ensures { OnOk result (Adds writer.old writer.new (format_members format)) }
+{
+    put_number(writer, "width", u64::from(format.width.elements()))?;
+    put_text(writer, "resolution", resolution(format.fine))
+}
+
+/// The name of a resolution.
+fn resolution(fine: bool) -> &'static str
+    ensures { result.now ≡ resolution_name fine }
+{
+    if fine { "fine" } else { "standard" }
+}
+
+/// The name of a fault of a page.
+fn name_of(fault: PageFault) -> &'static str
+    ensures { result.now ≡ fault_name fault }
+{
+    match fault {
+        PageFault::NoEol => "NoEol",
+        PageFault::BadLine(_) => "BadLine",
+        PageFault::NoRtc => "NoRtc",
+        PageFault::Empty => "Empty",
+        PageFault::TooManyRows => "TooManyRows",
+        PageFault::NoMemory => "NoMemory",
+    }
+}
+
+/// Writes what is wrong with a page.
+fn put_fault(writer: &mut Writer, fault: PageFault) -> Result<(), AllocError>
+    ensures { OnOk result (Adds writer.old writer.new (fault_members fault)) }
+{
+    put_text(writer, "fault", name_of(fault))?;
+    match fault {
+        PageFault::BadLine(row) => put_number(writer, "row", u64::from(row)),
+        _ => Ok(()),
+    }
+}
+
+/// Writes what is told of a page that was confirmed.
+fn put_page(writer: &mut Writer, page: PageKept) -> Result<(), AllocError>
+    ensures { OnOk result (Adds writer.old writer.new (what_members (What.Page page))) }
+{
+    put_number(writer, "call", u64::from(page.call))?;
+    put_number(writer, "number", u64::from(page.number))?;
+    put_format(writer, page.format)?;
+    put_number(writer, "rows", u64::from(page.rows))
+}
+
+/// Writes what is told of a job that ended.
+fn put_job(writer: &mut Writer, report: Report, tag: Option<&str>) -> Result<(), AllocError>
+    ensures { OnOk result (Adds writer.old writer.new (what_members (What.Job report tag.entry))) }
+{
+    put_number(writer, "call", u64::from(report.call))?;
+    put_tag(writer, tag)?;
+    put_format(writer, report.format)?;
+    put_number(writer, "pages", u64::from(report.pages))?;
+    put_number(writer, "delivered", u64::from(report.delivered))?;
+    put_text(writer, "outcome", report.outcome.name())
+}
+
+/// Writes what is told of receives or sends that fail.
+fn put_wire(
+    writer: &mut Writer,
+    leg: Leg,
+    direction: Direction,
+    count: u64,
+) -> Result<(), AllocError>
+    ensures { OnOk result (Adds writer.old writer.new (what_members (What.Wire leg direction count))) }
+{
+    put_text(writer, "leg", leg.name())?;
+    put_text(writer, "direction", direction.name())?;
+    put_number(writer, "failures", count)
+}
+
+/// Writes what an event tells beside its name, its line and its moment.
+fn put_what(writer: &mut Writer, what: &What<'_>) -> Result<(), AllocError>
+    ensures { OnOk result (Adds writer.old writer.new (what_members what.now)) }
+{
+    match *what {
+        What::Rung(call, tag) | What::Dial(call, tag) => {
+            put_number(writer, "call", u64::from(call))?;
+            put_tag(writer, tag)
+        }
+        What::Page(page) => put_page(writer, page),
+        What::RefusedPage(call, fault) => {
+            put_number(writer, "call", u64::from(call))?;
+            put_fault(writer, fault)
+        }
+        What::Ended(call, how) => {
+            put_number(writer, "call", u64::from(call))?;
+            put_text(writer, "how", how.name())
+        }
+        What::Job(report, tag) => put_job(writer, report, tag),
+        What::Wire(leg, direction, count) => put_wire(writer, leg, direction, count),
+        What::Late(span) => put_number(writer, "ms", span),
+    }
+}

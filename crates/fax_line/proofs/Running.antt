@@ -1,0 +1,84 @@
+-- Deeds that follow one another.
+use Rattle.std.proofs.Common.{◌≡◌, ℕ, ◌<◌, ◌≤◌, ◌+◌, max, Bool, true, false, nat_eq, if◌then◌else◌, List, [], ◌∷◌, ◌++◌, length, Option, Some, None, Result, refl, sym, ◌∙◌, ap, subst, arith}
+use Rattle.fax_gateway.specs.Wires.{Grows}
+use Rattle.fax_gateway.specs.declared.fault.RingFault.{RingFault}
+use Rattle.fax_gateway.proofs.DrivingLemmas.{grows_more}
+use Rattle.fax_line.specs.declared.order.Order.{Order}
+use Rattle.fax_line.specs.declared.order.Order.TheVariants as order
+use Rattle.fax_line.specs.Actions.{Action, LineValue, Rings, Turns}
+use Rattle.fax_line.specs.Deeds.{AreRising, Deed, LinesValue, RingsLine, TurnsSlot, Went, actions_of, slot_after, slot_of}
+use Rattle.fax_line.specs.Runs.{Done, Rung, Turned, call_if, deeds_of, latest, next_slot, words_of}
+use Rattle.fax_line.specs.Words.{Answers, Asks, Word}
+use Rattle.fax_line.proofs.Stepping.{each_more, each_none, each_with}
+
+pub went_none : (lines : List LineValue) → Went [] lines lines
+went_none lines = each_none lines
+
+if_more : (b : Bool) (a : Action) (rest : List Action) → (if b then a ∷ [] else []) ++ rest ≡ (if b then a ∷ rest else rest)
+if_more true a rest = refl
+if_more false a rest = refl
+
+actions_more : (i : ℕ) (deed : Deed) (older : List Deed) → actions_of i (deed ∷ []) ++ actions_of i older ≡ actions_of i (deed ∷ older)
+actions_more i (TurnsSlot slot now) older = if_more (nat_eq (slot_of i) slot) (Turns now) (actions_of i older)
+actions_more i (RingsLine line now call) older = if_more (nat_eq i line) (Rings now call) (actions_of i older)
+
+pub went_more : (deed : Deed) (older : List Deed) (a b c : List LineValue) → Went older a b → Went (deed ∷ []) b c → Went (deed ∷ older) a c
+went_more deed older a b c first second =
+    each_with (λ i. actions_of i (deed ∷ []) ++ actions_of i older) (λ i. actions_of i (deed ∷ older)) a c (λ i lt. actions_more i deed older)
+    (each_more (λ i. actions_of i older) (λ i. actions_of i (deed ∷ [])) a b c first second)
+
+-- the moments of deeds never fall
+pub rising : (first : ℕ) (done : List Done) → AreRising (deeds_of first done) (latest done)
+rising first [] = refl
+rising first (Turned now ∷ earlier) = (latest earlier, omega arith, refl, rising first earlier)
+rising first (Rung line now answer ∷ earlier) = (latest earlier, omega arith, refl, rising first earlier)
+
+-- a run so far
+pub record Run (first moment : ℕ) (done : List Done) (old new : List LineValue) (slot count : ℕ) (before after : Option (List Word)) : Type 0 where
+  pub went : Went (deeds_of first done) old new
+  pub slot_is : slot ≡ next_slot first done
+  pub moment_is : moment ≡ latest done
+  pub many : length done ≡ count
+  pub words : Grows (words_of done) before after
+
+pub turned_on :
+    (first now moment later count slot next : ℕ) (done : List Done) (a b c : List LineValue) (x y z : Option (List Word))
+    → Run first moment done a b slot count x y → later ≡ max moment now → Went (TurnsSlot slot later ∷ []) b c → next ≡ slot_after slot → Grows (Asks (Some (order.Turn now)) ∷ []) y z
+    → Run first later (Turned now ∷ done) a c next (count + 1) x z
+turned_on first now moment later count slot next done a b c x y z run later_is went next_is asked =
+    let moment_now : later ≡ max (latest done) now = later_is ∙ ap (λ (m : ℕ). max m now) run.moment_is in record {
+      went = went_more (TurnsSlot (next_slot first done) (max (latest done) now)) (deeds_of first done) a b c run.went
+          (subst (λ (s : ℕ). Went (TurnsSlot s (max (latest done) now) ∷ []) b c) run.slot_is (subst (λ (m : ℕ). Went (TurnsSlot slot m ∷ []) b c) moment_now went));
+      slot_is = next_is ∙ ap slot_after run.slot_is;
+      moment_is = moment_now;
+      many = omega (arith, run.many);
+      words = grows_more (words_of done) (Asks (Some (order.Turn now)) ∷ []) x y z run.words asked;
+    }
+
+pub rung_on :
+    (first line now moment later count slot next : ℕ) (answer : Option (Result ℕ RingFault)) (done : List Done) (a b c : List LineValue) (x y z w : Option (List Word))
+    → Run first moment done a b slot count x y → later ≡ max moment now → Went (RingsLine line later (call_if answer) ∷ []) b c → next ≡ slot
+    → Grows (Asks (Some (order.Ring line now)) ∷ []) y z → Grows (Answers line answer ∷ []) z w
+    → Run first later (Rung line now answer ∷ done) a c next (count + 1) x w
+rung_on first line now moment later count slot next answer done a b c x y z w run later_is went next_is asked answered =
+    let moment_now : later ≡ max (latest done) now = later_is ∙ ap (λ (m : ℕ). max m now) run.moment_is in record {
+      went = went_more (RingsLine line (max (latest done) now) (call_if answer)) (deeds_of first done) a b c run.went
+          (subst (λ (m : ℕ). Went (RingsLine line m (call_if answer) ∷ []) b c) moment_now went);
+      slot_is = next_is ∙ run.slot_is;
+      moment_is = moment_now;
+      many = omega (arith, run.many);
+      words = grows_more (Asks (Some (order.Ring line now)) ∷ words_of done) (Answers line answer ∷ []) x z w
+          (grows_more (words_of done) (Asks (Some (order.Ring line now)) ∷ []) x y z run.words asked) answered;
+    }
+
+pub run_is :
+    (first count : ℕ) (done : List Done) (old : List LineValue) (x : Option (List Word)) (m moment : ℕ) (l lines : LinesValue) (y after : Option (List Word))
+    → moment ≡ m → lines ≡ l → after ≡ y → Run first m done old l.lines l.slot count x y → Run first moment done old lines.lines lines.slot count x after
+run_is first count done old x m moment l lines y after same_moment same_lines same_words run =
+    subst (λ (z : Option (List Word)). Run first moment done old lines.lines lines.slot count x z) (sym same_words)
+    (subst (λ (v : LinesValue). Run first moment done old v.lines v.slot count x y) (sym same_lines)
+    (subst (λ (k : ℕ). Run first k done old l.lines l.slot count x y) (sym same_moment) run))
+
+pub no_order : (o : Option Order) → ((order : Order) → o ≡ Some order → ⊥) → o ≡ None
+no_order None never = refl
+no_order (Some order) never = absurd (never order refl)

@@ -1,0 +1,4 @@
+pub mod Actions
+pub mod Deeds
+pub mod Runs
+pub mod Words

@@ -1,0 +1,118 @@
+//! One line.
+ghost use Rattle.std.specs.Prelude.{◌≡◌, List, [], ◌∷◌, ℕ, IfOk, OnErr, Err, IsTrue, ◌↔◌, ◌<◌, ◌≤◌, false, true, length, slice_get};
+ghost use Rattle.fax_call.specs.Writings.{Writing};
+ghost use Rattle.fax_gateway.specs.CallingLegs.{calling_leg, idle_after};
+ghost use Rattle.fax_gateway.specs.Driving.{Entry, HasMade, failed_in_a_row, most_failed, receipts};
+ghost use Rattle.fax_gateway.specs.Events.{Event, rings};
+ghost use Rattle.fax_gateway.specs.Reached.{IsReachedBy};
+ghost use Rattle.fax_gateway.specs.Setups.{AreAllowed, Setup};
+ghost use Rattle.fax_line.specs.Actions.{Goes, IsNew, Rings, Turns, call_of};
+
+use fax_bits::NoMemory;
+use fax_gateway::{Driver, Gateway, RingFault, Settings, Side};
+use fax_jobs::Report;
+use fax_pagestore::PackedRows;
+use fax_repeat::TimedWire;
+use std::alloc::Global;
+use std::marker::Model;
+
+/// A gateway, what drives it, and its wire.
+#[derive(Drop)]
+pub struct Line<W: TimedWire + Drop> {
+    gateway: Gateway<PackedRows>,
+    driver: Driver,
+    wire: W,
+    /// Whether one of the last 100 receives did not fail.
+    goes_on: bool,
+}
+
+impl<W: TimedWire + Drop> Model for Line<W> {
+    ghost use Rattle.fax_line.specs.Actions.{LineValue, TellsWhether};
+
+    ghost Value = { LineValue };
+
+    ghost view = { λ l. record { gateway = l.gateway; driver = l.driver; wire = W.known l.wire; goes_on = l.goes_on } };
+
+    ghost invariant = { λ l. TellsWhether l.goes_on l.driver };
+}
+
+impl<W: TimedWire + Drop> Line<W> {
+    /// A line to which nothing came, with these settings. It takes memory for its gateway, and for one datagram.
+    pub fn new(alloc: Global, settings: Settings, wire: W) -> Result<Self, NoMemory>
+        requires { AreAllowed settings }
+        ensures new { IfOk result (λ line. IsNew line) }
+        ensures settings { IfOk result (λ line. line.gateway.settings ≡ settings) }
+        ensures wire { IfOk result (λ line. line.wire ≡ W.known wire) }
+    {
+        let gateway = Gateway::with_settings(alloc, settings)?;
+        let driver = Driver::new(alloc)?;
+        Ok(Line {
+            gateway,
+            driver,
+            wire,
+            goes_on: true,
+        })
+    }
+
+    /// A turn: the wire is told the time, and the gateway is driven.
+    pub fn turn(&mut self, now: u64)
+        ensures { Goes (Turns now ∷ []) self.old self.new }
+    {
+        self.wire.go_on(now);
+        self.goes_on = self.driver.turn(&mut self.gateway, &mut self.wire, now);
+    }
+
+    /// The wire is told the time, between two turns.
+    pub fn tell_time(&mut self, now: u64)
+        ensures { Goes [] self.old self.new }
+    {
+        self.wire.go_on(now);
+    }
+
+    /// A ring. It answers the number of the call that begins; what was handed over on the calling leg before is sent no more.
+    pub fn ring(&mut self, now: u64) -> Result<u32, RingFault>
+        ensures goes { Goes (Rings now (call_of result) ∷ []) self.old self.new }
+        ensures busy { (setup : Setup) (writes : Writing) (trace : List Event) → IsReachedBy setup writes trace self.old.gateway
+            → result ≡ Err RingFault.Busy ↔ (idle_after (calling_leg setup trace) ≡ false) }
+        ensures no_number { (setup : Setup) (writes : Writing) (trace : List Event) → IsReachedBy setup writes trace self.old.gateway → idle_after (calling_leg setup trace) ≡ true
+            → result ≡ Err RingFault.NoNumber ↔ (4294967296 ≤ rings trace) }
+        ensures err { OnErr result (self.new ≡ self.old) }
+    {
+        match self.gateway.ring(now) {
+            Ok(number) => {
+                self.wire.cease(Side::Calling);
+                Ok(number)
+            }
+            Err(fault) => Err(fault),
+        }
+    }
+
+    /// Whether one of the last 100 receives did not fail.
+    pub fn goes_on(&self) -> bool
+        ensures same { result ≡ self.now.goes_on }
+        ensures goes_on { (made : List Entry) → HasMade made self.now.driver → IsTrue result ↔ (failed_in_a_row (receipts made) < most_failed) }
+    {
+        self.goes_on
+    }
+
+    /// Report i of those that are kept, counted from 0, the oldest.
+    pub fn report(&self, i: usize) -> Option<Report>
+        ensures { result ≡ slice_get self.now.gateway.book.reports i }
+    {
+        self.gateway.report(i)
+    }
+
+    /// How many jobs wait.
+    pub fn waiting(&self) -> usize
+        ensures { result ≡ length self.now.gateway.book.waiting }
+    {
+        self.gateway.waiting()
+    }
+
+    /// Its wire.
+    pub fn wire(&self) -> &W
+        ensures { W.known result.now ≡ self.now.wire }
+    {
+        &self.wire
+    }
+}

@@ -1,0 +1,31 @@
+//! What gives the orders.
+ghost use Rattle.std.specs.Prelude.{List, [], ◌∷◌, Option};
+ghost use Rattle.fax_gateway.specs.Wires.{Grows};
+ghost use Rattle.fax_line.specs.Words.{Answers, Asks, Word};
+
+use crate::lines::Lines;
+use fax_gateway::RingFault;
+use fax_repeat::TimedWire;
+
+/// What is to be done next, and when.
+#[derive(Clone, Copy, PartialEq, Eq, Debug)]
+pub enum Order {
+    /// The next slot has its turn.
+    Turn { now: u64 },
+    /// A line rings, counted from 0.
+    Ring { line: usize, now: u64 },
+}
+
+/// What says what is to be done next: a clock, and those who give orders. It sees the lines, and may report of them.
+pub trait Pace<W: TimedWire + Drop> {
+    /// Of one that tells it: what it answered to `next`, and what it was told of rings, the newest first.
+    ghost words: { Self → Option (List Word) };
+
+    /// What is to be done next, once it is due. `None`: the run ends.
+    fn next(&mut self, lines: &Lines<W>) -> Option<Order>
+        ensures { Grows (Asks result ∷ []) (words self.old) (words self.new) };
+
+    /// The ring of a line that was ordered was answered so. `None`: there is no such line.
+    fn rung(&mut self, line: usize, answer: Option<Result<u32, RingFault>>)
+        ensures { Grows (Answers line answer ∷ []) (words self.old) (words self.new) };
+}

@@ -1,0 +1,207 @@
+//! The wire that repeats.
+ghost use Rattle.std.specs.Prelude.{◌≡◌, ◌<◌, ℕ, Bool, List, [], ◌∷◌, max, true, false};
+ghost use Rattle.fax_gateway.specs.Wires.{Grows, failures_after, receipt_of};
+ghost use Rattle.fax_gateway.specs.declared.side.Side.TheVariants as side_shown;
+ghost use Rattle.fax_repeat.specs.Policies.{GoesOn, HandsOver, IsToldAs, ceased, earlier_of, last_beside, last_on, repeat_of, repeated, unknown};
+ghost use Rattle.fax_repeat.specs.Repeats.{IsWithin, Repeats, TellsNone, told_if, told_of};
+
+use crate::last::{Last, earlier};
+use crate::policy::RepeatPolicy;
+use crate::timed::TimedWire;
+use fax_gateway::{Side, Wire, WireFault};
+use std::marker::Model;
+
+/// A wire over another one. What is handed over is sent at once; and the last datagram of each leg is sent again by a policy,
+/// as time goes on, until a newer one is handed over on its leg or a new call begins there. A datagram of more than 1,500
+/// octets is sent once. A send that fails counts as made.
+#[derive(Drop)]
+pub struct RepeatingWire<W: Wire + Drop> {
+    wire: W,
+    policy: RepeatPolicy,
+    /// The latest moment that it was told.
+    clock: u64,
+    calling: Last,
+    called: Last,
+    /// How many receives and sends failed, without the repeats.
+    failures: u64,
+    /// Whether it tells what it was handed over: no more where two datagrams that followed on a leg had the same octets, or
+    /// one had more than are repeated.
+    tells: bool,
+}
+
+impl<W: Wire + Drop> Model for RepeatingWire<W> {
+    ghost use Rattle.fax_repeat.specs.Policies.{RepeatingValue};
+    ghost use Rattle.fax_repeat.specs.Repeats.{IsRepeating};
+
+    ghost Value = { RepeatingValue };
+
+    ghost view = { λ w. record { policy = w.policy; clock = w.clock; calling = w.calling; called = w.called; failures = w.failures; tells = w.tells; wire = W.known w.wire } };
+
+    ghost invariant = { λ w. IsRepeating (record { policy = w.policy; clock = w.clock; calling = w.calling; called = w.called; failures = w.failures; tells = w.tells; wire = W.known w.wire }) };
+}
+
+impl<W: Wire + Drop> RepeatingWire<W> {
+    /// A wire over one that was handed nothing.
+    pub fn new(wire: W, policy: RepeatPolicy) -> Self
+        requires { TellsNone (W.known wire).sent }
+        ensures { result ≡ record { policy = policy; clock = 0; calling = unknown; called = unknown; failures = 0; tells = true; wire = W.known wire } }
+    {
+        RepeatingWire {
+            wire,
+            policy,
+            clock: 0,
+            calling: Last::new(),
+            called: Last::new(),
+            failures: 0,
+            tells: true,
+        }
+    }
+
+    /// The wire below.
+    pub fn wire(&self) -> &W
+        ensures wire { W.known result.now ≡ self.now.wire }
+        ensures repeats { Repeats self.now }
+    {
+        &self.wire
+    }
+
+    /// Sends on the calling leg.
+    fn send_on_calling(&mut self, octets: &[u8]) -> Result<(), WireFault>
+        ensures handed { HandsOver side_shown.Calling octets.now self.old self.new }
+        ensures failures { self.new.failures ≡ failures_after self.old.failures result }
+        ensures received { Grows [] self.old.wire.received self.new.wire.received }
+        ensures told { Grows (record { side = side_shown.Calling; octets = octets.now } ∷ []) (told_if self.old.tells self.old.wire.sent) (told_if self.new.tells self.new.wire.sent) }
+    {
+        let is_other = self.calling.hand(self.policy, self.clock, octets);
+        self.tells = both(self.tells, is_other);
+        let answer = self.wire.send(Side::Calling, octets);
+        self.failures = counted(self.failures, answer);
+        answer
+    }
+
+    /// Sends on the called leg.
+    fn send_on_called(&mut self, octets: &[u8]) -> Result<(), WireFault>
+        ensures handed { HandsOver side_shown.Called octets.now self.old self.new }
+        ensures failures { self.new.failures ≡ failures_after self.old.failures result }
+        ensures received { Grows [] self.old.wire.received self.new.wire.received }
+        ensures told { Grows (record { side = side_shown.Called; octets = octets.now } ∷ []) (told_if self.old.tells self.old.wire.sent) (told_if self.new.tells self.new.wire.sent) }
+    {
+        let is_other = self.called.hand(self.policy, self.clock, octets);
+        self.tells = both(self.tells, is_other);
+        let answer = self.wire.send(Side::Called, octets);
+        self.failures = counted(self.failures, answer);
+        answer
+    }
+}
+
+/// Whether both hold.
+fn both(one: bool, other: bool) -> bool
+    ensures first { result ≡ true → one ≡ true }
+    ensures second { result ≡ true → other ≡ true }
+{
+    one && other
+}
+
+/// One failure more, where this failed.
+fn counted(failures: u64, answer: Result<(), WireFault>) -> u64
+    ensures { result ≡ failures_after failures answer }
+{
+    match answer {
+        Ok(()) => failures,
+        Err(WireFault) => failures.saturating_add(1),
+    }
+}
+
+/// Sends the last datagram of a leg again, where its moment has come.
+fn send_again<W: Wire>(wire: &mut W, side: Side, last: &mut Last, policy: RepeatPolicy, now: u64)
+    requires { IsWithin policy last.old }
+    ensures last { last.new ≡ repeated policy now last.old }
+    ensures received { Grows [] (W.known wire.old).received (W.known wire.new).received }
+    ensures sent { Grows (repeat_of side now last.old) (W.known wire.old).sent (W.known wire.new).sent }
+{
+    if last.is_due(now) {
+        let _ = wire.send(side, last.octets());
+        last.repeat(policy, now);
+    }
+}
+
+/// What is told of it is what it was handed over.
+impl<W: Wire + Drop> Wire for RepeatingWire<W> {
+    ghost use Rattle.fax_repeat.specs.Repeats.{told_of};
+
+    ghost known = { told_of };
+
+    fn receive(&mut self, side: Side, buffer: &mut [u8]) -> Result<Option<usize>, WireFault> {
+        match self.wire.receive(side, buffer) {
+            Ok(came) => Ok(came),
+            Err(WireFault) => {
+                self.failures = self.failures.saturating_add(1);
+                Err(WireFault)
+            }
+        }
+    }
+
+    /// The datagram is sent at once, and is the last of its leg.
+    fn send(&mut self, side: Side, octets: &[u8]) -> Result<(), WireFault>
+        ensures failures { self.new.failures ≡ failures_after self.old.failures result }
+        ensures received { Grows [] self.old.wire.received self.new.wire.received }
+        ensures sent { Grows (record { side = side; octets = octets.now } ∷ []) (told_if self.old.tells self.old.wire.sent) (told_if self.new.tells self.new.wire.sent) }
+        ensures handed { HandsOver side octets.now self.old self.new }
+        ensures repeats { Repeats self.new }
+    {
+        let answer = match side {
+            Side::Calling => self.send_on_calling(octets),
+            Side::Called => self.send_on_called(octets),
+        };
+        let _ = &self.tells;
+        answer
+    }
+}
+
+impl<W: Wire + Drop> TimedWire for RepeatingWire<W> {
+    /// The last datagram of each leg whose moment has come is sent again, once. A moment before another reads as the latest.
+    fn go_on(&mut self, now: u64)
+        ensures told { IsToldAs (told_of self.old) (told_of self.new) }
+        ensures goes_on { GoesOn (max self.old.clock now) self.old self.new }
+        ensures repeats { Repeats self.new }
+    {
+        self.clock = self.clock.max(now);
+        send_again(
+            &mut self.wire,
+            Side::Calling,
+            &mut self.calling,
+            self.policy,
+            self.clock,
+        );
+        send_again(
+            &mut self.wire,
+            Side::Called,
+            &mut self.called,
+            self.policy,
+            self.clock,
+        );
+    }
+
+    /// The last datagram of the leg is sent no more.
+    fn cease(&mut self, side: Side)
+        ensures told { IsToldAs (told_of self.old) (told_of self.new) }
+        ensures ceased { last_on side self.new ≡ ceased (last_on side self.old) }
+        ensures beside { last_beside side self.new ≡ last_beside side self.old }
+        ensures policy { self.new.policy ≡ self.old.policy }
+        ensures clock { self.new.clock ≡ self.old.clock }
+        ensures wire { self.new.wire ≡ self.old.wire }
+        ensures repeats { Repeats self.new }
+    {
+        match side {
+            Side::Calling => self.calling.cease(),
+            Side::Called => self.called.cease(),
+        }
+    }
+
+    /// The moment of the next repeat.
+    fn next_due(&self) -> Option<u64>
+        ensures { result ≡ earlier_of self.now.calling.due self.now.called.due }
+    {
+        earlier(self.calling.due(), self.called.due())
+    }
+}

@@ -1,0 +1,6 @@
+mod Files
+mod Steps
+mod Recovery
+mod Numbers
+mod Shorts
+mod Digests

@@ -1,0 +1,5 @@
+pub mod Records
+pub mod Settled
+pub mod Found
+pub mod Seals
+pub mod RecordOctets

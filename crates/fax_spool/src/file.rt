@@ -1,0 +1,183 @@
+//! A file of records: before each stands a gate of one octet and its length in four. A record counts where its gate is open (1).
+//! A shut gate stands behind the last one, and is on the disk before anything is written behind it.
+ghost use Rattle.std.specs.Prelude.{◌≡◌, ◌⊎◌, ◌+◌, ◌<◌, ◌≤◌, ◌^◌, ◌++◌, [], ◌∷◌, List, ℕ, length, IfOk, OnOk, IsTrue, MatchOption, ◌≢◌, ◌↔◌, slice_index};
+ghost use Rattle.std.specs.Int.{w32, to_be_bytes};
+ghost use Rattle.fax_spool.specs.Records.{Stands, body, block, Ends, IsShort};
+ghost use Rattle.fax_spool.specs.Found.{IsFoundIn, items_of};
+ghost use Rattle.sqlite_disk.specs.Disk.{Torn, Holds, Only, Follows};
+ghost use Rattle.fax_spool.specs.Settled.{IsSettled};
+
+use sqlite_disk::Disk;
+use std::alloc::{AllocError, Global};
+use std::io;
+
+const MOST: usize = 1 << 60;
+
+/// A file of records, with the place behind the last of them, in octets. What `recover` answers begins one.
+#[derive(Drop)]
+pub struct RecordFile<D: Disk> {
+    pub disk: D,
+    pub end: usize,
+}
+
+/// What is written behind the gate of a record: its length, the record, and the gate of the next one, closed.
+fn body_of(alloc: Global, item: &[u8]) -> Result<Vec<u8>, AllocError>
+    requires { length item.now < 2 ^ 32 }
+    ensures octets { IfOk result (λ v. v.items ≡ body item.now ++ 0 ∷ []) }
+{
+    let mut octets = Vec::with_capacity(alloc, item.len() + 5)?;
+    octets.extend_from_slice(&(item.len() as u32).to_be_bytes())?;
+    octets.extend_from_slice(item)?;
+    octets.push(0)?;
+    Ok(octets)
+}
+
+impl<D: Disk> RecordFile<D> {
+    /// Adds a record, shorter than 2 ^ 32 octets. At `Ok` it is on the disk, and each later crash leaves it. At `Err` (the disk's
+    /// failure, no memory, or `StorageFull`) it may be on the disk or not, and the file has to be recovered before it is used again.
+    pub fn put(&mut self, alloc: Global, item: &[u8]) -> io::Result<()>
+        requires short { length item.now < 2 ^ 32 }
+        requires usable { IsTrue (D.is_usable self.old.disk) }
+
+        ensures usable { OnOk result (IsTrue (D.is_usable self.new.disk)) }
+
+        ensures acknowledged { OnOk result ((rs : List (List ℕ)) → IsSettled D.seen D.may_leave D.is_usable self.old.disk self.old.end rs
+            → IsSettled D.seen D.may_leave D.is_usable self.new.disk self.new.end (rs ++ item.now ∷ [])) }
+
+        // Whenever the machine stops, the file stands for the records from before, with the new one or without.
+        ensures crash { (rs : List (List ℕ)) → IsSettled D.seen D.may_leave D.is_usable self.old.disk self.old.end rs
+            → (c : List ℕ) → D.may_leave self.new.disk c → Stands c rs ⊎ Stands c (rs ++ item.now ∷ []) }
+    {
+        if self.end > MOST {
+            return Err(io::ErrorKind::StorageFull.into());
+        }
+        let octets = body_of(alloc, item)?;
+        self.disk.write_at(self.end + 1, octets.as_slice())?;
+        self.disk.sync()?;
+        self.disk.write_at(self.end, &[1])?;
+        self.disk.sync()?;
+        self.end += item.len() + 5;
+        Ok(())
+    }
+
+    /// Drops all records. At `Ok` each later crash leaves none of them. At `Err` the file has to be recovered before it is used
+    /// again.
+    pub fn clear(&mut self) -> io::Result<()>
+        requires usable { IsTrue (D.is_usable self.old.disk) }
+
+        ensures usable { OnOk result (IsTrue (D.is_usable self.new.disk)) }
+
+        ensures acknowledged { OnOk result ((rs : List (List ℕ)) → IsSettled D.seen D.may_leave D.is_usable self.old.disk self.old.end rs
+            → IsSettled D.seen D.may_leave D.is_usable self.new.disk self.new.end []) }
+
+        // Whenever the machine stops, the file stands for all of the records or for none.
+        ensures crash { (rs : List (List ℕ)) → IsSettled D.seen D.may_leave D.is_usable self.old.disk self.old.end rs
+            → (c : List ℕ) → D.may_leave self.new.disk c → Stands c rs ⊎ Stands c [] }
+    {
+        if self.end == 0 {
+            return Ok(());
+        }
+        self.disk.write_at(0, &[0])?;
+        self.disk.sync()?;
+        self.end = 0;
+        Ok(())
+    }
+}
+
+/// What a file was found to hold.
+#[derive(Drop)]
+pub struct Found {
+    /// Its records, in the order in which they were put.
+    pub items: Vec<Vec<u8>>,
+    /// The place behind the last, in octets.
+    pub end: usize,
+}
+
+/// The record that octets begin with, and what stands behind it.
+fn first_record(octets: &[u8]) -> Option<(&[u8], &[u8])>
+    ensures { MatchOption result (Ends octets.now) (λ p. IsShort p.0.now × (octets.now ≡ block p.0.now ++ p.1.now)) }
+{
+    let (gate, rest) = octets.split_first()?;
+    if *gate != 1 || rest.len() < 4 {
+        return None;
+    }
+    let (head, behind) = rest.split_at(4);
+    let len = u32::from_be_bytes([head[0], head[1], head[2], head[3]]) as usize;
+    if len > behind.len() {
+        return None;
+    }
+    Some(behind.split_at(len))
+}
+
+/// The records that octets begin with, and where they end.
+fn records_of(alloc: Global, octets: &[u8]) -> Result<Found, AllocError>
+    ensures { IfOk result (IsFoundIn octets.now) }
+{
+    let mut items = Vec::new(alloc);
+    let mut rest = octets;
+    while let Some((item, behind)) = first_record(rest) {
+        items.push(item.to_vec(alloc)?)?;
+        rest = behind;
+    }
+    Ok(Found {
+        items,
+        end: octets.len() - rest.len(),
+    })
+}
+
+/// All octets of a file.
+fn read_all<D: Disk>(alloc: Global, disk: &mut D) -> io::Result<Vec<u8>>
+    requires usable { IsTrue (D.is_usable disk.old) }
+    ensures usable { IsTrue (D.is_usable disk.new) }
+    ensures octets { IfOk result (λ v. IsTrue (D.is_clean disk.new) → v.items ≡ D.seen disk.old) }
+    ensures seen { D.seen disk.new ≡ D.seen disk.old }
+    ensures crash { (c : List ℕ) → D.may_leave disk.new c → D.may_leave disk.old c }
+{
+    let len = disk.len()?;
+    let mut octets = Vec::from_elem(alloc, 0u8, len)?;
+    if len > 0 {
+        disk.read_at(0, octets.as_mut_slice())?;
+    }
+    Ok(octets)
+}
+
+/// Whether a shut gate stands at a place.
+fn is_shut(octets: &[u8], at: usize) -> bool
+    ensures { IsTrue result ↔ ((at < length octets.now) × (slice_index octets.now at ≢ 1)) }
+{
+    at < octets.len() && octets[at] != 1
+}
+
+/// Writes a shut gate.
+fn shut<D: Disk>(disk: &mut D, at: usize) -> io::Result<()>
+    requires usable { IsTrue (D.is_usable disk.old) }
+    ensures usable { OnOk result (IsTrue (D.is_usable disk.new)) }
+    ensures crash { Follows (Torn at 1) (D.may_leave disk.old) (D.may_leave disk.new) }
+    ensures others { Torn at 1 (D.seen disk.old) (D.seen disk.new) }
+    ensures written { OnOk result (Holds (D.seen disk.new) at (0 ∷ [])) }
+    ensures durable { OnOk result (Only (D.seen disk.new) (D.may_leave disk.new)) }
+    ensures clean { IsTrue (D.is_clean disk.new) → IsTrue (D.is_clean disk.old) }
+{
+    disk.write_at(at, &[0])?;
+    disk.sync()?;
+    Ok(())
+}
+
+/// Reads the records of a file that a crash may have left, and shuts the gate behind them. It may crash too.
+pub fn recover<D: Disk>(alloc: Global, disk: &mut D) -> io::Result<Found>
+    requires usable { IsTrue (D.is_usable disk.old) }
+    // After a restart, what is read is what is on the disk.
+    requires durable { Only (D.seen disk.old) (D.may_leave disk.old) }
+    ensures usable { OnOk result (IsTrue (D.is_usable disk.new)) }
+    ensures found { IfOk result (λ f. IsTrue (D.is_clean disk.new) → Stands (D.seen disk.old) (items_of f)) }
+    ensures settled { IfOk result (λ f. IsTrue (D.is_clean disk.new) → IsSettled D.seen D.may_leave D.is_usable disk.new f.end (items_of f)) }
+    // Whenever the machine stops, the file stands for the same records.
+    ensures crash { IsTrue (D.is_clean disk.new) → (rs : List (List ℕ)) → Stands (D.seen disk.old) rs → (c : List ℕ) → D.may_leave disk.new c → Stands c rs }
+{
+    let octets = read_all(alloc, disk)?;
+    let found = records_of(alloc, octets.as_slice())?;
+    if !is_shut(octets.as_slice(), found.end) {
+        shut(disk, found.end)?;
+    }
+    Ok(found)
+}

@@ -1,0 +1,14 @@
+//! What is kept of confirmed pages so that it survives a crash: a file of records, each of which is on the disk before its
+//! `put` answers; the seal by which a damaged record is found; and what a record says.
+#![tactic(auto)]
+
+mod file;
+mod record;
+mod sealing;
+
+pub use file::{Found, RecordFile, recover};
+pub use record::{
+    EndedRecord, PageRecord, read_ended_record, read_page_record, write_ended_record,
+    write_page_record,
+};
+pub use sealing::{seal, unseal};

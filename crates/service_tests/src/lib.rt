@@ -1,0 +1,12 @@
+//! Tests of the parts of the service.
+#![tactic(auto)]
+
+#[cfg(test)]
+mod control;
+#[cfg(test)]
+mod events;
+mod lines;
+#[cfg(test)]
+mod repeats;
+#[cfg(test)]
+mod spool;

@@ -1,0 +1,130 @@
+//! Lines of a server.
+mod peers;
+
+use fax_bits::NoMemory;
+use fax_gateway::{RingFault, Settings};
+use fax_jobs::{Outcome, Report};
+use fax_line::{Line, Lines, Order, Pace, SLOTS, serve};
+use fax_pagestore::Format;
+use fax_repeat::{RepeatPolicy, RepeatingWire, TimedWire};
+use fax_runcodes::Width;
+use peers::PeerWire;
+use std::alloc::Global;
+use std::process::Abort;
+use std::test::Fail;
+
+/// The report of a call whose page was delivered.
+const DELIVERED: Report = Report {
+    call: 0,
+    format: Format {
+        width: Width::W1728,
+        fine: false,
+    },
+    pages: 1,
+    delivered: 1,
+    outcome: Outcome::Delivered,
+};
+
+type PeerLine = Line<RepeatingWire<PeerWire>>;
+
+/// A line between two machines, which loses each so many-th datagram that it sends. 0: none.
+fn line_of(alloc: Global, loses: u32, policy: RepeatPolicy) -> Result<PeerLine, NoMemory> {
+    let wire = PeerWire::new(alloc, loses)?;
+    Line::new(
+        alloc,
+        Settings { redundancy: 3 },
+        RepeatingWire::new(wire, policy),
+    )
+}
+
+/// Calls through a line of its own, with repeats 20 ms behind each turn.
+fn plays(line: &mut PeerLine) {
+    for turn in 0..2500u64 {
+        line.turn(40 * turn);
+        line.tell_time(40 * turn + 20);
+        if line.report(0).is_some() {
+            return;
+        }
+    }
+}
+
+/// A page is delivered though each third datagram is lost, first sends and repeats alike.
+#[test]
+fn a_page_goes_through_a_line(rt: HostRuntime) -> Result<(), Fail> {
+    for (loses, policy) in [
+        (0, RepeatPolicy::Never),
+        (3, RepeatPolicy::Full),
+        (3, RepeatPolicy::Once),
+    ] {
+        let mut line = line_of(rt.alloc(), loses, policy)?;
+        assert!(rt; line.ring(0) == Ok(0), "at {policy:?}");
+        assert!(rt; line.ring(0) == Err(RingFault::Busy), "at {policy:?}");
+        plays(&mut line);
+        assert!(rt; line.report(0) == Some(DELIVERED), "at {policy:?}");
+        assert_eq!(rt; line.wire().wire().confirmed(), 1, "at {policy:?}");
+        assert_eq!(rt; line.waiting(), 0, "at {policy:?}");
+        assert!(rt; line.goes_on(), "at {policy:?}");
+    }
+    Ok(())
+}
+
+/// Without repeats it is not.
+#[test]
+fn a_page_is_lost_without_repeats(rt: HostRuntime) -> Result<(), Fail> {
+    let mut line = line_of(rt.alloc(), 3, RepeatPolicy::Never)?;
+    assert!(rt; line.ring(0) == Ok(0));
+    plays(&mut line);
+    assert!(rt; line.report(0) != Some(DELIVERED));
+    Ok(())
+}
+
+/// Gives a turn each millisecond, behind two rings, one of a line that is not there.
+#[derive(Drop)]
+struct Minute {
+    orders: u64,
+    rung: Vec<(usize, Option<Result<u32, RingFault>>)>,
+}
+
+impl<W: TimedWire + Drop> Pace<W> for Minute {
+    ghost use Rattle.std.specs.Prelude.{None};
+
+    ghost words = { λ minute. None };
+
+    fn next(&mut self, _lines: &Lines<W>) -> Option<Order> {
+        self.orders = self.orders.saturating_add(1);
+        match self.orders {
+            1 => Some(Order::Ring { line: 1, now: 5 }),
+            2 => Some(Order::Ring { line: 7, now: 5 }),
+            orders if orders < 60_000 => Some(Order::Turn { now: orders }),
+            _ => None,
+        }
+    }
+
+    fn rung(&mut self, line: usize, answer: Option<Result<u32, RingFault>>) {
+        let _ = self.rung.push((line, answer));
+    }
+}
+
+/// A line that rings is served, beside one that does not.
+#[test]
+fn lines_are_served(rt: HostRuntime) -> Result<(), Fail> {
+    let mut lines = Lines::new(rt.alloc());
+    for _ in 0..2 {
+        lines.add(line_of(rt.alloc(), 3, RepeatPolicy::Full)?)?;
+    }
+    assert_eq!(rt; lines.len(), 2);
+    assert_eq!(rt; SLOTS, 40);
+    let mut minute = Minute {
+        orders: 0,
+        rung: Vec::new(rt.alloc()),
+    };
+    serve(&mut lines, &mut minute);
+    assert!(rt; minute.rung.as_slice() == [(1, Some(Ok(0))), (7, None)].as_slice());
+    assert_eq!(rt; lines.slot(), (60_000 - 3) % SLOTS);
+    let rung = lines.line(1).expect(&rt, "a line");
+    assert!(rt; rung.report(0) == Some(DELIVERED));
+    let still = lines.line(0).expect(&rt, "a line");
+    assert!(rt; still.report(0).is_none() && still.goes_on());
+    assert!(rt; lines.line(2).is_none());
+    Ok(())
+}
