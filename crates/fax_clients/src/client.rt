@@ -1,0 +1,109 @@
+//! A client.
+use crate::inbox::Inbox;
+use crate::outbox::Outbox;
+use crate::stream::Stream;
+use fax_bits::NoMemory;
+use fax_control::Heard;
+use std::alloc::Global;
+use std::io::{Read, Write};
+use std::os::fd::RawFd;
+
+/// Who says words and reads answers.
+#[derive(Drop)]
+pub(crate) struct Client<I: Read + Drop, O: Write + Drop> {
+    stream: Stream<I, O>,
+    inbox: Inbox,
+    outbox: Outbox,
+}
+
+impl<I: Read + Drop, O: Write + Drop> Client<I, O> {
+    /// A client that said nothing.
+    pub fn new(alloc: Global, stream: Stream<I, O>) -> Self {
+        Client {
+            stream,
+            inbox: Inbox::new(),
+            outbox: Outbox::new(alloc),
+        }
+    }
+
+    /// From now on it is told events.
+    pub fn want_events(&mut self) -> Result<(), NoMemory> {
+        self.outbox.want_events()
+    }
+
+    /// Whether more may come from it.
+    pub fn says_more(&self) -> bool {
+        self.inbox.is_open()
+    }
+
+    /// Whether a line may wait that it said.
+    pub fn is_waiting(&self) -> bool {
+        !self.inbox.is_heard() && !self.outbox.is_writing()
+    }
+
+    /// The descriptor that it is waited for to say something; none where it is not heard now.
+    pub fn heard_from(&self) -> Option<RawFd> {
+        if self.inbox.is_open() && self.inbox.is_heard() && !self.outbox.is_writing() {
+            Some(self.stream.input())
+        } else {
+            None
+        }
+    }
+
+    /// The descriptor that is waited for to take octets; none where none are to be told.
+    pub fn told_over(&mut self) -> Option<RawFd> {
+        self.outbox.go_on();
+        if self.outbox.is_writing() {
+            Some(self.stream.output())
+        } else {
+            None
+        }
+    }
+
+    /// Reads what it said.
+    pub fn read(&mut self) {
+        self.inbox.read(&mut self.stream);
+    }
+
+    /// Writes what it takes.
+    pub fn write(&mut self) {
+        self.outbox.write(&mut self.stream);
+    }
+
+    /// The next line that it said. It is heard no further while a text is being written.
+    pub fn hear(&mut self) -> Option<Heard> {
+        if self.outbox.is_writing() {
+            return None;
+        }
+        self.inbox.hear()
+    }
+
+    /// It is answered.
+    pub fn answer(&mut self, text: Vec<u8>) {
+        self.outbox.put(text);
+    }
+
+    /// It is told an event, where it wants events.
+    pub fn tell(&mut self, line: &[u8]) {
+        self.outbox.tell(line);
+    }
+
+    /// Whether it wants events.
+    pub fn tells_events(&self) -> bool {
+        self.outbox.tells_events()
+    }
+
+    /// How many lines of events it lost since this was asked.
+    pub fn take_lost(&mut self) -> u64 {
+        self.outbox.take_lost()
+    }
+
+    /// Whether it is there still: it takes octets, and says more, or is told something.
+    pub fn stays(&self) -> bool {
+        self.outbox.is_open()
+            && (self.inbox.is_open()
+                || !self.inbox.is_heard()
+                || self.outbox.is_writing()
+                || self.outbox.tells_events())
+    }
+}

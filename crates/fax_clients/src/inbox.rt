@@ -1,0 +1,82 @@
+//! What came from a client and was not heard yet.
+ghost use Rattle.std.specs.Prelude.{◌≤◌, length};
+
+use fax_control::{ClientLines, Heard};
+use std::io::{ErrorKind, Read};
+
+/// How many octets are read at once.
+const ROOM: usize = 512;
+
+/// The octets that were read last, and what has come of a line.
+#[derive(Drop)]
+pub(crate) struct Inbox {
+    octets: [u8; 512],
+    /// The octets from here up to the end were not heard yet.
+    start: usize,
+    end: usize,
+    lines: ClientLines,
+    /// Whether more may come.
+    is_open: bool,
+    ghost ordered: { start ≤ end },
+    ghost within: { end ≤ 512 },
+}
+
+impl Inbox {
+    /// Nothing has come.
+    pub fn new() -> Self {
+        Inbox {
+            octets: [0; ROOM],
+            start: 0,
+            end: 0,
+            lines: ClientLines::new(),
+            is_open: true,
+        }
+    }
+
+    /// Whether more may come.
+    pub fn is_open(&self) -> bool {
+        self.is_open
+    }
+
+    /// Whether all that was read was heard.
+    pub fn is_heard(&self) -> bool {
+        self.start == self.end
+    }
+
+    /// Reads what has come, where all that was read before was heard. Behind the end of the stream, or a read that failed,
+    /// nothing more comes.
+    pub fn read<S: Read>(&mut self, stream: &mut S) {
+        if !self.is_open || !self.is_heard() {
+            return;
+        }
+        match stream.read(&mut self.octets) {
+            Ok(0) => self.is_open = false,
+            Ok(count) => {
+                self.start = 0;
+                self.end = count;
+            }
+            Err(error) => self.is_open = is_passing(error.kind()),
+        }
+    }
+
+    /// The next line of what was read, if one ends there.
+    pub fn hear(&mut self) -> Option<Heard> {
+        let unheard = part(&self.octets, self.start, self.end);
+        let (heard, rest) = self.lines.hear(unheard);
+        self.start = self.end.saturating_sub(rest.len());
+        heard
+    }
+}
+
+/// The octets from a place up to another one.
+fn part(octets: &[u8], start: usize, end: usize) -> &[u8]
+    requires ordered { start ≤ end }
+    requires within { end ≤ length octets.now }
+{
+    &octets[start..end]
+}
+
+/// Whether a stream with this fault may be tried again.
+pub(crate) fn is_passing(kind: ErrorKind) -> bool {
+    kind == ErrorKind::WouldBlock || kind == ErrorKind::Interrupted
+}

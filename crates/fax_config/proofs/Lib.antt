@@ -1,0 +1,4 @@
+pub mod KeyLemmas
+pub mod LineLemmas
+pub mod MemberLemmas
+pub mod UnlikeLemmas

@@ -1,0 +1,53 @@
+-- The lines of a document, and what is wrong with one of them.
+use Rattle.std.proofs.Common.{◌≡◌, ℕ, ◌+◌, ◌<◌, List, [], ◌∷◌, ◌++◌, length, codes, get_or, take, Option, None, Some, IsSomeAnd, inr, refl, sym, ◌∙◌, ap, subst, arith}
+use Rattle.std.proofs.lemmas.List.{take_more}
+use Rattle.toml.specs.Data.{Data, array, table, Items, Members, get_item, get_member, as_table}
+use Rattle.toml.specs.View.{view, items_view}
+use Rattle.toml.specs.declared.value.Value.{Value}
+use Rattle.fax_config.specs.declared.config.LineConfig.{LineConfig}
+use Rattle.fax_config.specs.declared.fault.Misfit.{Misfit}
+use Rattle.fax_config.specs.declared.fault.Misfit.TheVariants as misfits
+use Rattle.fax_config.specs.Configurations.{AreLines, IsLineOf}
+use Rattle.fax_config.specs.Faults.{HasMisfit, IsMisfitOf, IsNoListOfTables, count_items}
+
+-- one more item, and the line that it tells
+lines_push : (vs : List Value) (ls : List LineConfig) (v : Value) (l : LineConfig) → AreLines (items_view vs) ls → IsLineOf (view v) l → AreLines (items_view (vs ++ v ∷ [])) (ls ++ l ∷ [])
+lines_push [] [] v l h k = (k, tt)
+lines_push [] (x ∷ ls) v l h k = absurd h
+lines_push (w ∷ vs) [] v l h k = absurd h
+lines_push (w ∷ vs) (x ∷ ls) v l h k = (h.0, lines_push vs ls v l h.1 k)
+
+pub lines_more : (vs : List Value) (i : ℕ) (v : Value) (ls : List LineConfig) (l : LineConfig) → i < length vs → v ≡ get_or vs i v
+    → AreLines (items_view (take i vs)) ls → IsLineOf (view v) l → AreLines (items_view (take (i + 1) vs)) (ls ++ l ∷ [])
+lines_more vs i v ls l within is h k =
+    let more : take (i + 1) vs ≡ take i vs ++ v ∷ [] = take_more vs i v within ∙ ap (λ x. take i vs ++ x ∷ []) (sym is) in
+    subst (λ some. AreLines (items_view some) (ls ++ l ∷ [])) (sym more) (lines_push (take i vs) ls v l h k)
+
+pub count_view : (vs : List Value) → count_items (items_view vs) ≡ length vs
+count_view [] = refl
+count_view (v ∷ vs) = let more = count_view vs in omega (arith, more)
+
+-- what is wrong with a line is wrong with the document
+pub misfit_of_line : (members : Members) (items : Items) (i : ℕ) (line : Members) (misfit : Misfit) → get_item i items ≡ Some (table line) → HasMisfit i line misfit
+    → get_member (codes "lines") members ≡ Some (array items) → IsMisfitOf members misfit
+misfit_of_line document items i line (misfits.Top flaw) here h at = absurd h
+misfit_of_line document items i line (misfits.Line name flaw) here h at = (items, at, (i, line, here, h))
+misfit_of_line document items i line (misfits.Leg name leg flaw) here h at = (items, at, (i, line, here, h))
+misfit_of_line document items i line (misfits.DoubledName name) here h at = absurd h
+misfit_of_line document items i line (misfits.DoubledAddress name leg) here h at = absurd h
+misfit_of_line document items i line misfits.TooManyLines here h at = absurd h
+misfit_of_line document items i line misfits.NoMemory here h at = tt
+
+-- an item that is no table
+pub no_table_at : (found : Option Data) (items : Items) (i : ℕ) (value : Data) → found ≡ Some (array items) → get_item i items ≡ Some value → as_table value ≡ None
+    → IsSomeAnd found IsNoListOfTables
+no_table_at found items i value at here none =
+    subst (λ o. IsSomeAnd o IsNoListOfTables) (sym at) (inr (items, i, refl, subst (λ o. IsSomeAnd o (λ one. as_table one ≡ None)) (sym here) none))
+
+-- a value that is no list
+pub no_list_at : (found : Option Data) (value : Data) → found ≡ Some value → IsNoListOfTables value → IsSomeAnd found IsNoListOfTables
+no_list_at found value at h = subst (λ o. IsSomeAnd o IsNoListOfTables) (sym at) h
+
+-- a fact of the value that was found
+pub found_with : (P : Data → Type 0) (found : Option Data) (value : Data) → found ≡ Some value → P value → IsSomeAnd found P
+found_with P found value at h = subst (λ o. IsSomeAnd o P) (sym at) h

@@ -1,0 +1,30 @@
+use Rattle.std.proofs.Common.{rules, List, sym, subst}
+use Rattle.toml.specs.View.{table_view}
+use Rattle.fax_config.specs.declared.config.LineConfig.{LineConfig}
+use Rattle.fax_config.specs.Configurations.{AreLinesAt, AreUnlike, locals_of_lines, names_of_lines}
+use Rattle.fax_config.proofs.reading.config_of.Goals as goal
+
+pub returns-in-Ok-clause-told : goal.returns-in-Ok-clause-told
+returns-in-Ok-clause-told c = record {
+  keys = c.in-Ok.ensures.keys;
+  control = c.in-Ok.ensures.control;
+  spool = c.in-Ok.ensures.spool;
+  stop_seconds = c.in-Ok.ensures.stop;
+  stop_in_range = c.in-Ok.ensures.stop_in_range;
+  lines = c.in_ok-lines.ensures.told;
+  few = c.in_ok-lines.ensures.few;
+  names_unlike = subst (λ (lines : List LineConfig). AreUnlike (names_of_lines lines)) c.as_slice.ensures.value c.in_ok-names_unlike.ensures.ok;
+  addresses_unlike = subst (λ (lines : List LineConfig). AreUnlike (locals_of_lines lines)) c.as_slice-2.ensures.value c.in_ok-locals_unlike.ensures.ok;
+}
+
+pub returns-in_err-names_unlike-clause-fault : goal.returns-in_err-names_unlike-clause-fault
+returns-in_err-names_unlike-clause-fault c =
+    let here = c.in_err-names_unlike.ensures.fault (table_view c.args.table.now)
+    (subst (λ (lines : List LineConfig). AreLinesAt (table_view c.args.table.now) lines) (sym c.as_slice.ensures.value) c.in_ok-lines.ensures.told) in
+    search rules
+
+pub returns-in_err-locals_unlike-clause-fault : goal.returns-in_err-locals_unlike-clause-fault
+returns-in_err-locals_unlike-clause-fault c =
+    let here = c.in_err-locals_unlike.ensures.fault (table_view c.args.table.now)
+    (subst (λ (lines : List LineConfig). AreLinesAt (table_view c.args.table.now) lines) (sym c.as_slice-2.ensures.value) c.in_ok-lines.ensures.told) in
+    search rules

@@ -1,0 +1,85 @@
+-- What a document tells of a service and its lines (this project's profile).
+use Rattle.std.specs.Prelude.{◌≡◌, ◌≢◌, ℕ, ◌<◌, ◌≤◌, ◌⊎◌, None, Some, List, [], ◌∷◌, length, codes, get_or, map, flat_map, option_map, string_bytes}
+use Rattle.std.specs.declared.net.socket_addr.SocketAddr.{SocketAddr}
+use Rattle.toml.specs.Data.{Data, array, table, Items, no_items, item, Members, get_member}
+use Rattle.toml.specs.Parse.{parse_document}
+use Rattle.fax_config.specs.declared.config.LegConfig.{LegConfig}
+use Rattle.fax_config.specs.declared.config.LineConfig.{LineConfig}
+use Rattle.fax_config.specs.declared.config.Config.{Config}
+use Rattle.fax_config.specs.declared.keys.Level.TheVariants as levels
+use Rattle.fax_config.specs.Members.{HasKnownKeys, IsAddressAt, IsLineName, IsNumberAt, IsRepeatAt, IsTableAt, IsTextAt}
+
+-- A line's name can be said in a control word, and its settings are in their ranges.
+pub record IsInRange (line : LineConfig) : Type 0 where
+  pub name : IsLineName (string_bytes line.name)
+  pub redundancy : line.redundancy ≤ 8
+  pub least_preamble : 40 ≤ line.preamble_ms
+  pub most_preamble : line.preamble_ms ≤ 2000
+
+-- no two in the list are alike
+abbrev pub AreUnlike : {X : Type 0} → List X → Type 0
+AreUnlike {X} xs = (i j : ℕ) (default : X) → i < j → j < length xs → get_or xs i default ≢ get_or xs j default
+
+abbrev pub names_of_lines : List LineConfig → List (List ℕ)
+names_of_lines lines = map (λ line. string_bytes line.name) lines
+
+abbrev pub locals_of_lines : List LineConfig → List SocketAddr
+locals_of_lines lines = flat_map (λ line. line.calling.local ∷ line.called.local ∷ []) lines
+
+abbrev pub names_of : Config → List (List ℕ)
+names_of config = names_of_lines config.lines.items
+
+abbrev pub local_addresses : Config → List SocketAddr
+local_addresses config = locals_of_lines config.lines.items
+
+-- The table tells this leg.
+pub record IsLeg (members : Members) (leg : LegConfig) : Type 0 where
+  pub keys : HasKnownKeys levels.Leg members
+  pub local : IsAddressAt (codes "local") members (Some leg.local)
+  pub peer : IsAddressAt (codes "peer") members leg.peer
+
+-- the table at a key tells this leg
+abbrev pub IsLegAt : List ℕ → Members → LegConfig → Type 0
+IsLegAt key members leg = (inner : Members) × IsTableAt key members inner × IsLeg inner leg
+
+-- The table tells this line.
+pub record IsLine (members : Members) (line : LineConfig) : Type 0 where
+  pub keys : HasKnownKeys levels.Line members
+  pub name : IsTextAt (codes "name") members (Some (string_bytes line.name))
+  pub calling : IsLegAt (codes "calling") members line.calling
+  pub called : IsLegAt (codes "called") members line.called
+  pub redundancy : IsNumberAt (codes "redundancy") members 3 line.redundancy
+  pub preamble_ms : IsNumberAt (codes "preamble_ms") members 40 line.preamble_ms
+  pub repeat : IsRepeatAt members line.repeat
+  pub in_range : IsInRange line
+
+abbrev pub IsLineOf : Data → LineConfig → Type 0
+IsLineOf value line = (members : Members) × (value ≡ table members) × IsLine members line
+
+-- each item tells the line at its place, and there are as many
+abbrev pub AreLines : Items → List LineConfig → Type 0
+AreLines no_items [] = Unit {0}
+AreLines no_items (line ∷ lines) = ⊥
+AreLines (item value items) [] = ⊥
+AreLines (item value items) (line ∷ lines) = IsLineOf value line × AreLines items lines
+
+-- the lines of a document: none, where it has no `lines`
+abbrev pub AreLinesAt : Members → List LineConfig → Type 0
+AreLinesAt members lines =
+    ((get_member (codes "lines") members ≡ None) × (lines ≡ [])) ⊎ ((items : Items) × (get_member (codes "lines") members ≡ Some (array items)) × AreLines items lines)
+
+-- The document tells this configuration.
+pub record IsConfig (members : Members) (config : Config) : Type 0 where
+  pub keys : HasKnownKeys levels.Top members
+  pub control : IsTextAt (codes "control") members (option_map (λ path. string_bytes path) config.control)
+  pub spool : IsTextAt (codes "spool") members (option_map (λ path. string_bytes path) config.spool)
+  pub stop_seconds : IsNumberAt (codes "stop_seconds") members 120 config.stop_seconds
+  pub stop_in_range : config.stop_seconds ≤ 86400
+  pub lines : AreLinesAt members config.lines.items
+  pub few : length config.lines.items ≤ 4000
+  pub names_unlike : AreUnlike (names_of config)
+  pub addresses_unlike : AreUnlike (local_addresses config)
+
+-- the text is a TOML document that tells this configuration
+abbrev pub Tells : List ℕ → Config → Type 0
+Tells text config = (members : Members) × (parse_document text ≡ Some members) × IsConfig members config

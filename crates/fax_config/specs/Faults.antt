@@ -1,0 +1,97 @@
+-- What each fault says of a text (this project's profile).
+use Rattle.std.specs.Prelude.{◌≡◌, ◌≢◌, ℕ, ℤ, pos, Bool, true, ◌+◌, ◌<◌, ◌≤◌, ◌⊎◌, Option, None, Some, IsSomeAnd, List, length, take, codes, count_by, ◌==◌, get_or, Contains, option_and_then, string_bytes}
+use Rattle.std.specs.List.{list_any}
+use Rattle.std.specs.Net.Grammar.{IsSocketText}
+use Rattle.std.specs.declared.net.socket_addr.SocketAddr.{SocketAddr}
+use Rattle.toml.specs.Data.{Data, string, integer, array, table, Items, no_items, item, Members, get_item, get_member, as_str, as_integer, as_array, as_table}
+use Rattle.toml.specs.Parse.{parse_document}
+use Rattle.toml.specs.Errors.{span_start}
+use Rattle.fax_control.specs.Words.{leg_text}
+use Rattle.fax_config.specs.declared.config.LineConfig.{LineConfig}
+use Rattle.fax_config.specs.declared.config.Repeat.{Repeat}
+use Rattle.fax_config.specs.declared.fault.ConfigFault.{ConfigFault}
+use Rattle.fax_config.specs.declared.fault.ConfigFault.TheVariants as faults
+use Rattle.fax_config.specs.declared.fault.Flaw.{Flaw}
+use Rattle.fax_config.specs.declared.fault.Flaw.TheVariants as flaws
+use Rattle.fax_config.specs.declared.fault.LineName.{LineName}
+use Rattle.fax_config.specs.declared.fault.LineName.TheVariants as told
+use Rattle.fax_config.specs.declared.fault.Misfit.{Misfit}
+use Rattle.fax_config.specs.declared.fault.Misfit.TheVariants as misfits
+use Rattle.fax_config.specs.declared.fault.Trouble.{Trouble}
+use Rattle.fax_config.specs.declared.fault.Trouble.TheVariants as troubles
+use Rattle.fax_config.specs.declared.keys.Level.{Level}
+use Rattle.fax_config.specs.declared.keys.Level.TheVariants as levels
+use Rattle.fax_config.specs.Configurations.{AreLinesAt, names_of_lines}
+use Rattle.fax_config.specs.Members.{IsLineName, IsTableAt, keys_of, known_keys, repeat_text}
+
+-- the value is no list, or an item of it is no table
+abbrev pub IsNoListOfTables : Data → Type 0
+IsNoListOfTables value =
+    (as_array value ≡ None) ⊎ ((items : Items) × (i : ℕ) × (value ≡ array items) × IsSomeAnd (get_item i items) (λ one. as_table one ≡ None))
+
+-- what is wrong with the value that was found at a key
+abbrev pub IsTrouble : Trouble → Option Data → Type 0
+IsTrouble troubles.Absent found = found ≡ None
+IsTrouble troubles.NotText found = IsSomeAnd found (λ value. as_str value ≡ None)
+IsTrouble troubles.NotNumber found = IsSomeAnd found (λ value. as_integer value ≡ None)
+IsTrouble troubles.NotTable found = IsSomeAnd found (λ value. as_table value ≡ None)
+IsTrouble troubles.NotTables found = IsSomeAnd found IsNoListOfTables
+IsTrouble troubles.NotAddress found = (text : List ℕ) × (found ≡ Some (string text)) × ((address : SocketAddr) → ¬ (IsSocketText text address))
+IsTrouble troubles.NotRepeat found = (text : List ℕ) × (found ≡ Some (string text)) × ((kind : Repeat) → text ≢ repeat_text kind)
+IsTrouble troubles.NotName found = (text : List ℕ) × (found ≡ Some (string text)) × ¬ (IsLineName text)
+IsTrouble (troubles.OutOfRange least most) found =
+    (number : ℤ) × (found ≡ Some (integer number)) × ((n : ℕ) → number ≡ pos n → least ≤ n → n ≤ most → ⊥)
+
+-- the table has the flaw: a key that is not known there, or trouble at a key
+abbrev pub HasFlaw : Level → Members → Flaw → Type 0
+HasFlaw level inside (flaws.Unknown key) = Contains (keys_of inside) (string_bytes key) × ¬ (Contains (known_keys level) (string_bytes key))
+HasFlaw level inside (flaws.At key trouble) = IsTrouble trouble (get_member key.now inside)
+HasFlaw level inside flaws.NoMemory = Unit {0}
+
+-- a line is told of by its name, or by how many stand before it where it has no name that is a text
+abbrev pub IsToldAs : ℕ → Members → LineName → Type 0
+IsToldAs behind line (told.Named name) = get_member (codes "name") line ≡ Some (string (string_bytes name))
+IsToldAs behind line (told.Behind count) = (count ≡ behind) × (option_and_then as_str (get_member (codes "name") line) ≡ None)
+
+-- the table of a line, behind so many others, has the flaw, or the table of one of its legs
+abbrev pub HasMisfit : ℕ → Members → Misfit → Type 0
+HasMisfit behind line (misfits.Line name flaw) = IsToldAs behind line name × HasFlaw levels.Line line flaw
+HasMisfit behind line (misfits.Leg name leg flaw) =
+    IsToldAs behind line name × ((inner : Members) × IsTableAt (leg_text leg) line inner × HasFlaw levels.Leg inner flaw)
+HasMisfit behind line misfits.NoMemory = Unit {0}
+HasMisfit behind line _ = ⊥
+
+-- some table of the list has the flaw
+abbrev pub SomeLineHasMisfit : Items → Misfit → Type 0
+SomeLineHasMisfit items misfit = (i : ℕ) × (line : Members) × (get_item i items ≡ Some (table line)) × HasMisfit i line misfit
+
+-- two places of the list have it
+abbrev pub HasTwice : {X : Type 0} → List X → X → Type 0
+HasTwice xs x = (i : ℕ) × (j : ℕ) × (i < j) × (j < length xs) × (get_or xs i x ≡ x) × (get_or xs j x ≡ x)
+
+-- the element stands at a place of the list, behind one that is like it by this test
+abbrev pub IsRepeated : {X : Type 0} → (X → X → Bool) → List X → X → Type 0
+IsRepeated eq xs x = (j : ℕ) × (j < length xs) × (get_or xs j x ≡ x) × (list_any (eq x) (take j xs) ≡ true)
+
+abbrev pub count_items : Items → ℕ
+count_items no_items = 0
+count_items (item value items) = 1 + count_items items
+
+-- what is wrong with a document
+abbrev pub IsMisfitOf : Members → Misfit → Type 0
+IsMisfitOf document (misfits.Top flaw) = HasFlaw levels.Top document flaw
+IsMisfitOf document (misfits.DoubledName name) = (lines : List LineConfig) × AreLinesAt document lines × HasTwice (names_of_lines lines) (string_bytes name)
+IsMisfitOf document (misfits.DoubledAddress name leg) = (lines : List LineConfig) × AreLinesAt document lines
+IsMisfitOf document misfits.TooManyLines = (items : Items) × (get_member (codes "lines") document ≡ Some (array items)) × (4000 < count_items items)
+IsMisfitOf document misfits.NoMemory = Unit {0}
+IsMisfitOf document misfit = (items : Items) × (get_member (codes "lines") document ≡ Some (array items)) × SomeLineHasMisfit items misfit
+
+-- how many line feeds stand before a place of the text, and one
+abbrev pub line_number : List ℕ → ℕ → ℕ
+line_number text place = count_by (λ octet. octet == 10) (take place text) + 1
+
+-- what a fault says is so: the text is no TOML, and that was met in this line of it; or memory was refused; or it is TOML, and something in it is wrong
+abbrev pub IsFaultOf : List ℕ → ConfigFault → Type 0
+IsFaultOf text (faults.NotToml line error) = (parse_document text ≡ None) × (line ≡ line_number text (span_start error))
+IsFaultOf text (faults.Misfit misfit) =
+    (misfit ≡ misfits.NoMemory) ⊎ ((members : Members) × (parse_document text ≡ Some members) × IsMisfitOf members misfit)

@@ -1,0 +1,62 @@
+//! What a configuration tells.
+use std::net::SocketAddr;
+
+/// The most lines of a configuration.
+pub const MOST_LINES: usize = 4000;
+
+/// The most octets of a line's name.
+pub const MOST_NAME_OCTETS: usize = 64;
+
+/// The most redundancy.
+pub const MOST_REDUNDANCY: u16 = 8;
+
+/// The least and the most that the packet behind a preamble waits, in milliseconds.
+pub const LEAST_PREAMBLE_MS: u16 = 40;
+
+pub const MOST_PREAMBLE_MS: u16 = 2000;
+
+/// The longest stop, in seconds: a day.
+pub const MOST_STOP_SECONDS: u32 = 86_400;
+
+/// Which datagrams are sent again.
+#[derive(Clone, Copy, PartialEq, Eq, Debug)]
+pub enum Repeat {
+    /// Each once again, and the last one of a leg five times behind that.
+    Full,
+    /// The last one of a leg, once.
+    Last,
+    /// None.
+    None,
+}
+
+/// A leg: where its datagrams come to, and where its peer is, if that is known.
+#[derive(Clone, Copy, PartialEq, Eq, Debug)]
+pub struct LegConfig {
+    pub local: SocketAddr,
+    pub peer: Option<SocketAddr>,
+}
+
+/// A line.
+#[derive(Debug, Drop)]
+pub struct LineConfig {
+    pub name: String,
+    pub calling: LegConfig,
+    pub called: LegConfig,
+    /// How many earlier packets a datagram repeats, 0 to 8.
+    pub redundancy: u16,
+    /// How long the packet behind a preamble waits, 40 to 2,000 milliseconds.
+    pub preamble_ms: u16,
+    pub repeat: Repeat,
+}
+
+/// A configuration.
+#[derive(Debug, Drop)]
+pub struct Config {
+    /// The path of the control socket.
+    pub control: Option<String>,
+    /// The folder of the pages that wait.
+    pub spool: Option<String>,
+    /// How long a stop waits for calls and jobs, in seconds.
+    pub stop_seconds: u32,
+    pub lines: Vec<LineConfig>,
+}

@@ -1,0 +1,170 @@
+//! What is wrong with a configuration.
+use fax_control::Leg;
+use std::alloc::{AllocError, AllocFailed};
+use std::fmt;
+
+/// What is wrong with the value at a key.
+#[derive(Clone, Copy, PartialEq, Eq, Debug)]
+pub enum Trouble {
+    Absent,
+    NotText,
+    NotNumber,
+    NotTable,
+    NotTables,
+    NotAddress,
+    NotRepeat,
+    NotName,
+    /// The least and the most that it may be.
+    OutOfRange(u32, u32),
+}
+
+/// What is wrong with a table.
+#[derive(Debug, Drop)]
+pub enum Flaw {
+    /// It has a key that means nothing there.
+    Unknown(String),
+    /// The value at a key.
+    At(&'static str, Trouble),
+    NoMemory,
+}
+
+/// Which line of the configuration.
+#[derive(Debug, Drop)]
+pub enum LineName {
+    Named(String),
+    /// It has no name that can be read: so many lines stand before it.
+    Behind(usize),
+}
+
+/// Why a text tells no configuration.
+#[derive(Debug, Drop)]
+pub enum ConfigFault {
+    /// It is no TOML, at this line of it.
+    NotToml(usize, toml::de::Error),
+    /// It is TOML, and something in it is wrong.
+    Misfit(Misfit),
+}
+
+/// What is wrong with a TOML document.
+#[derive(Debug, Drop)]
+pub enum Misfit {
+    /// What does not lie in a line's table.
+    Top(Flaw),
+    /// What lies in a line's table.
+    Line(LineName, Flaw),
+    /// What lies in the table of a line's leg.
+    Leg(LineName, Leg, Flaw),
+    /// Two lines have this name.
+    DoubledName(String),
+    /// The local address of this line's leg is one of an earlier leg too.
+    DoubledAddress(LineName, Leg),
+    /// There are more than 4,000 lines.
+    TooManyLines,
+    NoMemory,
+}
+
+impl fmt::Display for Trouble {
+    fn fmt<W: fmt::Write>(&self, f: &mut fmt::Formatter<W>) -> fmt::Result {
+        match self {
+            Trouble::Absent => write!(f, "is absent"),
+            Trouble::NotText => write!(f, "is no text"),
+            Trouble::NotNumber => write!(f, "is no number"),
+            Trouble::NotTable => write!(f, "is no table"),
+            Trouble::NotTables => write!(f, "is no list of tables"),
+            Trouble::NotAddress => write!(f, "is no address with a port"),
+            Trouble::NotRepeat => write!(f, "is none of full, last and none"),
+            Trouble::NotName => write!(f, "is no name of 1 to 64 octets without a space"),
+            Trouble::OutOfRange(least, most) => write!(f, "is not from {least} to {most}"),
+        }
+    }
+}
+
+impl fmt::Display for Flaw {
+    fn fmt<W: fmt::Write>(&self, f: &mut fmt::Formatter<W>) -> fmt::Result {
+        match self {
+            Flaw::Unknown(key) => write!(f, "the key {key:?} is not known"),
+            Flaw::At(key, trouble) => write!(f, "{key} {trouble}"),
+            Flaw::NoMemory => write!(f, "memory was refused"),
+        }
+    }
+}
+
+impl fmt::Display for LineName {
+    fn fmt<W: fmt::Write>(&self, f: &mut fmt::Formatter<W>) -> fmt::Result {
+        match self {
+            LineName::Named(name) => write!(f, "line {name:?}"),
+            LineName::Behind(0) => write!(f, "the first line"),
+            LineName::Behind(count) => write!(f, "the line behind {count} others"),
+        }
+    }
+}
+
+/// Prints one line, without a line feed.
+impl fmt::Display for ConfigFault {
+    fn fmt<W: fmt::Write>(&self, f: &mut fmt::Formatter<W>) -> fmt::Result {
+        match self {
+            ConfigFault::NotToml(line, error) => {
+                let message = error.message();
+                write!(f, "line {line} of the text is no TOML: {message}")
+            }
+            ConfigFault::Misfit(misfit) => write!(f, "{misfit}"),
+        }
+    }
+}
+
+/// Prints one line, without a line feed.
+impl fmt::Display for Misfit {
+    fn fmt<W: fmt::Write>(&self, f: &mut fmt::Formatter<W>) -> fmt::Result {
+        match self {
+            Misfit::Top(flaw) => write!(f, "{flaw}"),
+            Misfit::Line(name, flaw) => write!(f, "{name}: {flaw}"),
+            Misfit::Leg(name, leg, flaw) => {
+                let leg = leg.name();
+                write!(f, "{name}: {leg}: {flaw}")
+            }
+            Misfit::DoubledName(name) => write!(
+                f,
+                "line {name:?}: name is that of an earlier line"
+            ),
+            Misfit::DoubledAddress(name, leg) => {
+                let leg = leg.name();
+                write!(f, "{name}: {leg}: local is that of an earlier leg")
+            }
+            Misfit::TooManyLines => write!(f, "lines has more than 4000"),
+            Misfit::NoMemory => write!(f, "memory was refused"),
+        }
+    }
+}
+
+impl From<AllocError> for Flaw {
+    ghost use Rattle.std.specs.Prelude.{◌≡◌};
+    ghost use Rattle.fax_config.specs.declared.fault.Flaw.TheVariants as flaws;
+
+    ghost from_gives = { λ _ e. e ≡ flaws.NoMemory };
+
+    fn from(_: AllocError) -> Self {
+        Flaw::NoMemory
+    }
+}
+
+impl From<AllocError> for Misfit {
+    ghost use Rattle.std.specs.Prelude.{◌≡◌};
+    ghost use Rattle.fax_config.specs.declared.fault.Misfit.TheVariants as faults;
+
+    ghost from_gives = { λ _ e. e ≡ faults.NoMemory };
+
+    fn from(_: AllocError) -> Self {
+        Misfit::NoMemory
+    }
+}
+
+impl<T: Drop> From<AllocFailed<T>> for Misfit {
+    ghost use Rattle.std.specs.Prelude.{◌≡◌};
+    ghost use Rattle.fax_config.specs.declared.fault.Misfit.TheVariants as faults;
+
+    ghost from_gives = { λ _ e. e ≡ faults.NoMemory };
+
+    fn from(_: AllocFailed<T>) -> Self {
+        Misfit::NoMemory
+    }
+}

@@ -1,0 +1,13 @@
+//! The configuration of a gateway: what a TOML text tells, read whole before anything is opened.
+#![tactic(auto)]
+
+mod config;
+mod fault;
+mod keys;
+mod member;
+mod reading;
+mod unlike;
+
+pub use config::{Config, LegConfig, LineConfig, Repeat};
+pub use fault::{ConfigFault, Flaw, LineName, Misfit, Trouble};
+pub use reading::read_config;
