@@ -2,7 +2,7 @@
 RT ?= rt
 PROGRAM = crates/faxgate/out/faxgate
 
-.PHONY: all test wrong-bodies format memory bench interop tables
+.PHONY: all test wrong-bodies format memory bench interop tables check-docs
 
 # Proves and builds the program, and says where it lies.
 all:
@@ -49,6 +49,10 @@ memory: all
 # Python 3 and no `rt`.
 tables:
 	tools/code-tables check
+
+# Checks that what the documents name is there: links, files, functions, clauses, laws. It wants Python 3 and no `rt`.
+check-docs:
+	tools/check-docs
 
 # Times the codec beside libtiff and spandsp: see bench/README.md. It wants a C compiler and both libraries.
 KIT_C = $(dir $(shell $(RT) doc))c
