@@ -161,7 +161,7 @@ impl Leg {
         Leg {
             alloc,
             receiver: Receiver::new(),
-            answerer: Answerer::new(alloc),
+            answerer: Answerer::new(alloc, 40),
             name: "a call",
             reserves: false,
             rung: 0,

@@ -19,7 +19,11 @@ fn run_over<R: Net>(net: &R, alloc: Global, input: &[u8], redundancy: u8) -> (u8
     let mut text = Vec::new(alloc);
     let mut source = StdSource::new(input);
     let mut sink = StdSink::new(&mut text);
-    let status = run_loop(net, alloc, &mut source, &mut sink, Settings { redundancy });
+    let settings = Settings {
+        redundancy,
+        preamble_ms: 40,
+    };
+    let status = run_loop(net, alloc, &mut source, &mut sink, settings);
     (status, text)
 }
 

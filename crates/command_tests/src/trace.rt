@@ -2,6 +2,7 @@
 ghost use Rattle.std.specs.Prelude.{◌≤◌};
 
 mod formats;
+mod pauses;
 
 use fax_command::{StdSink, StdSource};
 use fax_gateway::Settings;
@@ -458,7 +459,27 @@ fn run_with(alloc: Global, script: &[u8], redundancy: u8) -> (u8, Vec<u8>)
     let mut text = Vec::new(alloc);
     let mut source = StdSource::new(script);
     let mut sink = StdSink::new(&mut text);
-    let status = run_trace(alloc, &mut source, &mut sink, Settings { redundancy });
+    let settings = Settings {
+        redundancy,
+        preamble_ms: 40,
+    };
+    let status = run_trace(alloc, &mut source, &mut sink, settings);
+    (status, text)
+}
+
+/// The same of the usual redundancy, and of this pause behind a preamble.
+fn run_paused(alloc: Global, script: &[u8], preamble_ms: u16) -> (u8, Vec<u8>)
+    requires least { 40 ≤ preamble_ms }
+    requires most { preamble_ms ≤ 2000 }
+{
+    let mut text = Vec::new(alloc);
+    let mut source = StdSource::new(script);
+    let mut sink = StdSink::new(&mut text);
+    let settings = Settings {
+        redundancy: 3,
+        preamble_ms,
+    };
+    let status = run_trace(alloc, &mut source, &mut sink, settings);
     (status, text)
 }
 

@@ -121,7 +121,7 @@ tick_gives : (a : Answering) (now : ℕ) (given : List PageValue) → Account a 
 tick_gives a now given i =
     let b : Answering = timed a now in
     let e : Even b given = timed_even a now given (record { same = i.same; few = i.few }) in
-    let f : Even (ticked a now).core (confirmed_in_tick ((ticked a now).given) given) = paced_even (pace_allows b.last now) b (given_first b now b.waiting) given e (first_even b now b.waiting given refl e) in
+    let f : Even (ticked a now).core (confirmed_in_tick ((ticked a now).given) given) = paced_even (pace_allows b.pace.last now) b (given_first b now b.waiting) given e (first_even b now b.waiting given refl e) in
     record { rests = ticked_rests a now i.rests; same = f.same; few = f.few }
 
 accounts : (a : Answering) (events : List CallEvent) → Account a [] → Account (after_events a events) (pages_confirmed a events)

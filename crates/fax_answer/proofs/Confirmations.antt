@@ -401,7 +401,7 @@ tick_if true a t i k = k
 tick_if false a t i k = record { core = i; same = refl; given = λ w h. cc }
 
 paced_keeps : (a : Answering) (now : ℕ) → InCall a → TickKeeps a.history (paced a now)
-paced_keeps a now i = tick_if (pace_allows a.last now) a (given_first a now a.waiting) i (first_keeps a now a.waiting i.rests i.knows i.backed i)
+paced_keeps a now i = tick_if (pace_allows a.pace.last now) a (given_first a now a.waiting) i (first_keeps a now a.waiting i.rests i.knows i.backed i)
 
 -- timers leave the history
 same_if : (b : Bool) (h : List Entry) (x y : Answering) → x.history ≡ h → y.history ≡ h → (if b then x else y).history ≡ h
@@ -425,7 +425,7 @@ ticked_keeps : (a : Answering) (now : ℕ) → InCall a → TickKeeps a.history 
 ticked_keeps a now i = subst (λ (h : List Entry). TickKeeps h (ticked a now)) (timed_history a now) (paced_keeps (timed a now) now (timed_keeps a now i))
 
 pub ticked_history : (a : Answering) (now : ℕ) → (ticked a now).core.history ≡ a.history
-ticked_history a now = by (timed a now) (timed_history a now) (pace_allows (timed a now).last now)
+ticked_history a now = by (timed a now) (timed_history a now) (pace_allows (timed a now).pace.last now)
   where
     first : (b : Answering) (ws : List Waiting) → (given_first b now ws).core.history ≡ b.history
     first b [] = refl

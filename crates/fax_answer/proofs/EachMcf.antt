@@ -245,7 +245,7 @@ ticked_ok a now h =
     let n : AllOk a.history b.waiting = either a.history (is_waiting a.waiting) a (timed_in a.state a now) h (timed_in_ok a.history a.state a now h) in
     let m : AllOk b.history b.waiting = subst (λ (x : List Entry). AllOk x b.waiting) (sym (timed_history a now)) n in
     subst (λ (x : List Entry). TickOk x (ticked a now)) (timed_history a now)
-    (tick_if (pace_allows b.last now) b (given_first b now b.waiting) m (first_ok b now b.waiting m m))
+    (tick_if (pace_allows b.pace.last now) b (given_first b now b.waiting) m (first_ok b now b.waiting m m))
 
 -- a call
 rung_all_ok : (a : Answering) (now : ℕ) → AllOk (rung a now).history (rung a now).waiting

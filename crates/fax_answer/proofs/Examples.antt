@@ -17,7 +17,7 @@ page = record { format = record { width = W1728; fine = false }; rows = [] }
 
 -- what a tick gives in a call that was rung at 0
 given_at : ℕ → List CallEvent → Option Waiting
-given_at now events = (ticked (after_events (rung new_answering 0) events) now).given
+given_at now events = (ticked (after_events (rung (new_answering 40) 0) events) now).given
 
 packet_of : Option Waiting → Option (List ℕ)
 packet_of None = None

@@ -2,7 +2,7 @@
 use Rattle.std.proofs.Common.{◌≡◌, ◌⊎◌, inl, inr, ℕ, Bool, true, false, ◌&&◌, List, [], ◌∷◌, ◌++◌, Option, Some, None, refl, sym, ◌∙◌, ap, subst, if◌then◌else◌}
 use Rattle.std.proofs.lemmas.List.{append-nil}
 use Rattle.fax_ifp.specs.Pieces.{Piece}
-use Rattle.fax_timers.specs.Paces.{pace_allows}
+use Rattle.fax_timers.specs.Paces.{PaceValue, pace_behind, pace_allows}
 use Rattle.fax_answer.specs.declared.timers.Timers.{Timers}
 use Rattle.fax_answer.specs.declared.state.State.{State}
 use Rattle.fax_answer.specs.declared.state.State.TheVariants.{Idle, Identify, Listen, Train, Page, Again, Closing}
@@ -13,7 +13,7 @@ use Rattle.fax_answer.specs.declared.pending.Reply.TheVariants.{Dis}
 use Rattle.fax_answer.specs.declared.procedure.Procedure.{Procedure}
 use Rattle.fax_answer.specs.History.{Decision, PassesOver, Trains, HangsUp, GivesCfr, GivesFtt, GivesMcf, GivesRtn}
 use Rattle.fax_answer.specs.Table.{state_after}
-use Rattle.fax_answer.specs.Replies.{ConfirmedPage, Waiting, confirmed_if, reply_to, silent, called_tone, preamble, is_waiting}
+use Rattle.fax_answer.specs.Replies.{ConfirmedPage, Waiting, confirmed_if, reply_to, silent, called_tone, preamble, is_preamble, is_waiting}
 use Rattle.fax_answer.specs.Calls.{Answering, Ticked, decided, timers_after, given_first, timed, timed_in, ticked, says_goodbye, identifies_again, identifies_anew, state_when_given, timers_when_given, is_closing}
 use Rattle.fax_answer.specs.Kept.{counts_of}
 use Rattle.fax_answer.specs.Pending.{packet_text, waiting_of, framed}
@@ -48,7 +48,7 @@ noted_free core confirmed old new piece d now f can nothing state counts timers 
       waiting = ap (λ (c : Option ConfirmedPage). waiting_of new.pending (confirmed_behind d c)) none ∙ reply ∙ sym (ap (λ (ws : List Waiting). ws ++ reply_to d) empty);
       quiet = λ n. quiet_behind d confirmed new.pending none reply n;
       timers = timers;
-      last = pace ∙ f.last;
+      pace = pace ∙ f.pace;
       rests = can.rests;
     }
 
@@ -85,7 +85,7 @@ noted_waiting core confirmed old new piece d now f can some state counts timers 
       waiting = ap (λ (c : Option ConfirmedPage). waiting_of new.pending c) same ∙ ap (λ (p : Pending). waiting_of p confirmed) pending ∙ f.waiting ∙ sym (ap (λ (r : List Waiting). core.waiting ++ r) silent ∙ append-nil core.waiting);
       quiet = λ n. absurd (some (sym pending ∙ n));
       timers = timers;
-      last = pace ∙ f.last;
+      pace = pace ∙ f.pace;
       rests = can.rests;
     }
 
@@ -152,11 +152,11 @@ fewer Closing w v ws r = tt
 -- a packet behind which another waits
 given_more : (core : Answering) (confirmed : Option ConfirmedPage) (old : Procedure) (now : ℕ) (next : Pending) (w v : Waiting) (ws : List Waiting) → Follows core confirmed old
     → waiting_of old.pending confirmed ≡ w ∷ v ∷ ws → waiting_of next confirmed ≡ v ∷ ws → (next ≡ Nothing → ⊥)
-    → let new : Procedure = record { state = old.state; counts = old.counts; pending = next; timers = old.timers; pace = Some now } in
+    → let new : Procedure = record { state = old.state; counts = old.counts; pending = next; timers = old.timers; pace = pace_behind (is_preamble w.packet) old.pace now } in
     let t : Ticked = given_first core now core.waiting in
     Follows t.core confirmed new × (t.given ≡ Some w) × (t.ended ≡ false)
 given_more core confirmed old now next w v ws f here behind some =
-    let new : Procedure = record { state = old.state; counts = old.counts; pending = next; timers = old.timers; pace = Some now } in
+    let new : Procedure = record { state = old.state; counts = old.counts; pending = next; timers = old.timers; pace = pace_behind (is_preamble w.packet) old.pace now } in
     let is : core.waiting ≡ w ∷ v ∷ ws = sym f.waiting ∙ here in
     let e : given_first core now core.waiting ≡ given_first core now (w ∷ v ∷ ws) = ap (given_first core now) is in
     let g : Follows (given_first core now (w ∷ v ∷ ws)).core confirmed new = record {
@@ -165,13 +165,13 @@ given_more core confirmed old now next w v ws f here behind some =
       waiting = behind;
       quiet = λ n. absurd (some n);
       timers = f.timers;
-      last = refl;
+      pace = ap (λ (p : PaceValue). pace_behind (is_preamble w.packet) p now) f.pace;
       rests = fewer core.state w v ws (subst (Rests core.state) is f.rests);
     } in
     (subst (λ (t : Ticked). Follows t.core confirmed new) (sym e) g, ap (λ (t : Ticked). t.given) e, ap (λ (t : Ticked). t.ended) e)
 
 pub gives_tone : (core : Answering) (confirmed : Option ConfirmedPage) (old : Procedure) (now : ℕ) → Follows core confirmed old → old.pending ≡ Tone
-    → GivesNext core confirmed now old (record { state = old.state; counts = old.counts; pending = Preamble Dis; timers = old.timers; pace = Some now }) false
+    → GivesNext core confirmed now old (record { state = old.state; counts = old.counts; pending = Preamble Dis; timers = old.timers; pace = pace_behind false old.pace now }) false
 gives_tone core confirmed old now f e =
     let g = given_more core confirmed old now (Preamble Dis) (silent called_tone) (silent preamble) (framed Dis confirmed) f (ap (λ (p : Pending). waiting_of p confirmed) e) refl (λ n. cc) in
     record {
@@ -181,7 +181,7 @@ gives_tone core confirmed old now f e =
     }
 
 pub gives_preamble : (core : Answering) (confirmed : Option ConfirmedPage) (old : Procedure) (now : ℕ) (reply : Reply) → Follows core confirmed old → old.pending ≡ Preamble reply
-    → GivesNext core confirmed now old (record { state = old.state; counts = old.counts; pending = Frame reply; timers = old.timers; pace = Some now }) false
+    → GivesNext core confirmed now old (record { state = old.state; counts = old.counts; pending = Frame reply; timers = old.timers; pace = pace_behind true old.pace now }) false
 gives_preamble core confirmed old now reply f e =
     let g = given_more core confirmed old now (Frame reply) (silent preamble) (record { packet = packet_text (Frame reply); confirmed = confirmed }) [] f (ap (λ (p : Pending). waiting_of p confirmed) e) refl (λ n. cc) in
     record {
@@ -200,7 +200,7 @@ given_rests Again = tt
 given_rests Closing = refl
 
 pub gives_frame : (core : Answering) (confirmed : Option ConfirmedPage) (old new : Procedure) (now : ℕ) (reply : Reply) (ended : Bool) → Follows core confirmed old → old.pending ≡ Frame reply
-    → new.state ≡ state_when_given old.state → new.counts ≡ old.counts → new.pending ≡ Nothing → new.pace ≡ Some now
+    → new.state ≡ state_when_given old.state → new.counts ≡ old.counts → new.pending ≡ Nothing → new.pace ≡ pace_behind false old.pace now
     → new.timers ≡ timers_when_given old.state old.timers now → ended ≡ is_closing old.state
     → GivesNext core confirmed now old new ended
 gives_frame core confirmed old new now reply ended f e state counts pending pace timers ends =
@@ -213,7 +213,7 @@ gives_frame core confirmed old new now reply ended f e state counts pending pace
       waiting = ap (λ (p : Pending). waiting_of p None) pending;
       quiet = λ n. refl;
       timers = timers ∙ ap (λ (s : State). timers_when_given s old.timers now) f.state ∙ ap (λ (x : Timers). timers_when_given core.state x now) f.timers;
-      last = pace;
+      pace = pace ∙ ap (λ (p : PaceValue). pace_behind false p now) f.pace;
       rests = given_rests core.state;
     } in
     let left : confirmed_left new.pending confirmed ≡ None = ap (λ (p : Pending). confirmed_left p confirmed) pending in
@@ -236,7 +236,7 @@ rests_or_gives a now (w ∷ ws) true e h = cc
 rests_or_gives a now (w ∷ ws) false e h = refl
 
 pub ticked_rests : (core : Answering) (now : ℕ) → gives_now (timed core now) now ≡ false → ticked core now ≡ rest (timed core now)
-ticked_rests core now h = let a : Answering = timed core now in rests_or_gives a now a.waiting (pace_allows a.last now) refl h
+ticked_rests core now h = let a : Answering = timed core now in rests_or_gives a now a.waiting (pace_allows a.pace.last now) refl h
 
 gives_both : (a : Answering) (now : ℕ) (x b : Bool) (t : Ticked) → (x && b) ≡ true → if◌then◌else◌ {A = Ticked} b t (rest a) ≡ t
 gives_both a now true true t h = refl
@@ -244,7 +244,7 @@ gives_both a now true false t h = cc
 gives_both a now false b t h = cc
 
 pub ticked_gives : (core : Answering) (now : ℕ) → gives_now (timed core now) now ≡ true → ticked core now ≡ given_first (timed core now) now (timed core now).waiting
-ticked_gives core now h = let a : Answering = timed core now in gives_both a now (is_waiting a.waiting) (pace_allows a.last now) (given_first a now a.waiting) h
+ticked_gives core now h = let a : Answering = timed core now in gives_both a now (is_waiting a.waiting) (pace_allows a.pace.last now) (given_first a now a.waiting) h
 
 -- timers leave the history
 same_if : (b : Bool) (x y a : Answering) → x.history ≡ a.history → y.history ≡ a.history → (if b then x else y).history ≡ a.history

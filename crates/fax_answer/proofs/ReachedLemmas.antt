@@ -86,7 +86,7 @@ given_page a now (w ∷ []) dcs e = state_given a.state dcs e
 given_page a now (w ∷ v ∷ ws) dcs e = e
 
 pub ticked_page : (a : Answering) (now : ℕ) (dcs : Dcs) → (ticked a now).core.state ≡ Page dcs → a.state ≡ Page dcs
-ticked_page a now dcs e = timed_page a now dcs (by (pace_allows (timed a now).last now) (timed a now) e)
+ticked_page a now dcs e = timed_page a now dcs (by (pace_allows (timed a now).pace.last now) (timed a now) e)
   where
     by : (b : Bool) (x : Answering) → (if◌then◌else◌ {A = Ticked} b (given_first x now x.waiting) (record { core = x; given = None; ended = false })).core.state ≡ Page dcs → x.state ≡ Page dcs
     by true x e = given_page x now x.waiting dcs e
@@ -160,7 +160,7 @@ pub given_gives : (core : Answering) (now : ℕ) → gives_now (timed core now) 
 given_gives core now gives =
     let a : Answering = timed core now in
     subst (λ (t : Ticked). IsSome t.given) (sym (ticked_gives core now gives))
-    (given_first_gives a now a.waiting (both_first (is_waiting a.waiting) (pace_allows a.last now) gives))
+    (given_first_gives a now a.waiting (both_first (is_waiting a.waiting) (pace_allows a.pace.last now) gives))
 
 -- the page that is given with the last packet of a reply
 pub left_if : {S : Type 0} → (p : Pending) (is_given : Bool) (old new : Option S) (view : Option S → Option ConfirmedPage) → view None ≡ None → (is_given ≡ true → p ≡ Nothing) → (is_given ≡ false → p ≡ Nothing → ⊥)

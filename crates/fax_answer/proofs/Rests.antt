@@ -159,4 +159,4 @@ pub ticked_rests : (a : Answering) (now : ℕ) → Rests a.state a.waiting → R
 ticked_rests a now r =
     let b : Answering = timed a now in
     let n : Rests b.state b.waiting = rests_if (is_waiting a.waiting) a (timed_in a.state a now) r (timed_in_rests a.state a now refl r) in
-    paced_rests (pace_allows b.last now) b (given_first b now b.waiting) n (first_rests b now b.waiting n n)
+    paced_rests (pace_allows b.pace.last now) b (given_first b now b.waiting) n (first_rests b now b.waiting n n)

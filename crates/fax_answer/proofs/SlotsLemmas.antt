@@ -86,7 +86,7 @@ gap_again core now c p f =
       waiting = f.waiting ∙ sym same;
       quiet = f.quiet;
       timers = f.timers ∙ sym (no_timers_moved once now);
-      last = f.last;
+      pace = f.pace;
       rests = subst (Rests once.state) (sym same) f.rests;
     }
 

@@ -5,7 +5,7 @@ use Rattle.fax_frames.specs.declared.writing.Plain.TheVariants.{Dcn}
 use Rattle.fax_frames.specs.Capabilities.{our_dis}
 use Rattle.fax_frames.specs.Written.{written_dis}
 use Rattle.fax_timers.specs.Moments.{moment_after, is_due}
-use Rattle.fax_timers.specs.Paces.{pace_allows}
+use Rattle.fax_timers.specs.Paces.{PaceValue, new_pace, pace_allows, pace_behind}
 use Rattle.fax_timers.specs.Spans as spans
 use Rattle.fax_ifp.specs.Pieces as pieces
 use Rattle.fax_answer.specs.declared.state.State.{State}
@@ -13,7 +13,7 @@ use Rattle.fax_answer.specs.declared.timers.Timers.{Timers}
 use Rattle.fax_answer.specs.declared.state.State.TheVariants.{Idle, Identify, Listen, Train, Page, Again, Closing}
 use Rattle.fax_answer.specs.History.{Decision, PassesOver, Trains, HangsUp, GivesCfr, GivesFtt, GivesMcf, GivesRtn, Entry}
 use Rattle.fax_answer.specs.Table.{Reading, Question, decision, asked_of, state_after}
-use Rattle.fax_answer.specs.Replies.{Waiting, silent, called_tone, frame_reply, plain_reply, reply_to, is_waiting}
+use Rattle.fax_answer.specs.Replies.{Waiting, silent, called_tone, is_preamble, frame_reply, plain_reply, reply_to, is_waiting}
 
 -- our own DIS (this project's profile: all that we read)
 abbrev pub dis_reply : List Waiting
@@ -23,16 +23,17 @@ abbrev pub no_timers : Timers
 no_timers = record { t1 = None; t2 = None; t4 = None }
 
 -- the answering side: its state, the history of the call, the packets that wait, the first of them first, its timers,
--- and the moment of the last packet given on its leg
+-- and the pace of its leg
 pub record Answering : Type 0 where
   pub state : State
   pub history : List Entry
   pub waiting : List Waiting
   pub timers : Timers
-  pub last : Option ℕ
+  pub pace : PaceValue
 
-abbrev pub new_answering : Answering
-new_answering = record { state = Idle; history = []; waiting = []; timers = no_timers; last = None }
+-- no call was on the leg, and this pause is set
+abbrev pub new_answering : ℕ → Answering
+new_answering pause = record { state = Idle; history = []; waiting = []; timers = no_timers; pace = new_pace pause }
 
 -- IDLE, a ring: CED and DIS; T1 is set
 abbrev pub rung : Answering → ℕ → Answering
@@ -42,7 +43,7 @@ rung a now =
       history = [];
       waiting = silent called_tone ∷ dis_reply;
       timers = record { t1 = Some (moment_after now spans.t1); t2 = None; t4 = None };
-      last = a.last;
+      pace = a.pace;
     }
 
 -- LISTEN, TRAIN, PAGE, AGAIN: T2 is set anew by each frame, each signal that begins and each octet of one, while no packet
@@ -76,7 +77,7 @@ decided a piece d now =
       history = record { piece = piece; decision = d } ∷ a.history;
       waiting = a.waiting ++ reply_to d;
       timers = timers_after a piece d now;
-      last = a.last;
+      pace = a.pace;
     }
 
 -- a piece comes, with the reading of what it asks
@@ -158,21 +159,27 @@ given_first a now (w ∷ []) =
         history = a.history;
         waiting = [];
         timers = timers_when_given a.state a.timers now;
-        last = Some now;
+        pace = pace_behind (is_preamble w.packet) a.pace now;
       };
       given = Some w;
       ended = is_closing a.state;
     }
 given_first a now (w ∷ v ∷ waiting) =
     record {
-      core = record { state = a.state; history = a.history; waiting = v ∷ waiting; timers = a.timers; last = Some now };
+      core = record {
+        state = a.state;
+        history = a.history;
+        waiting = v ∷ waiting;
+        timers = a.timers;
+        pace = pace_behind (is_preamble w.packet) a.pace now;
+      };
       given = Some w;
       ended = false;
     }
 
 -- and where the pace allows
 abbrev pub paced : Answering → ℕ → Ticked
-paced a now = if pace_allows a.last now then given_first a now a.waiting else record { core = a; given = None; ended = false }
+paced a now = if pace_allows a.pace.last now then given_first a now a.waiting else record { core = a; given = None; ended = false }
 
 abbrev pub ticked : Answering → ℕ → Ticked
 ticked a now = paced (timed a now) now

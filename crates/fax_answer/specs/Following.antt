@@ -28,7 +28,7 @@ pub record Follows (core : Answering) (confirmed : Option ConfirmedPage) (proced
   pub waiting : waiting_of procedure.pending confirmed ≡ core.waiting
   pub quiet : procedure.pending ≡ Nothing → confirmed ≡ None
   pub timers : procedure.timers ≡ core.timers
-  pub last : procedure.pace ≡ core.last
+  pub pace : procedure.pace ≡ core.pace
   pub rests : Rests core.state core.waiting
 
 -- whether the call is given up: T1 is due in Identify, or T2 in Listen, Train or Page
@@ -51,7 +51,7 @@ begins_again state timers now = false
 
 -- whether a packet is given now: one waits, and the pace lets it through
 abbrev pub gives_now : Answering → ℕ → Bool
-gives_now core now = is_waiting core.waiting && pace_allows core.last now
+gives_now core now = is_waiting core.waiting && pace_allows core.pace.last now
 
 -- how many readers are wanted on: that of the image under way, and that of the one before
 abbrev pub readers_wanted : State → List Entry → ℕ

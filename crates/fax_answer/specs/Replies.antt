@@ -1,5 +1,6 @@
 -- The packets of a reply (ITU-T T.30, 5.3 and 5.2, as packets of T.38; our DIS is this project's profile).
-use Rattle.std.specs.Prelude.{ℕ, Bool, true, false, List, [], ◌∷◌, Option, Some, None}
+use Rattle.std.specs.Prelude.{ℕ, nat_eq, Bool, true, false, List, [], ◌∷◌, Option, Some, None}
+use Rattle.std.specs.Cmp.Lexicographic.{pointwise}
 use Rattle.fax_frames.specs.declared.writing.Plain.{Plain}
 use Rattle.fax_frames.specs.declared.writing.Plain.TheVariants.{Cfr, Ftt, Mcf, Rtn}
 use Rattle.fax_frames.specs.Written.{written_plain}
@@ -36,6 +37,10 @@ called_tone = written_indicator (indicator_code Ced)
 
 abbrev pub preamble : List ℕ
 preamble = written_indicator (indicator_code V21Preamble)
+
+-- whether a packet is the preamble
+abbrev pub is_preamble : List ℕ → Bool
+is_preamble packet = pointwise nat_eq packet preamble
 
 -- a frame as a packet of V.21 data
 abbrev pub frame_packet : List ℕ → List ℕ

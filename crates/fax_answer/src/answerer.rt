@@ -40,14 +40,15 @@ impl<S: RowStore> Model for Answerer<S> {
 }
 
 impl<S: RowStore> Answerer<S> {
-    /// An answering side on whose leg no call was. It takes no memory.
-    pub fn new(alloc: Global) -> Self
-        ensures { IsReached [] new_answering result }
+    /// An answering side on whose leg no call was. The packet behind a preamble is given so many milliseconds later, at most
+    /// 2,000. It takes no memory.
+    pub fn new(alloc: Global, preamble_ms: u16) -> Self
+        ensures { IsReached [] (new_answering preamble_ms) result }
     {
         Answerer {
             alloc,
             signals: Signals::new(alloc),
-            procedure: Procedure::new(),
+            procedure: Procedure::new(preamble_ms),
             image: Image::new(alloc),
             confirmed: None,
             room: Room::none(),

@@ -1,6 +1,7 @@
 //! The packets that wait.
 ghost use Rattle.std.specs.Prelude.{◌≡◌, ◌≢◌, ◌≤◌, [], length, vec_capacity};
 ghost use Rattle.fax_answer.specs.Pending.{frame_text, packet_text};
+ghost use Rattle.fax_answer.specs.Replies.{is_preamble};
 
 use fax_bits::Octets;
 use fax_frames::{FrameBytes, OUR_DIS, Plain, write_dis, write_plain};
@@ -43,6 +44,13 @@ pub(crate) enum Pending {
 }
 
 impl Pending {
+    /// Whether the packet that is given next is the preamble of a frame.
+    pub fn is_preamble(self) -> bool
+        ensures { result ≡ is_preamble (packet_text self) }
+    {
+        matches!(self, Pending::Preamble(_))
+    }
+
     /// The packet that is given next, put into a list with room for any. It takes no memory.
     pub fn packet(self, mut octets: Vec<u8>) -> Octets
         requires some { self ≢ Pending.Nothing }

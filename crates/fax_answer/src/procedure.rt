@@ -31,16 +31,16 @@ pub(crate) struct Procedure {
 }
 
 impl Procedure {
-    /// No call is on, and none was.
-    pub fn new() -> Self
-        ensures { Follows new_answering None result }
+    /// No call is on, and none was. The packet behind a preamble waits so many milliseconds, at most 2,000.
+    pub fn new(preamble_ms: u16) -> Self
+        ensures { Follows (new_answering preamble_ms) None result }
     {
         Procedure {
             state: State::Idle,
             counts: Counts::new(),
             pending: Pending::Nothing,
             timers: Timers::clear(),
-            pace: Pace::new(),
+            pace: Pace::new(preamble_ms),
         }
     }
 
@@ -195,7 +195,7 @@ impl Procedure {
         ensures { (core : Answering) (confirmed : Option ConfirmedPage) → Follows core confirmed self.old
             → GivesNext core confirmed now self.old self.new result }
     {
-        self.pace.given(now);
+        self.pace.given(self.pending.is_preamble(), now);
         match self.pending {
             Pending::Tone => self.pending = Pending::Preamble(Reply::Dis),
             Pending::Preamble(reply) => self.pending = Pending::Frame(reply),

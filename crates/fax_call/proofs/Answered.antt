@@ -13,8 +13,9 @@ use Rattle.fax_frames.specs.Rates.{kind_of, training_of}
 use Rattle.fax_frames.specs.Frames.{frame_of}
 use Rattle.fax_frames.specs.Written.{written_plain, written_dcs}
 use Rattle.fax_timers.specs.Moments.{moment_after, is_due}
-use Rattle.fax_timers.specs.Paces.{pace_allows}
-use Rattle.fax_timers.specs.Spans.{pace}
+use Rattle.fax_timers.specs.declared.pace.LastPacket.{LastPacket}
+use Rattle.fax_timers.specs.Paces.{pace_allows, pace_behind, packet_at}
+use Rattle.fax_timers.specs.Spans.{pace, longest_pause}
 use Rattle.fax_timers.specs.Spans as spans
 use Rattle.fax_ifp.specs.Elements as elements
 use Rattle.fax_ifp.specs.Pieces as pieces
@@ -23,7 +24,7 @@ use Rattle.fax_jobs.specs.declared.outcome.Outcome.TheVariants as outcomes
 use Rattle.fax_jobs.specs.Jobs.{JobValue}
 use Rattle.fax_call.specs.declared.state.State.{State}
 use Rattle.fax_call.specs.declared.state.State.TheVariants.{Idle, AwaitDis, AwaitCfr, AwaitMcf, Closing}
-use Rattle.fax_call.specs.Replies.{Packet, Signals, Tells, Part, Due, One, Text, waits, part_length, training_check, training, is_last_page, command, image, goodbye, turn_behind, command_by, command_behind}
+use Rattle.fax_call.specs.Replies.{Packet, Signals, Tells, Part, Due, One, Text, waits, signals_preamble, part_length, training_check, training, is_last_page, command, image, goodbye, turn_behind, command_by, command_behind}
 use Rattle.fax_call.specs.Table.{Counts, Move, Stays, Trains, Sends, AsksAgain, Closes, HangsUp, outcome_of, first_try, next_try, next_step, next_page, one_delivered, one_refused, by_choice, tries_again, asks_again, on_frame, on_timers, Turns, turns_or, gives_up_dis}
 use Rattle.fax_call.specs.Calls.{Calling, started, moved, heard, came, timed, text_at, Taken, taken_text, taken, state_when_given, outcome_when_given, t4_when_given, after_giving, given_first, paced, ticked, Ticked}
 use Rattle.fax_call.specs.Emission.{Emission, emitted_at, ended_frame, Mark, Gave, Acknowledged, Refused, Begins, gave_all, elements_given, acknowledged_by, marks_heard, marks_given, frame_at, is_command, is_preamble, Reply, Unasked, Asked, Answered, closed, reply_given, reply_or, reply_heard, replied}
@@ -410,13 +411,13 @@ comes_counted L a (pieces.Octets os) now marks s = runs L a marks s
 comes_counted L a (pieces.End w) now marks s = runs L a marks s
 comes_counted L a pieces.Gap now marks s = runs L a marks s
 
--- a tick: T4 was set when the last packet was given
-abbrev pub TimedOf : List Due → State → Option ℕ → Option ℕ → Type 0
-TimedOf [] (AwaitMcf dis dcs) t4 last = (given : ℕ) × (t4 ≡ Some (moment_after given spans.t4)) × (last ≡ Some given)
+-- a tick: T4 was set when the last packet was given, behind which the next one waits for no longer than the longest pause
+abbrev pub TimedOf : List Due → State → Option ℕ → Option LastPacket → Type 0
+TimedOf [] (AwaitMcf dis dcs) t4 last = (given : LastPacket) × (t4 ≡ Some (moment_after given.at spans.t4)) × (last ≡ Some given) × (given.span ≤ longest_pause)
 TimedOf due state t4 last = Unit {0}
 
 abbrev pub Timed : Calling → Type 0
-Timed a = TimedOf a.waiting a.state a.t4 a.last
+Timed a = TimedOf a.waiting a.state a.t4 a.pace.last
 
 -- the preamble closes the question
 preamble_given : (marks : List Mark) → replied marks ≡ Asked →
@@ -428,14 +429,14 @@ preamble_given marks e =
 -- T4 is due for a command, and the pace lets the preamble go at once
 pub record Expires (L : Type 0) (a : Calling) (now : ℕ) (marks : List Mark) : Type 0 where
   pub frame : List ℕ
-  pub paced : pace_allows a.last now ≡ true
+  pub paced : pace_allows a.pace.last now ≡ true
   pub first : a.waiting ≡ One (Signals 3) ∷ One (Tells frame) ∷ []
-  pub leaves : IsRunning L (record a { waiting = One (Tells frame) ∷ []; last = Some now }) (gave_all (elements_in (Signals 3)) marks)
+  pub leaves : IsRunning L (record a { waiting = One (Tells frame) ∷ []; pace = pace_behind true a.pace now }) (gave_all (elements_in (Signals 3)) marks)
 
 abbrev pub IsTimed : Type 0 → Calling → ℕ → List Mark → Type 0
 IsTimed L a now marks = IsRunning L a marks ⊎ Expires L a now marks
 
-asks_expired : (L : Type 0) (a : Calling) (now : ℕ) (marks : List Mark) (dis : Dis) (dcs : Dcs) (c : Counts) → a.state ≡ AwaitMcf dis dcs → pace_allows a.last now ≡ true → Open c.delivered marks →
+asks_expired : (L : Type 0) (a : Calling) (now : ℕ) (marks : List Mark) (dis : Dis) (dcs : Dcs) (c : Counts) → a.state ≡ AwaitMcf dis dcs → pace_allows a.pace.last now ≡ true → Open c.delivered marks →
     Expires L (moved a (AsksAgain c)) now marks
 asks_expired L a now marks dis dcs c e p o =
     let new : List Mark = gave_all (elements_in (Signals 3)) marks in
@@ -450,7 +451,7 @@ asks_expired L a now marks dis dcs c e p o =
       leaves = subst (λ (s : State). Running L s (One (Tells f) ∷ []) c.delivered new) (sym e) (inr (refl, (o.count ∙ sym g.1, asks, inr g.0)));
     }
 
-closes_expired : (L : Type 0) (a : Calling) (now : ℕ) (marks : List Mark) (c : Counts) → pace_allows a.last now ≡ true → Open c.delivered marks → Expires L (moved a (Closes outcomes.NoReply c)) now marks
+closes_expired : (L : Type 0) (a : Calling) (now : ℕ) (marks : List Mark) (c : Counts) → pace_allows a.pace.last now ≡ true → Open c.delivered marks → Expires L (moved a (Closes outcomes.NoReply c)) now marks
 closes_expired L a now marks c p o =
     let new : List Mark = gave_all (elements_in (Signals 3)) marks in
     let g = preamble_given marks o.asked in
@@ -470,14 +471,14 @@ closes_expired L a now marks c p o =
     count r k e h = let g : good_one r ≡ 0 = ap good_one e in omega arith
 
 -- the pace holds the packets back at the last moment alone
-late : (given now : ℕ) → is_due (Some (moment_after given spans.t4)) now ≡ true → pace_allows (Some given) now ≡ false → 2 ^ 64 ≤ now + pace
-late given now d p =
-    let due : min (given + spans.t4) (2 ^ 64 - 1) ≤ now = le_if (min (given + spans.t4) (2 ^ 64 - 1)) now d in
-    let held : now < given + pace = gt_if (given + pace) now p in
+late : (given : LastPacket) (now : ℕ) → given.span ≤ longest_pause → is_due (Some (moment_after given.at spans.t4)) now ≡ true → pace_allows (Some given) now ≡ false → 2 ^ 64 ≤ now + longest_pause
+late given now short d p =
+    let due : min (given.at + spans.t4) (2 ^ 64 - 1) ≤ now = le_if (min (given.at + spans.t4) (2 ^ 64 - 1)) now d in
+    let held : now < given.at + given.span = gt_if (given.at + given.span) now p in
     grind (arith)
 
-timer_counted : (L : Type 0) (a : Calling) (now : ℕ) (marks : List Mark) (state : State) → (2 ^ 64 ≤ now + pace → L) → a.state ≡ state → IsRunning L a marks →
-    Running L state [] a.counts.delivered marks → TimedOf [] state a.t4 a.last → IsTimed L (moved a (on_timers (is_due a.t1 now) (is_due a.t4 now) state a.counts)) now marks
+timer_counted : (L : Type 0) (a : Calling) (now : ℕ) (marks : List Mark) (state : State) → (2 ^ 64 ≤ now + longest_pause → L) → a.state ≡ state → IsRunning L a marks →
+    Running L state [] a.counts.delivered marks → TimedOf [] state a.t4 a.pace.last → IsTimed L (moved a (on_timers (is_due a.t1 now) (is_due a.t4 now) state a.counts)) now marks
 timer_counted L a now marks Idle f e t s h = absurd s
 timer_counted L a now marks (Closing x) f e t s h = inl t
 timer_counted L a now marks AwaitDis f e t s h =
@@ -489,34 +490,34 @@ timer_counted L a now marks (AwaitMcf dis dcs) f e t s h = by (is_due a.t4 now) 
     o : Open a.counts.delivered marks
     o = is_open L a.counts.delivered marks s
 
-    again : (w : Bool) → pace_allows a.last now ≡ w → is_due a.t4 now ≡ true → IsTimed L (moved a (AsksAgain (next_try a.counts))) now marks
+    again : (w : Bool) → pace_allows a.pace.last now ≡ w → is_due a.t4 now ≡ true → IsTimed L (moved a (AsksAgain (next_try a.counts))) now marks
     again true p d = inr (asks_expired L a now marks dis dcs (next_try a.counts) e p (record { count = o.count; asked = o.asked }))
     again false p d =
-        let l : L = f (late h.0 now (ap (λ (x : Option ℕ). is_due x now) (sym h.1) ∙ d) (ap (λ (x : Option ℕ). pace_allows x now) (sym h.2) ∙ p)) in
+        let l : L = f (late h.0 now h.3 (ap (λ (x : Option ℕ). is_due x now) (sym h.1) ∙ d) (ap (λ (x : Option LastPacket). pace_allows x now) (sym h.2) ∙ p)) in
         inl (subst (λ (x : State). Running L x (command (command_behind a.formats a.pages a.counts.page)) a.counts.delivered marks) (sym e)
         (inr (refl, (o.count, command_asks (is_last_page a.pages a.counts.page) (turn_behind a.formats a.counts.page) (elements_given marks), inl l))))
 
-    ends : (w : Bool) → pace_allows a.last now ≡ w → is_due a.t4 now ≡ true → IsTimed L (moved a (Closes outcomes.NoReply a.counts)) now marks
+    ends : (w : Bool) → pace_allows a.pace.last now ≡ w → is_due a.t4 now ≡ true → IsTimed L (moved a (Closes outcomes.NoReply a.counts)) now marks
     ends true p d = inr (closes_expired L a now marks a.counts p o)
     ends false p d =
-        let l : L = f (late h.0 now (ap (λ (x : Option ℕ). is_due x now) (sym h.1) ∙ d) (ap (λ (x : Option ℕ). pace_allows x now) (sym h.2) ∙ p)) in
+        let l : L = f (late h.0 now h.3 (ap (λ (x : Option ℕ). is_due x now) (sym h.1) ∙ d) (ap (λ (x : Option LastPacket). pace_allows x now) (sym h.2) ∙ p)) in
         inl (refl, goodbye_plan (elements_given marks), inr (l, refl, o.count))
 
     tried : (w : Bool) → is_due a.t4 now ≡ true → IsTimed L (moved a (if w then AsksAgain (next_try a.counts) else Closes outcomes.NoReply a.counts)) now marks
-    tried true d = again (pace_allows a.last now) refl d
-    tried false d = ends (pace_allows a.last now) refl d
+    tried true d = again (pace_allows a.pace.last now) refl d
+    tried false d = ends (pace_allows a.pace.last now) refl d
 
     by : (w : Bool) → is_due a.t4 now ≡ w → IsTimed L (moved a (if w then asks_again a.counts else Stays)) now marks
     by true d = tried (nat_lt a.counts.tries 3) d
     by false d = inl t
 
-pub timed_counted : (L : Type 0) (a : Calling) (now : ℕ) (marks : List Mark) → (2 ^ 64 ≤ now + pace → L) → Timed a → IsRunning L a marks → IsTimed L (timed a now) now marks
+pub timed_counted : (L : Type 0) (a : Calling) (now : ℕ) (marks : List Mark) → (2 ^ 64 ≤ now + longest_pause → L) → Timed a → IsRunning L a marks → IsTimed L (timed a now) now marks
 timed_counted L a now marks f h s = by a.waiting refl
   where
     by : (w : List Due) → a.waiting ≡ w → IsTimed L (moved a (if waits w then Stays else on_timers (is_due a.t1 now) (is_due a.t4 now) a.state a.counts)) now marks
     by [] e =
         timer_counted L a now marks a.state f refl s (subst (λ (w : List Due). Running L a.state w a.counts.delivered marks) e s)
-        (subst (λ (w : List Due). TimedOf w a.state a.t4 a.last) e h)
+        (subst (λ (w : List Due). TimedOf w a.state a.t4 a.pace.last) e h)
     by (d ∷ due) e = inl s
 
 one_settled : (p : Packet) (due : List Due) (n : ℕ) (marks : List Mark) → Settled (One p ∷ due) n marks → Settled due n (gave_all (elements_in p) marks)
@@ -637,16 +638,16 @@ counted_when_given L (AwaitCfr dis dcs) n marks o s = s
 counted_when_given L (AwaitMcf dis dcs) n marks o s = s
 counted_when_given L (Closing x) n marks o s = (x, refl, when_over L x n marks s, refl)
 
-after_counted : (L : Type 0) (a : Calling) (now : ℕ) (rest : List Due) (marks : List Mark) → Running L a.state rest a.counts.delivered marks → Counted L (after_giving a now rest) marks
-after_counted L a now [] marks s = counted_when_given L a.state a.counts.delivered marks a.outcome s
-after_counted L a now (d ∷ due) marks s = runs_in L a.state (d ∷ due) a.counts.delivered marks a.outcome s
+after_counted : (L : Type 0) (a : Calling) (now : ℕ) (packet : Packet) (rest : List Due) (marks : List Mark) → Running L a.state rest a.counts.delivered marks → Counted L (after_giving a now packet rest) marks
+after_counted L a now packet [] marks s = counted_when_given L a.state a.counts.delivered marks a.outcome s
+after_counted L a now packet (d ∷ due) marks s = runs_in L a.state (d ∷ due) a.counts.delivered marks a.outcome s
 
 first_counted : (L : Type 0) (texts : Texts) (job : JobValue) (a : Calling) (now : ℕ) (marks : List Mark) (due : List Due) → a.waiting ≡ due → Good texts job a marks → IsRunning L a marks →
     Counted L (given_first texts.writes job a now due).core (marks_given (given_first texts.writes job a now due).given marks)
 first_counted L texts job a now marks [] h g s = runs L a marks s
 first_counted L texts job a now marks (d ∷ due) h g s =
     let k : Taken = taken texts.writes job d due in
-    after_counted L a now k.rest (gave_all (elements_in k.packet) marks)
+    after_counted L a now k.packet k.rest (gave_all (elements_in k.packet) marks)
     (state_given L texts job a.counts.page a.state d due a.counts.delivered marks (subst (λ (w : List Due). SafeTo texts job a.counts.page (PostOf a.state) w (elements_given marks)) h g.kept.safe)
     (subst (λ (w : List Due). Running L a.state w a.counts.delivered marks) h s))
 
@@ -656,7 +657,7 @@ paced_by texts job a now due allowed = if◌then◌else◌ {A = Ticked} allowed 
 
 paced_counted : (L : Type 0) (texts : Texts) (job : JobValue) (a : Calling) (now : ℕ) (marks : List Mark) → Good texts job a marks → IsTimed L a now marks →
     Counted L (paced texts.writes job a now).core (marks_given (paced texts.writes job a now).given marks)
-paced_counted L texts job a now marks g (inl s) = by (pace_allows a.last now)
+paced_counted L texts job a now marks g (inl s) = by (pace_allows a.pace.last now)
   where
     by : (w : Bool) → Counted L (paced_by texts job a now a.waiting w).core (marks_given (paced_by texts job a now a.waiting w).given marks)
     by true = first_counted L texts job a now marks a.waiting refl g s
@@ -664,9 +665,9 @@ paced_counted L texts job a now marks g (inl s) = by (pace_allows a.last now)
 paced_counted L texts job a now marks g (inr e) =
     subst (λ (w : Bool). Counted L (paced_by texts job a now a.waiting w).core (marks_given (paced_by texts job a now a.waiting w).given marks)) (sym e.paced)
     (subst (λ (due : List Due). Counted L (given_first texts.writes job a now due).core (marks_given (given_first texts.writes job a now due).given marks)) (sym e.first)
-    (runs L (record a { waiting = One (Tells e.frame) ∷ []; last = Some now }) (gave_all (elements_in (Signals 3)) marks) e.leaves))
+    (runs L (record a { waiting = One (Tells e.frame) ∷ []; pace = pace_behind true a.pace now }) (gave_all (elements_in (Signals 3)) marks) e.leaves))
 
-pub ticked_counted : (L : Type 0) (texts : Texts) (job : JobValue) (a : Calling) (now : ℕ) (marks : List Mark) → (2 ^ 64 ≤ now + pace → L) → Good texts job a marks → Timed a → IsRunning L a marks →
+pub ticked_counted : (L : Type 0) (texts : Texts) (job : JobValue) (a : Calling) (now : ℕ) (marks : List Mark) → (2 ^ 64 ≤ now + longest_pause → L) → Good texts job a marks → Timed a → IsRunning L a marks →
     Counted L (ticked texts.writes job a now).core (marks_given (ticked texts.writes job a now).given marks)
 ticked_counted L texts job a now marks f g h s = paced_counted L texts job (timed a now) now marks (timed_good texts job a now marks g) (timed_counted L a now marks f h s)
 
@@ -687,27 +688,34 @@ moved_timed a HangsUp h = tt
 pub comes_timed : (a : Calling) (piece : pieces.Piece) (now : ℕ) → Timed a → Timed (came a piece now)
 comes_timed a piece now h = moved_timed a (heard a piece now) h
 
-given_timed : (a : Calling) (now : ℕ) (rest : List Due) → Timed (after_giving a now rest)
-given_timed a now [] = by a.state
+span_short : (is_preamble : Bool) (pause now : ℕ) → (packet_at is_preamble pause now).span ≤ longest_pause
+span_short true pause now = omega arith
+span_short false pause now = omega arith
+
+given_timed : (a : Calling) (now : ℕ) (packet : Packet) (rest : List Due) → Timed (after_giving a now packet rest)
+given_timed a now packet [] = by a.state
   where
-    by : (state : State) → TimedOf [] (state_when_given state) (t4_when_given state a.t4 now) (Some now)
+    given : LastPacket
+    given = packet_at (signals_preamble packet) a.pace.pause now
+
+    by : (state : State) → TimedOf [] (state_when_given state) (t4_when_given state a.t4 now) (Some given)
     by Idle = tt
     by AwaitDis = tt
     by (AwaitCfr dis dcs) = tt
-    by (AwaitMcf dis dcs) = (now, refl, refl)
+    by (AwaitMcf dis dcs) = (given, refl, refl, span_short (signals_preamble packet) a.pace.pause now)
     by (Closing x) = tt
-given_timed a now (d ∷ rest) = tt
+given_timed a now packet (d ∷ rest) = tt
 
 pub ticked_timed : (texts : Texts) (job : JobValue) (a : Calling) (now : ℕ) → Timed a → Timed (ticked texts.writes job a now).core
 ticked_timed texts job a now h = by (timed a now) (moved_timed a (if waits a.waiting then Stays else on_timers (is_due a.t1 now) (is_due a.t4 now) a.state a.counts) h)
   where
     first : (c : Calling) (due : List Due) → Timed c → Timed (given_first texts.writes job c now due).core
     first c [] k = k
-    first c (d ∷ due) k = given_timed c now (taken texts.writes job d due).rest
+    first c (d ∷ due) k = given_timed c now (taken texts.writes job d due).packet (taken texts.writes job d due).rest
 
     paced_so : (c : Calling) (w : Bool) → Timed c → Timed (paced_by texts job c now c.waiting w).core
     paced_so c true k = first c c.waiting k
     paced_so c false k = k
 
     by : (c : Calling) → Timed c → Timed (paced texts.writes job c now).core
-    by c k = paced_so c (pace_allows c.last now) k
+    by c k = paced_so c (pace_allows c.pace.last now) k

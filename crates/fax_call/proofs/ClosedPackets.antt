@@ -136,9 +136,9 @@ taken_closed texts job page Post (Text n dcs from) due before s h =
     text_closed n dcs from (text_at texts.writes job n dcs) due
     (subst (λ (m : ℕ). from < length (text_at texts.writes job m dcs)) (sym s.0) s.1.left) h.1
 
-after_closed : (a : Calling) (now : ℕ) (due : List Due) → AllClosed due → AllClosed (after_giving a now due).waiting
-after_closed a now [] h = tt
-after_closed a now (d ∷ due) h = h
+after_closed : (a : Calling) (now : ℕ) (packet : replies.Packet) (due : List Due) → AllClosed due → AllClosed (after_giving a now packet due).waiting
+after_closed a now packet [] h = tt
+after_closed a now packet (d ∷ due) h = h
 
 abbrev ClosedIf : Option replies.Packet → Type 0
 ClosedIf None = Unit {0}
@@ -153,7 +153,7 @@ first_closed : (texts : Texts) (job : JobValue) (a : Calling) (now page : ℕ) (
 first_closed texts job a now page Post [] before s g h = record { core = g; given = tt }
 first_closed texts job a now page Post (d ∷ due) before s g h =
     let t : ClosedTaken (taken texts.writes job d due) = taken_closed texts job page Post d due before s h in
-    record { core = after_closed a now (taken texts.writes job d due).rest t.rest; given = t.packet }
+    record { core = after_closed a now (taken texts.writes job d due).packet (taken texts.writes job d due).rest t.rest; given = t.packet }
 
 paced_closed : (b : Bool) (a : Calling) (t : Ticked) → AllClosed a.waiting → ClosedTick t → ClosedTick (if◌then◌else◌ {A = Ticked} b t (record { core = a; given = None }))
 paced_closed true a t g h = h
@@ -164,7 +164,7 @@ tick_closed texts job a now marks g h =
     let b : Calling = timed a now in
     let good : Good texts job b marks = timed_good texts job a now marks g in
     let closed : AllClosed b.waiting = moved_closed a _ h in
-    paced_closed (pace_allows b.last now) b (given_first texts.writes job b now b.waiting) closed
+    paced_closed (pace_allows b.pace.last now) b (given_first texts.writes job b now b.waiting) closed
     (first_closed texts job b now b.counts.page _ b.waiting (elements_given marks) good.kept.safe closed closed)
 
 events_closed : (texts : Texts) (job : JobValue) (a : Calling) (events : List CallEvent) → IsJob job → Good texts job a (Begins ∷ []) → AllClosed a.waiting → AllClosed (after_events texts.writes job a events).waiting

@@ -19,7 +19,7 @@ use Rattle.fax_jobs.specs.Jobs.{JobValue, IsJob, IsOfFirst}
 use Rattle.fax_call.specs.declared.state.State.{State}
 use Rattle.fax_call.specs.declared.state.State.TheVariants.{Idle, AwaitDis, AwaitCfr, AwaitMcf, Closing}
 use Rattle.fax_call.specs.Writings.{Writing}
-use Rattle.fax_call.specs.Replies.{Due, waits, same_width, same_bool, same_format, turn_if, turn_behind, is_last_page}
+use Rattle.fax_call.specs.Replies.{Packet, Due, waits, same_width, same_bool, same_format, turn_if, turn_behind, is_last_page}
 use Rattle.fax_call.specs.Table.{Counts, Move, Stays, Trains, Sends, AsksAgain, Turns, Closes, HangsUp, first_try, next_try, next_step, next_page, one_delivered, one_refused, most_tries, by_choice, turns_or, on_frame, on_timers}
 use Rattle.fax_call.specs.Calls.{Calling, formats_of, started, moved, came, timed, taken, after_giving, Ticked, given_first, ticked, CallEvent, Comes, Ticks, after_events}
 
@@ -168,16 +168,16 @@ timed_due fs a now d =
     moved_due fs a _ d (if_due fs a.format (waits a.waiting) Stays (on_timers (is_due a.t1 now) (is_due a.t4 now) a.state a.counts) tt
     (timers_due fs a.format (is_due a.t1 now) (is_due a.t4 now) a.state a.counts d.due))
 
-pub after_due : (fs : List Format) (a : Calling) (now : ℕ) (rest : List Due) → IsDue fs a → IsDue fs (after_giving a now rest)
-after_due fs a now [] d = record { formats = d.formats; due = d.due }
-after_due fs a now (r ∷ rest) d = record { formats = d.formats; due = d.due }
+pub after_due : (fs : List Format) (a : Calling) (now : ℕ) (packet : Packet) (rest : List Due) → IsDue fs a → IsDue fs (after_giving a now packet rest)
+after_due fs a now packet [] d = record { formats = d.formats; due = d.due }
+after_due fs a now packet (r ∷ rest) d = record { formats = d.formats; due = d.due }
 
 first_due : (fs : List Format) (writes : Writing) (job : JobValue) (a : Calling) (now : ℕ) (due : List Due) → IsDue fs a → IsDue fs (given_first writes job a now due).core
 first_due fs writes job a now [] d = d
-first_due fs writes job a now (r ∷ due) d = after_due fs a now (taken writes job r due).rest d
+first_due fs writes job a now (r ∷ due) d = after_due fs a now (taken writes job r due).packet (taken writes job r due).rest d
 
 ticked_due : (fs : List Format) (writes : Writing) (job : JobValue) (a : Calling) (now : ℕ) → IsDue fs a → IsDue fs (ticked writes job a now).core
-ticked_due fs writes job a now d = by (timed a now) (timed_due fs a now d) (pace_allows (timed a now).last now)
+ticked_due fs writes job a now d = by (timed a now) (timed_due fs a now d) (pace_allows (timed a now).pace.last now)
   where
     by : (b : Calling) → IsDue fs b → (t : Bool) → IsDue fs (if◌then◌else◌ {A = Ticked} t (given_first writes job b now b.waiting) (record { core = b; given = None })).core
     by b k true = first_due fs writes job b now b.waiting k

@@ -271,17 +271,17 @@ sent_when_given last page (AwaitMcf dis dcs) p = p
 sent_when_given last page (Closing o) p = tt
 
 after_good : (texts : Texts) (job : JobValue) (a : Calling) (now : ℕ) (marks : List Mark) (p : Packet) (rest : List Due) → IsJob job → a.counts.page < length job.pages → HasFormat job a.counts.page a.state → IsDue (formats_of job) a → a.pages ≡ length job.pages →
-    Gives texts job a.counts.page a.state marks (record { packet = p; rest = rest }) → Good texts job (after_giving a now rest) (gave_all (elements_in p) marks)
+    Gives texts job a.counts.page a.state marks (record { packet = p; rest = rest }) → Good texts job (after_giving a now p rest) (gave_all (elements_in p) marks)
 after_good texts job a now marks p [] is w f s q g =
     record {
       last = g.last;
-      kept = record { is_job = is; emits = g.emits; safe = post_when_given a.state (elements_given (gave_all (elements_in p) marks)) g.safe; within = w; format = format_when_given job a.counts.page a.state f; sent = sent_when_given g.last a.counts.page a.state g.sent; due = after_due (formats_of job) a now [] s; same_pages = q };
+      kept = record { is_job = is; emits = g.emits; safe = post_when_given a.state (elements_given (gave_all (elements_in p) marks)) g.safe; within = w; format = format_when_given job a.counts.page a.state f; sent = sent_when_given g.last a.counts.page a.state g.sent; due = after_due (formats_of job) a now p [] s; same_pages = q };
       turn = turn_when_given g.last (replied (gave_all (elements_in p) marks)) a.counts.page a.state (elements_given (gave_all (elements_in p) marks)) g.turn;
     }
 after_good texts job a now marks p (d ∷ rest) is w f s q g =
     record {
       last = g.last;
-      kept = record { is_job = is; emits = g.emits; safe = g.safe; within = w; format = f; sent = g.sent; due = after_due (formats_of job) a now (d ∷ rest) s; same_pages = q };
+      kept = record { is_job = is; emits = g.emits; safe = g.safe; within = w; format = f; sent = g.sent; due = after_due (formats_of job) a now p (d ∷ rest) s; same_pages = q };
       turn = g.turn;
     }
 
@@ -299,7 +299,7 @@ first_good texts job a now marks (d ∷ due) is h g =
 
 pub paced_good : (texts : Texts) (job : JobValue) (a : Calling) (now : ℕ) (marks : List Mark) → IsJob job → Good texts job a marks →
     Good texts job (paced texts.writes job a now).core (marks_given (paced texts.writes job a now).given marks)
-paced_good texts job a now marks is g = by (pace_allows a.last now)
+paced_good texts job a now marks is g = by (pace_allows a.pace.last now)
   where
     by : (t : Bool) → Good texts job (if◌then◌else◌ {A = Ticked} t (given_first texts.writes job a now a.waiting) (record { core = a; given = None })).core (marks_given (if◌then◌else◌ {A = Ticked} t (given_first texts.writes job a now a.waiting) (record { core = a; given = None })).given marks)
     by true = first_good texts job a now marks a.waiting is refl g
@@ -328,7 +328,7 @@ goodbye_safe texts job page before = frame_safe texts job page (λ e. Unit {0}) 
 
 asks_good : (texts : Texts) (job : JobValue) (a : Calling) (marks : List Mark) (state : State) (c : Counts) (last : Option ℕ) → a.state ≡ state → Kept texts job a marks last →
     AskOk last a.counts.page (elements_given marks) state c → DueAt (formats_of job) c.page a.format →
-    Good texts job (record { state = state; format = a.format; formats = a.formats; pages = a.pages; counts = c; waiting = command (command_behind a.formats a.pages c.page); t1 = None; t4 = None; last = a.last; outcome = a.outcome }) marks
+    Good texts job (record { state = state; format = a.format; formats = a.formats; pages = a.pages; counts = c; waiting = command (command_behind a.formats a.pages c.page); t1 = None; t4 = None; pace = a.pace; outcome = a.outcome }) marks
 asks_good texts job a marks Idle c last h g k d = absurd k
 asks_good texts job a marks AwaitDis c last h g k d = absurd k
 asks_good texts job a marks (AwaitCfr dis dcs) c last h g k d = absurd k

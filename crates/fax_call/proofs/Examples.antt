@@ -30,7 +30,7 @@ job : JobValue
 job = record { call = 7; format = standard; pages = page ∷ [] }
 
 begun : Calling
-begun = started (new_calling standard) job 0
+begun = started (new_calling 40 standard) job 0
 
 -- a frame comes, at a moment
 frame_at : ℕ → ℕ → List ℕ → CallEvent
@@ -93,7 +93,7 @@ imaging =
       waiting = Text 0 dcs 0 ∷ command Eop;
       t1 = None;
       t4 = None;
-      last = Some 1680;
+      pace = record { pause = 40; last = Some (record { at = 1680; span = 40 }) };
       outcome = None;
     }
 
@@ -103,14 +103,14 @@ leaves_image writes = refl
 
 -- the text goes in one packet, where it has 72 octets at most
 asking : Calling
-asking = after_giving imaging 1720 (command Eop)
+asking = after_giving imaging 1720 (Part 8 true []) (command Eop)
 
 leaves_command : (writes : Writing) → nat_le (length (writes page Mr 0)) 72 ≡ true → (ticked writes job imaging 1720).core ≡ asking
 unfolding asking imaging dcs job
 leaves_command writes short =
     let one : Taken = record { packet = Part 8 true (writes page Mr 0); rest = command Eop } in
     let more : Taken = record { packet = Part 8 false (take 72 (writes page Mr 0)); rest = Text 0 dcs 72 ∷ command Eop } in
-    ap (λ (t : Bool). after_giving imaging 1720 (if◌then◌else◌ {A = Taken} t one more).rest) short
+    ap (λ (t : Bool). let k : Taken = if◌then◌else◌ {A = Taken} t one more in after_giving imaging 1720 k.packet k.rest) short
 
 -- EOP is given, MCF comes, and the preamble is given: what is left then, and behind the DCN
 ending : Writing → Calling → Calling
@@ -165,7 +165,7 @@ fifteen : Writing
 fifteen p coding least = replicate 15 0
 
 both_begun : Calling
-both_begun = started (new_calling standard) two_pages 0
+both_begun = started (new_calling 40 standard) two_pages 0
 
 given_of_two : ℕ → List CallEvent → Option (List ℕ)
 given_of_two now events = option_map written (ticked fifteen two_pages (after_events fifteen two_pages both_begun events) now).given

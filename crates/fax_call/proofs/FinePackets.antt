@@ -98,9 +98,9 @@ taken_fine texts job page Post (Text n dcs from) due before s h =
     text_fine n dcs from (text_at texts.writes job n dcs) due
     (subst (λ (m : ℕ). from < length (text_at texts.writes job m dcs)) (sym s.0) s.1.left) h.1
 
-after_fine : (a : Calling) (now : ℕ) (due : List Due) → AllFine due → AllFine (after_giving a now due).waiting
-after_fine a now [] h = tt
-after_fine a now (d ∷ due) h = h
+after_fine : (a : Calling) (now : ℕ) (packet : replies.Packet) (due : List Due) → AllFine due → AllFine (after_giving a now packet due).waiting
+after_fine a now packet [] h = tt
+after_fine a now packet (d ∷ due) h = h
 
 abbrev FineIf : Option replies.Packet → Type 0
 FineIf None = Unit {0}
@@ -115,7 +115,7 @@ first_fine : (texts : Texts) (job : JobValue) (a : Calling) (now page : ℕ) (Po
 first_fine texts job a now page Post [] before s g h = record { core = g; given = tt }
 first_fine texts job a now page Post (d ∷ due) before s g h =
     let t : FineTaken (taken texts.writes job d due) = taken_fine texts job page Post d due before s h in
-    record { core = after_fine a now (taken texts.writes job d due).rest t.rest; given = t.packet }
+    record { core = after_fine a now (taken texts.writes job d due).packet (taken texts.writes job d due).rest t.rest; given = t.packet }
 
 paced_fine : (b : Bool) (a : Calling) (t : Ticked) → AllFine a.waiting → FineTick t → FineTick (if◌then◌else◌ {A = Ticked} b t (record { core = a; given = None }))
 paced_fine true a t g h = h
@@ -126,7 +126,7 @@ tick_fine texts job a now marks g h =
     let b : Calling = timed a now in
     let good : Good texts job b marks = timed_good texts job a now marks g in
     let closed : AllFine b.waiting = moved_fine a _ h in
-    paced_fine (pace_allows b.last now) b (given_first texts.writes job b now b.waiting) closed
+    paced_fine (pace_allows b.pace.last now) b (given_first texts.writes job b now b.waiting) closed
     (first_fine texts job b now b.counts.page _ b.waiting (elements_given marks) good.kept.safe closed closed)
 
 events_fine : (texts : Texts) (job : JobValue) (a : Calling) (events : List CallEvent) → IsJob job → Good texts job a (Begins ∷ []) → AllFine a.waiting → AllFine (after_events texts.writes job a events).waiting

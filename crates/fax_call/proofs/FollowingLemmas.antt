@@ -6,7 +6,7 @@ use Rattle.fax_frames.specs.declared.frame.Frame.TheVariants as frames
 use Rattle.fax_frames.specs.declared.writing.Plain.{Plain}
 use Rattle.fax_frames.specs.Frames.{frame_of}
 use Rattle.fax_timers.specs.Moments.{is_due}
-use Rattle.fax_timers.specs.Paces.{pace_allows}
+use Rattle.fax_timers.specs.Paces.{PaceValue, pace_allows}
 use Rattle.fax_ifp.specs.Pieces as pieces
 use Rattle.fax_jobs.specs.Jobs.{JobValue}
 use Rattle.fax_pagestore.specs.Writers.{WriterValue}
@@ -55,10 +55,10 @@ core_rests writes job core writer p f none =
     sym (ap waits f.waiting) ∙ ap (λ (q : Pending). waits (waiting_of q (command_behind core.formats core.pages p.counts.page) p.counts.page f.from)) none
 
 pub gives_is : (writes : Writing) (job : JobValue) (core : Calling) (writer : WriterValue) (p : Procedure) (now : ℕ) → IsFit p → Follows writes job core writer p
-    → (p.pending ≡ Nothing → ⊥) → pace_allows p.pace now ≡ gives_now core now
+    → (p.pending ≡ Nothing → ⊥) → pace_allows p.pace.last now ≡ gives_now core now
 gives_is writes job core writer p now fit f some =
-    ap (λ (last : Option ℕ). pace_allows last now) f.last
-    ∙ sym (ap (λ (b : Bool). b && pace_allows core.last now) (core_waits writes job core writer p fit f some))
+    ap (λ (v : PaceValue). pace_allows v.last now) f.pace
+    ∙ sym (ap (λ (b : Bool). b && pace_allows core.pace.last now) (core_waits writes job core writer p fit f some))
 
 stays_if : (core : Calling) (b : Bool) (m : Move) → b ≡ true → moved core (if b then Stays else m) ≡ core
 stays_if core true m e = refl

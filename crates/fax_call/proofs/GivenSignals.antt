@@ -283,9 +283,9 @@ post_given (AwaitCfr dis dcs) given h = h
 post_given (AwaitMcf dis dcs) given h = h
 post_given (Closing o) given h = tt
 
-after_to : (writes : Writing) (job : JobValue) (b : Calling) (now : ℕ) (due : List Due) (given : List Packet) → NeatTo writes job (PostState b.state) due given → ToNow writes job (after_giving b now due) given
-after_to writes job b now [] given h = (h.0, post_given b.state given h.1)
-after_to writes job b now (d ∷ due) given h = h
+after_to : (writes : Writing) (job : JobValue) (b : Calling) (now : ℕ) (packet : Packet) (due : List Due) (given : List Packet) → NeatTo writes job (PostState b.state) due given → ToNow writes job (after_giving b now packet due) given
+after_to writes job b now packet [] given h = (h.0, post_given b.state given h.1)
+after_to writes job b now packet (d ∷ due) given h = h
 
 -- where the last part of a text is given, its page is the one emitted last
 none_behind : (last : Option ℕ) (r : Reply) (page : ℕ) (state : State) (n : ℕ) (dcs : Dcs) (from : ℕ) (before : List elements.Element) → InTurn last r page state (Text n dcs from ∷ []) before → ⊥
@@ -295,11 +295,11 @@ none_behind last r page AwaitDis n dcs from before t = t.1
 none_behind last r page (AwaitCfr dis d) n dcs from before t = t.1
 none_behind last r page (AwaitMcf dis d) n dcs from before t = t.0.1 before
 
-last_is : (b : Calling) (now : ℕ) (last new : Option ℕ) (r : Reply) (n : ℕ) (dcs : Dcs) (from : ℕ) (due : List Due) (before : List elements.Element)
+last_is : (b : Calling) (now : ℕ) (packet : Packet) (last new : Option ℕ) (r : Reply) (n : ℕ) (dcs : Dcs) (from : ℕ) (due : List Due) (before : List elements.Element)
     → InTurn last r b.counts.page b.state (Text n dcs from ∷ due) before
-    → IsSent new (after_giving b now due).counts.page (after_giving b now due).state (after_giving b now due).waiting → new ≡ Some b.counts.page
-last_is b now last new r n dcs from [] before t s = absurd (none_behind last r b.counts.page b.state n dcs from before t)
-last_is b now last new r n dcs from (x ∷ due) before t s = by b.state t s
+    → IsSent new (after_giving b now packet due).counts.page (after_giving b now packet due).state (after_giving b now packet due).waiting → new ≡ Some b.counts.page
+last_is b now packet last new r n dcs from [] before t s = absurd (none_behind last r b.counts.page b.state n dcs from before t)
+last_is b now packet last new r n dcs from (x ∷ due) before t s = by b.state t s
   where
     by : (state : State) → InTurn last r b.counts.page state (Text n dcs from ∷ x ∷ due) before → IsSent new b.counts.page state (x ∷ due) → new ≡ Some b.counts.page
     by Idle t s = cc
@@ -308,14 +308,14 @@ last_is b now last new r n dcs from (x ∷ due) before t s = by b.state t s
     by (AwaitCfr dis d) t s = absurd t.1
     by (AwaitMcf dis d) t s = s t.0.0
 
-emits_then : (texts : Texts) (job : JobValue) (b : Calling) (now page : ℕ) (dcs : Dcs) (from : ℕ) (due : List Due) (marks new : List Mark) → b.waiting ≡ Text page dcs from ∷ due
-    → Good texts job b marks → Good texts job (after_giving b now due) new → Emits job new (Some page)
-emits_then texts job b now page dcs from due marks new e g h =
+emits_then : (texts : Texts) (job : JobValue) (b : Calling) (now page : ℕ) (packet : Packet) (dcs : Dcs) (from : ℕ) (due : List Due) (marks new : List Mark) → b.waiting ≡ Text page dcs from ∷ due
+    → Good texts job b marks → Good texts job (after_giving b now packet due) new → Emits job new (Some page)
+emits_then texts job b now page packet dcs from due marks new e g h =
     let s : SafeTo texts job b.counts.page (PostOf b.state) (Text page dcs from ∷ due) (elements_given marks) =
     subst (λ (w : List Due). SafeTo texts job b.counts.page (PostOf b.state) w (elements_given marks)) e g.kept.safe in
     let t : InTurn g.last (replied marks) b.counts.page b.state (Text page dcs from ∷ due) (elements_given marks) =
     subst (λ (w : List Due). InTurn g.last (replied marks) b.counts.page b.state w (elements_given marks)) e g.turn in
-    let l : h.last ≡ Some b.counts.page = last_is b now g.last h.last (replied marks) page dcs from due (elements_given marks) t h.kept.sent in
+    let l : h.last ≡ Some b.counts.page = last_is b now packet g.last h.last (replied marks) page dcs from due (elements_given marks) t h.kept.sent in
     subst (λ (x : Option ℕ). Emits job new x) (l ∙ ap (λ (k : ℕ). Some k) (sym s.0)) h.kept.emits
 
 -- what is known of a tick: the core behind it, and that P holds of the image that it ends
@@ -331,7 +331,7 @@ abbrev NeatTick : Writing → JobValue → (List Packet → List ℕ → Type 0)
 NeatTick writes job P given t = Neat writes job P t.core (packets_with t.given given)
 
 abbrev tick_of : Calling → ℕ → Taken → Ticked
-tick_of b now t = record { core = after_giving b now t.rest; given = Some t.packet }
+tick_of b now t = record { core = after_giving b now t.packet t.rest; given = Some t.packet }
 
 both : (n : ℕ) (xs : List ℕ) → take n xs ++ drop n xs ≡ xs
 both zero xs = refl
@@ -357,14 +357,14 @@ text_neat texts job P b now page dcs from due given marks is e g n neat = by (na
         After texts job P given marks (tick_of b now k) → NeatTick texts.writes job P given (tick_of b now k)
     by true a =
         record {
-          to = after_to texts.writes job b now due (Part (kind_of dcs.rate) true (drop from (text_at texts.writes job page dcs)) ∷ given) (n.1 (Part (kind_of dcs.rate) true (drop from (text_at texts.writes job page dcs)) ∷ given) refl n.0.2);
+          to = after_to texts.writes job b now (Part (kind_of dcs.rate) true (drop from (text_at texts.writes job page dcs))) due (Part (kind_of dcs.rate) true (drop from (text_at texts.writes job page dcs)) ∷ given) (n.1 (Part (kind_of dcs.rate) true (drop from (text_at texts.writes job page dcs)) ∷ given) refl n.0.2);
           neat = (
             (
               take from (text_at texts.writes job page dcs),
               n.0.0,
               n.0.1,
               λ x. a.1 page (read_dcs dcs) (take from (text_at texts.writes job page dcs) ++ drop from (text_at texts.writes job page dcs)) refl n.0.2 means
-                  (emits_then texts job b now page dcs from due marks (marks_given (Some (Part (kind_of dcs.rate) true (drop from (text_at texts.writes job page dcs)))) marks) e g a.0),
+                  (emits_then texts job b now page (Part (kind_of dcs.rate) true (drop from (text_at texts.writes job page dcs))) dcs from due marks (marks_given (Some (Part (kind_of dcs.rate) true (drop from (text_at texts.writes job page dcs)))) marks) e g a.0),
             ),
             neat,
           );
@@ -385,7 +385,7 @@ first_neat : (texts : Texts) (job : JobValue) (P : List Packet → List ℕ → 
 first_neat texts job P b now [] given marks is z e g n a = n
 first_neat texts job P b now (One p ∷ due) given marks is z e g n a =
     let to : NeatTo texts.writes job (PostState b.state) (One p ∷ due) given = subst (λ (w : List Due). NeatTo texts.writes job (PostState b.state) w given) e n.to in
-    record { to = after_to texts.writes job b now due (p ∷ given) to.1; neat = put_neat P p given z to.0 n.neat }
+    record { to = after_to texts.writes job b now p due (p ∷ given) to.1; neat = put_neat P p given z to.0 n.neat }
 first_neat texts job P b now (Text page dcs from ∷ due) given marks is z e g n a =
     let to : NeatTo texts.writes job (PostState b.state) (Text page dcs from ∷ due) given = subst (λ (w : List Due). NeatTo texts.writes job (PostState b.state) w given) e n.to in
     text_neat texts job P b now page dcs from due given marks is e g to n.neat a
@@ -397,7 +397,7 @@ tick_neat texts job P a now given marks is z g n =
     let b : Calling = timed a now in
     let good : Good texts job b marks = timed_good texts job a now marks g in
     let neat : Neat texts.writes job P b given = record { to = timed_neat texts.writes job a now given n.to; neat = n.neat } in
-    by (pace_allows b.last now) b good neat
+    by (pace_allows b.pace.last now) b good neat
   where
     by : (t : Bool) (b : Calling) → Good texts job b marks → Neat texts.writes job P b given
         → After texts job P given marks (if◌then◌else◌ {A = Ticked} t (given_first texts.writes job b now b.waiting) (record { core = b; given = None }))

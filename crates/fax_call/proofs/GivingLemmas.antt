@@ -13,7 +13,7 @@ use Rattle.fax_frames.specs.Rates.{bits_a_second, kind_of}
 use Rattle.fax_frames.specs.Written.{written_plain, written_dcs}
 use Rattle.fax_ifp.specs.Elements.{Slot}
 use Rattle.fax_ifp.specs.Tracked.{IsTracked}
-use Rattle.fax_timers.specs.Paces.{pace_allows}
+use Rattle.fax_timers.specs.Paces.{PaceValue, pace_allows, pace_behind}
 use Rattle.fax_pagestore.specs.Pages.{PageValue}
 use Rattle.fax_pagestore.specs.Writers.{WriterValue, HasLeft}
 use Rattle.fax_jobs.specs.declared.outcome.Outcome.{Outcome}
@@ -25,7 +25,7 @@ use Rattle.fax_call.specs.declared.procedure.Procedure.{Procedure}
 use Rattle.fax_call.specs.declared.state.State.{State}
 use Rattle.fax_call.specs.declared.state.State.TheVariants.{Idle, AwaitDis, AwaitCfr, AwaitMcf, Closing}
 use Rattle.fax_call.specs.Writings.{Writing}
-use Rattle.fax_call.specs.Replies.{Packet, Tells, Part, written, Due, One, Text, waits, parts_of, part_length, check_length, training_check, is_last_page, turn_behind, command_by, command_behind, command, frame_reply}
+use Rattle.fax_call.specs.Replies.{Packet, Tells, Part, written, Due, One, Text, waits, signals_preamble, parts_of, part_length, check_length, training_check, is_last_page, turn_behind, command_by, command_behind, command, frame_reply}
 use Rattle.fax_call.specs.Calls.{Calling, formats_of, text_at, Taken, taken, state_when_given, outcome_when_given, t4_when_given, after_giving, Ticked, given_first, paced, timed, ticked}
 use Rattle.fax_call.specs.Kept.{waiting_of, framed, training_behind, check_behind, text_part, packet_of, pending_behind, FitsPending}
 use Rattle.fax_call.specs.Following.{IsFit, HasTextLeft, IsLeft, KeepsTurn, Follows, HasText, HasFormats, behind_packet, command_kept, given_by, with_turn, gives_now, GivesNext, GivesPacket}
@@ -66,9 +66,9 @@ turn_kept (AwaitMcf dis dcs) q r formats page turn other k = turn_named (AwaitMc
     by (pendings.Text d plain) other k = k
 
 -- THE CORE, behind a packet: some packets wait, or none
-more_wait : (a : Calling) (now : ℕ) (due : List Due) → waits due ≡ true → after_giving a now due ≡ record a { waiting = due; last = Some now }
-more_wait a now [] w = cc
-more_wait a now (d ∷ due) w = refl
+more_wait : (a : Calling) (now : ℕ) (packet : Packet) (due : List Due) → waits due ≡ true → after_giving a now packet due ≡ record a { waiting = due; pace = pace_behind (signals_preamble packet) a.pace now }
+more_wait a now packet [] w = cc
+more_wait a now packet (d ∷ due) w = refl
 
 -- what is given first of what waits, and what is left of it
 pub record Gives (writes : Writing) (job : JobValue) (core : Calling) (packet : Packet) (rest : List Due) : Type 0 where
@@ -79,9 +79,10 @@ pub record Gives (writes : Writing) (job : JobValue) (core : Calling) (packet : 
   pub rest_is : (taken writes job d due).rest ≡ rest
 
 pub core_behind : (writes : Writing) (job : JobValue) (core : Calling) (now : ℕ) (packet : Packet) (rest : List Due) → Gives writes job core packet rest
-    → (given_first writes job core now core.waiting).core ≡ after_giving core now rest
+    → (given_first writes job core now core.waiting).core ≡ after_giving core now packet rest
 core_behind writes job core now packet rest g =
-    ap (λ (w : List Due). (given_first writes job core now w).core) g.waiting ∙ ap (after_giving core now) g.rest_is
+    ap (λ (w : List Due). (given_first writes job core now w).core) g.waiting
+    ∙ ap (λ (p : Packet). after_giving core now p (taken writes job g.d g.due).rest) g.packet_is ∙ ap (after_giving core now packet) g.rest_is
 
 pub packet_given : (writes : Writing) (job : JobValue) (core : Calling) (now : ℕ) (packet : Packet) (rest : List Due) → Gives writes job core packet rest
     → (given_first writes job core now core.waiting).given ≡ Some packet
@@ -89,28 +90,28 @@ packet_given writes job core now packet rest g =
     ap (λ (w : List Due). (given_first writes job core now w).given) g.waiting ∙ ap (λ (p : Packet). Some p) g.packet_is
 
 -- the procedure behind a packet, where some wait
-some_behind : (q : Pending) (p : Procedure) (now : ℕ) → (q ≡ pendings.Nothing → ⊥) → behind_packet q p now ≡ record p { pending = q; pace = Some now }
-some_behind pendings.Nothing p now some = absurd (some refl)
-some_behind pendings.Tone p now some = refl
-some_behind (pendings.Preamble m) p now some = refl
-some_behind (pendings.Frame m) p now some = refl
-some_behind (pendings.Training dcs) p now some = refl
-some_behind (pendings.Check dcs given) p now some = refl
-some_behind (pendings.Image dcs) p now some = refl
-some_behind (pendings.Text dcs plain) p now some = refl
+some_behind : (b : Bool) (q : Pending) (p : Procedure) (now : ℕ) → (q ≡ pendings.Nothing → ⊥) → behind_packet b q p now ≡ record p { pending = q; pace = pace_behind b p.pace now }
+some_behind b pendings.Nothing p now some = absurd (some refl)
+some_behind b pendings.Tone p now some = refl
+some_behind b (pendings.Preamble m) p now some = refl
+some_behind b (pendings.Frame m) p now some = refl
+some_behind b (pendings.Training dcs) p now some = refl
+some_behind b (pendings.Check dcs given) p now some = refl
+some_behind b (pendings.Image dcs) p now some = refl
+some_behind b (pendings.Text dcs plain) p now some = refl
 
 -- what waits, told of what is kept
 abbrev waits_in : Calling → Procedure → Pending → ℕ → List Due
 waits_in core p q from = waiting_of q (command_behind core.formats core.pages p.counts.page) p.counts.page from
 
 -- BOTH, where some packets wait behind the one that is given
-pub follows_more : (writes : Writing) (job : JobValue) (core : Calling) (writer left : WriterValue) (p : Procedure) (now from : ℕ) (q : Pending)
+pub follows_more : (writes : Writing) (job : JobValue) (core : Calling) (writer left : WriterValue) (p : Procedure) (now from : ℕ) (packet : Packet) (q : Pending)
     → Follows writes job core writer p → (q ≡ pendings.Nothing → ⊥) → waits (waits_in core p q from) ≡ true
     → IsLeft writes job p.counts.page from q left → KeepsTurn p.state q core.formats p.counts.page p.turn
-    → Follows writes job (after_giving core now (waits_in core p q from)) left (behind_packet q p now)
-follows_more writes job core writer left p now from q f some w is_left turn =
-    subst (λ (n : Procedure). Follows writes job (after_giving core now (waits_in core p q from)) left n) (sym (some_behind q p now some))
-    (subst (λ (a : Calling). Follows writes job a left (record p { pending = q; pace = Some now })) (sym (more_wait core now (waits_in core p q from) w))
+    → Follows writes job (after_giving core now packet (waits_in core p q from)) left (behind_packet (signals_preamble packet) q p now)
+follows_more writes job core writer left p now from packet q f some w is_left turn =
+    subst (λ (n : Procedure). Follows writes job (after_giving core now packet (waits_in core p q from)) left n) (sym (some_behind (signals_preamble packet) q p now some))
+    (subst (λ (a : Calling). Follows writes job a left (record p { pending = q; pace = pace_behind (signals_preamble packet) p.pace now })) (sym (more_wait core now packet (waits_in core p q from) w))
     (record {
       state = f.state;
       format = f.format;
@@ -123,7 +124,7 @@ follows_more writes job core writer left p now from q f some w is_left turn =
       left = is_left;
       t1 = f.t1;
       t4 = f.t4;
-      last = refl;
+      pace = ap (λ (v : PaceValue). pace_behind (signals_preamble packet) v now) f.pace;
       outcome = f.outcome;
     }))
 
@@ -135,10 +136,10 @@ given_turn (AwaitCfr dis dcs) formats page turn k = tt
 given_turn (AwaitMcf dis dcs) formats page turn k = k
 given_turn (Closing outcome) formats page turn k = tt
 
-pub follows_last : (writes : Writing) (job : JobValue) (core : Calling) (writer left : WriterValue) (p : Procedure) (now : ℕ)
+pub follows_last : (writes : Writing) (job : JobValue) (core : Calling) (writer left : WriterValue) (p : Procedure) (now : ℕ) (packet : Packet)
     → Follows writes job core writer p → KeepsTurn p.state pendings.Nothing core.formats p.counts.page p.turn
-    → Follows writes job (after_giving core now []) left (behind_packet pendings.Nothing p now)
-follows_last writes job core writer left p now f turn =
+    → Follows writes job (after_giving core now packet []) left (behind_packet (signals_preamble packet) pendings.Nothing p now)
+follows_last writes job core writer left p now packet f turn =
     record {
       state = ap state_when_given f.state;
       format = f.format;
@@ -151,7 +152,7 @@ follows_last writes job core writer left p now f turn =
       left = tt;
       t1 = f.t1;
       t4 = ap (λ (s : State). t4_when_given s p.t4 now) f.state ∙ ap (λ (t : Option ℕ). t4_when_given core.state t now) f.t4;
-      last = refl;
+      pace = ap (λ (v : PaceValue). pace_behind (signals_preamble packet) v now) f.pace;
       outcome = ap (λ (s : State). outcome_when_given s p.outcome) f.state ∙ ap (λ (o : Option Outcome). outcome_when_given core.state o) f.outcome;
     }
 
@@ -201,7 +202,7 @@ parts_same (suc m) (suc k) kind n os some a b x y =
 
 -- A TICK
 pub rests_now : (writes : Writing) (job : JobValue) (a : Calling) (now : ℕ) → gives_now a now ≡ false → paced writes job a now ≡ record { core = a; given = None }
-rests_now writes job a now h = by a.waiting (pace_allows a.last now) h
+rests_now writes job a now h = by a.waiting (pace_allows a.pace.last now) h
   where
     by : (due : List Due) (b : Bool) → waits due && b ≡ false → (if b then given_first writes job a now due else record { core = a; given = None }) ≡ record { core = a; given = None }
     by [] true h = refl
@@ -210,7 +211,7 @@ rests_now writes job a now h = by a.waiting (pace_allows a.last now) h
     by (d ∷ due) false h = refl
 
 pub gives_first : (writes : Writing) (job : JobValue) (a : Calling) (now : ℕ) → gives_now a now ≡ true → paced writes job a now ≡ given_first writes job a now a.waiting
-gives_first writes job a now h = by a.waiting (pace_allows a.last now) h
+gives_first writes job a now h = by a.waiting (pace_allows a.pace.last now) h
   where
     by : (due : List Due) (b : Bool) → waits due && b ≡ true → (if b then given_first writes job a now due else record { core = a; given = None }) ≡ given_first writes job a now due
     by [] true h = cc
@@ -227,7 +228,7 @@ given_some writes job a now (d ∷ due) b h = refl
 pub given_gives : (writes : Writing) (job : JobValue) (core : Calling) (now : ℕ) → gives_now (timed core now) now ≡ true → IsSome (ticked writes job core now).given
 given_gives writes job core now h =
     let a : Calling = timed core now in
-    subst (λ (t : Ticked). IsSome t.given) (sym (gives_first writes job a now h)) (given_some writes job a now a.waiting (pace_allows a.last now) h)
+    subst (λ (t : Ticked). IsSome t.given) (sym (gives_first writes job a now h)) (given_some writes job a now a.waiting (pace_allows a.pace.last now) h)
 
 pub on_err : {A E : Type 0} (r : Result A E) {P : Type 0} → P → OnErr r P
 on_err (Ok a) p = tt
@@ -274,7 +275,7 @@ check_step dcs given h = split (check_length dcs) (part_length dcs) (kind_of dcs
 
 -- THE NEXT PACKET
 abbrev Next : Writing → JobValue → Calling → Procedure → ℕ → Packet → WriterValue → Pending → Type 0
-Next writes job core p now packet left q = GivesNext writes job core now packet left (behind_packet q p now)
+Next writes job core p now packet left q = GivesNext writes job core now packet left (behind_packet (signals_preamble packet) q p now)
 
 more : (writes : Writing) (job : JobValue) (core : Calling) (writer left : WriterValue) (p : Procedure) (now from : ℕ) (packet : Packet) (q : Pending)
     → Follows writes job core writer p → Gives writes job core packet (waits_in core p q from) → (q ≡ pendings.Nothing → ⊥) → FitsPending q
@@ -282,8 +283,8 @@ more : (writes : Writing) (job : JobValue) (core : Calling) (writer left : Write
 more writes job core writer left p now from packet q f g some fits is_left turn =
     record {
       follows =
-          subst (λ (a : Calling). Follows writes job a left (behind_packet q p now)) (sym (core_behind writes job core now packet (waits_in core p q from) g))
-          (follows_more writes job core writer left p now from q f some (pending_waits q (command_behind core.formats core.pages p.counts.page) p.counts.page from fits some) is_left turn);
+          subst (λ (a : Calling). Follows writes job a left (behind_packet (signals_preamble packet) q p now)) (sym (core_behind writes job core now packet (waits_in core p q from) g))
+          (follows_more writes job core writer left p now from packet q f some (pending_waits q (command_behind core.formats core.pages p.counts.page) p.counts.page from fits some) is_left turn);
       given = packet_given writes job core now packet (waits_in core p q from) g;
     }
 
@@ -293,8 +294,8 @@ last : (writes : Writing) (job : JobValue) (core : Calling) (writer left : Write
 last writes job core writer left p now packet f g turn =
     record {
       follows =
-          subst (λ (a : Calling). Follows writes job a left (behind_packet pendings.Nothing p now)) (sym (core_behind writes job core now packet [] g))
-          (follows_last writes job core writer left p now f turn);
+          subst (λ (a : Calling). Follows writes job a left (behind_packet (signals_preamble packet) pendings.Nothing p now)) (sym (core_behind writes job core now packet [] g))
+          (follows_last writes job core writer left p now packet f turn);
       given = packet_given writes job core now packet [] g;
     }
 
@@ -400,6 +401,13 @@ is_at_same job n page value is at = let e : Some page ≡ Some value = sym is �
 text_of : (writes : Writing) (job : JobValue) (page : ℕ) (dcs : Dcs) (asks : Plain) (from : ℕ) (q : Pending) (writer : WriterValue) → q ≡ pendings.Text dcs asks → IsLeft writes job page from q writer → HasTextLeft writes job page dcs from writer
 text_of writes job page dcs asks from q writer e left = subst (λ (r : Pending). IsLeft writes job page from r writer) e left
 
+no_preamble : (b : Bool) (kind : ℕ) (all front : List ℕ) → signals_preamble (if b then Part kind true all else Part kind false front) ≡ false
+no_preamble true kind all front = refl
+no_preamble false kind all front = refl
+
+abbrev text_behind : Dcs → Plain → List ℕ → Pending
+text_behind dcs asks left = if nat_le (length left) (part_length dcs) then pendings.Preamble (messages.Plain asks) else pendings.Text dcs asks
+
 -- a packet of a text, whatever is left of it to the writer
 pub text_gives : (writes : Writing) (job : JobValue) (core : Calling) (writer new : WriterValue) (p : Procedure) (now : ℕ) (dcs : Dcs) (asks : Plain) (page : PageValue) (octets : List ℕ) (is_last : Bool)
     → IsFit p → Follows writes job core writer p → p.pending ≡ pendings.Text dcs asks → slice_get job.pages p.counts.page ≡ Some page
@@ -411,10 +419,11 @@ text_gives writes job core writer new p now dcs asks page octets is_last fit f e
       packet = text_part dcs left;
       octets = ap (λ (os : List ℕ). Some os) (packet_is left has);
       next =
-          subst (λ (q : Pending). GivesNext writes job core now (text_part dcs left) new (behind_packet (pending_behind q (command_kept p) is_last) p now)) (sym e)
-          (subst (λ (b : Bool). Next writes job core p now (text_part dcs left) new (if b then pendings.Preamble (messages.Plain asks) else pendings.Text dcs asks)) (sym (last_is left has))
+          subst (λ (q : Pending). GivesNext writes job core now (text_part dcs left) new (behind_packet (signals_preamble (packet_of q)) (pending_behind q (command_kept p) is_last) p now)) (sym e)
+          (subst (λ (b : Bool). GivesNext writes job core now (text_part dcs left) new (behind_packet false (if b then pendings.Preamble (messages.Plain asks) else pendings.Text dcs asks) p now)) (sym (last_is left has))
+          (subst (λ (b : Bool). GivesNext writes job core now (text_part dcs left) new (behind_packet b (text_behind dcs asks left) p now)) (no_preamble (nat_le (length left) (part_length dcs)) (kind_of dcs.rate) left (take (part_length dcs) left))
           (text_next writes job core writer new p now f.from dcs asks left (nat_le (length left) (part_length dcs)) f refl waits_so refl more_so
-          (λ r. turn_kept p.state p.pending r core.formats p.counts.page p.turn (λ d k. let both : pendings.Text dcs asks ≡ pendings.Image d = sym e ∙ k in cc) f.turn)));
+          (λ r. turn_kept p.state p.pending r core.formats p.counts.page p.turn (λ d k. let both : pendings.Text dcs asks ≡ pendings.Image d = sym e ∙ k in cc) f.turn))));
     }
   where
     left : List ℕ
@@ -436,7 +445,7 @@ pub image_next : (writes : Writing) (job : JobValue) (core : Calling) (writer ma
     → p.pending ≡ pendings.Image dcs → HasTextLeft writes job p.counts.page dcs 0 made
     → GivesNext writes job core now (packet_of p.pending) made (given_by (with_turn p job) false now)
 image_next writes job core writer made p now dcs fit f e has =
-    subst (λ (q : Pending). GivesNext writes job core now (packet_of q) made (behind_packet (pending_behind q (command_kept told) false) told now)) (sym e)
+    subst (λ (q : Pending). GivesNext writes job core now (packet_of q) made (behind_packet (signals_preamble (packet_of q)) (pending_behind q (command_kept told) false) told now)) (sym e)
     (more writes job core writer made told now 0 (packet_of (pendings.Image dcs)) (pendings.Text dcs (command_kept told)) follows
     (gives_one writes job core (packet_of (pendings.Image dcs)) (Text p.counts.page dcs 0 ∷ command (command_kept told)) waits_so) (λ h. cc) tt has
     (turn_named p.state (pendings.Text dcs (command_kept told)) core.formats p.counts.page told.turn turn_so))
@@ -471,7 +480,7 @@ image_next writes job core writer made p now dcs fit f e has =
       left = f.left;
       t1 = f.t1;
       t4 = f.t4;
-      last = f.last;
+      pace = f.pace;
       outcome = f.outcome;
     }
 
@@ -518,40 +527,40 @@ on_given (Ok a) Q R q f = f q
 on_given (Err a) Q R q f = tt
 
 -- the job stays that of the call
-pub job_kept : (p : Procedure) (q : Pending) (now : ℕ) (job : JobValue) → KeepsTurn p.state q (formats_of job) p.counts.page p.turn → HasFormats p job
-    → HasFormats (behind_packet q p now) job
-job_kept p pendings.Nothing now job turn is = record { pages = is.pages; due = is.due; turn = given_turn p.state (formats_of job) p.counts.page p.turn turn }
-job_kept p pendings.Tone now job turn is = record { pages = is.pages; due = is.due; turn = turn }
-job_kept p (pendings.Preamble m) now job turn is = record { pages = is.pages; due = is.due; turn = turn }
-job_kept p (pendings.Frame m) now job turn is = record { pages = is.pages; due = is.due; turn = turn }
-job_kept p (pendings.Training dcs) now job turn is = record { pages = is.pages; due = is.due; turn = turn }
-job_kept p (pendings.Check dcs given) now job turn is = record { pages = is.pages; due = is.due; turn = turn }
-job_kept p (pendings.Image dcs) now job turn is = record { pages = is.pages; due = is.due; turn = turn }
-job_kept p (pendings.Text dcs plain) now job turn is = record { pages = is.pages; due = is.due; turn = turn }
+pub job_kept : (b : Bool) (p : Procedure) (q : Pending) (now : ℕ) (job : JobValue) → KeepsTurn p.state q (formats_of job) p.counts.page p.turn → HasFormats p job
+    → HasFormats (behind_packet b q p now) job
+job_kept b p pendings.Nothing now job turn is = record { pages = is.pages; due = is.due; turn = given_turn p.state (formats_of job) p.counts.page p.turn turn }
+job_kept b p pendings.Tone now job turn is = record { pages = is.pages; due = is.due; turn = turn }
+job_kept b p (pendings.Preamble m) now job turn is = record { pages = is.pages; due = is.due; turn = turn }
+job_kept b p (pendings.Frame m) now job turn is = record { pages = is.pages; due = is.due; turn = turn }
+job_kept b p (pendings.Training dcs) now job turn is = record { pages = is.pages; due = is.due; turn = turn }
+job_kept b p (pendings.Check dcs given) now job turn is = record { pages = is.pages; due = is.due; turn = turn }
+job_kept b p (pendings.Image dcs) now job turn is = record { pages = is.pages; due = is.due; turn = turn }
+job_kept b p (pendings.Text dcs plain) now job turn is = record { pages = is.pages; due = is.due; turn = turn }
 
 -- so where a packet is given that is no short training indicator, and where one is
 pub packet_job : (p : Procedure) (last : Bool) (now : ℕ) (job : JobValue) → ((dcs : Dcs) → p.pending ≡ pendings.Image dcs → ⊥) → HasFormats p job → HasFormats (given_by p last now) job
 packet_job p last now job other is =
     let q : Pending = pending_behind p.pending (command_kept p) last in
-    job_kept p q now job (turn_kept p.state p.pending q (formats_of job) p.counts.page p.turn other is.turn) is
+    job_kept (signals_preamble (packet_of p.pending)) p q now job (turn_kept p.state p.pending q (formats_of job) p.counts.page p.turn other is.turn) is
 
 pub image_job : (p : Procedure) (last : Bool) (now : ℕ) (job : JobValue) → HasFormats p job → HasFormats (given_by (with_turn p job) last now) job
 image_job p last now job is =
     let told : Procedure = with_turn p job in
     let q : Pending = pending_behind p.pending (command_kept told) last in
-    job_kept told q now job (turn_named p.state q (formats_of job) p.counts.page told.turn refl)
+    job_kept (signals_preamble (packet_of p.pending)) told q now job (turn_named p.state q (formats_of job) p.counts.page told.turn refl)
     (record { pages = is.pages; due = is.due; turn = turn_named p.state p.pending (formats_of job) p.counts.page told.turn refl })
 
 -- something is left of a text while it is given
-pub given_pending : (q : Pending) (p : Procedure) (now : ℕ) → (behind_packet q p now).pending ≡ q
-given_pending pendings.Nothing p now = refl
-given_pending pendings.Tone p now = refl
-given_pending (pendings.Preamble m) p now = refl
-given_pending (pendings.Frame m) p now = refl
-given_pending (pendings.Training dcs) p now = refl
-given_pending (pendings.Check dcs given) p now = refl
-given_pending (pendings.Image dcs) p now = refl
-given_pending (pendings.Text dcs plain) p now = refl
+pub given_pending : (b : Bool) (q : Pending) (p : Procedure) (now : ℕ) → (behind_packet b q p now).pending ≡ q
+given_pending b pendings.Nothing p now = refl
+given_pending b pendings.Tone p now = refl
+given_pending b (pendings.Preamble m) p now = refl
+given_pending b (pendings.Frame m) p now = refl
+given_pending b (pendings.Training dcs) p now = refl
+given_pending b (pendings.Check dcs given) p now = refl
+given_pending b (pendings.Image dcs) p now = refl
+given_pending b (pendings.Text dcs plain) p now = refl
 
 pub has_behind : (q : Pending) (asks : Plain) (writer : WriterValue) → ((dcs : Dcs) → q ≡ pendings.Image dcs → ⊥) → ((dcs : Dcs) (plain : Plain) → q ≡ pendings.Text dcs plain → ⊥)
     → HasText (pending_behind q asks false) writer

@@ -17,7 +17,7 @@ use Rattle.fax_jobs.specs.Jobs.{JobValue}
 use Rattle.fax_call.specs.declared.state.State.{State}
 use Rattle.fax_call.specs.declared.state.State.TheVariants.{Idle, AwaitDis, AwaitCfr, AwaitMcf, Closing}
 use Rattle.fax_call.specs.Writings.{Writing}
-use Rattle.fax_call.specs.Replies.{Due, waits, is_last_page, turn_behind}
+use Rattle.fax_call.specs.Replies.{Packet, Due, waits, is_last_page, turn_behind}
 use Rattle.fax_call.specs.Table.{Counts, Move, Stays, Trains, Sends, AsksAgain, Turns, Closes, HangsUp, first_try, next_try, next_step, next_page, one_delivered, one_refused, most_tries, by_choice, turns_or, on_frame, gives_up_dis, on_timers}
 use Rattle.fax_call.specs.Calls.{Calling, started, moved, came, timed, taken, state_when_given, after_giving, Ticked, given_first, ticked, CallEvent, Comes, Ticks, after_events}
 use Rattle.fax_call.specs.GivingUp.{leaves_choice, is_accepted, accepts, was_accepted, TellsWhyItGaveUp}
@@ -137,16 +137,16 @@ given_tells (AwaitCfr dis dcs) d accepted h = h
 given_tells (AwaitMcf dis dcs) d accepted h = h
 given_tells (Closing outcome) d accepted h = tt
 
-after_tells : (a : Calling) (now : ℕ) (rest : List Due) (accepted : Bool) → CoreTells a accepted → CoreTells (after_giving a now rest) accepted
-after_tells a now [] accepted h = given_tells a.state a.counts.delivered accepted h
-after_tells a now (r ∷ rest) accepted h = h
+after_tells : (a : Calling) (now : ℕ) (packet : Packet) (rest : List Due) (accepted : Bool) → CoreTells a accepted → CoreTells (after_giving a now packet rest) accepted
+after_tells a now packet [] accepted h = given_tells a.state a.counts.delivered accepted h
+after_tells a now packet (r ∷ rest) accepted h = h
 
 first_tells : (writes : Writing) (job : JobValue) (a : Calling) (now : ℕ) (due : List Due) (accepted : Bool) → CoreTells a accepted → CoreTells (given_first writes job a now due).core accepted
 first_tells writes job a now [] accepted h = h
-first_tells writes job a now (r ∷ due) accepted h = after_tells a now (taken writes job r due).rest accepted h
+first_tells writes job a now (r ∷ due) accepted h = after_tells a now (taken writes job r due).packet (taken writes job r due).rest accepted h
 
 ticked_tells : (writes : Writing) (job : JobValue) (a : Calling) (now : ℕ) (accepted : Bool) → CoreTells a accepted → CoreTells (ticked writes job a now).core accepted
-ticked_tells writes job a now accepted h = by (timed a now) (timed_tells a now accepted h) (pace_allows (timed a now).last now)
+ticked_tells writes job a now accepted h = by (timed a now) (timed_tells a now accepted h) (pace_allows (timed a now).pace.last now)
   where
     by : (b : Calling) → CoreTells b accepted → (t : Bool) → CoreTells (if◌then◌else◌ {A = Ticked} t (given_first writes job b now b.waiting) (record { core = b; given = None })).core accepted
     by b k true = first_tells writes job b now b.waiting accepted k
@@ -171,7 +171,7 @@ outcome_by delivered false h = ap (λ (t : Bool). if◌then◌else◌ {A = Outco
 closes_so : (writes : Writing) (job : JobValue) (a : Calling) (now : ℕ) → a.state ≡ AwaitDis → a.waiting ≡ [] → is_due a.t1 now ≡ true
     → (ticked writes job a now).core.state ≡ Closing (if nat_eq a.counts.delivered 0 then outcomes.NoAnswer else outcomes.NoReply)
 closes_so writes job a now state none due =
-    ap (λ (m : Move). given m) move ∙ by (pace_allows a.last now)
+    ap (λ (m : Move). given m) move ∙ by (pace_allows a.pace.last now)
   where
     given : Move → State
     given m = (Rattle.fax_call.specs.Calls.paced writes job (moved a m) now).core.state

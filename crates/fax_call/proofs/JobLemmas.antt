@@ -36,7 +36,7 @@ core_of p job =
       waiting = waiting_of p.pending (command_behind (formats_of job) p.pages p.counts.page) p.counts.page 0;
       t1 = p.t1;
       t4 = p.t4;
-      last = p.pace;
+      pace = p.pace;
       outcome = p.outcome;
     }
 
@@ -91,7 +91,7 @@ follows_itself job p h =
       left = none_left job p.counts.page p.pending;
       t1 = refl;
       t4 = refl;
-      last = refl;
+      pace = refl;
       outcome = refl;
     }
 

@@ -150,16 +150,16 @@ given_held (AwaitCfr dis dcs) format o h = h
 given_held (AwaitMcf dis dcs) format o h = h
 given_held (Closing x) format o h = tt
 
-after_held : (a : Calling) (o : Option Dis) (now : ℕ) (rest : List Due) → Held a o → Held (after_giving a now rest) o
-after_held a o now [] h = given_held a.state a.format o h
-after_held a o now (d ∷ rest) h = h
+after_held : (a : Calling) (o : Option Dis) (now : ℕ) (packet : Packet) (rest : List Due) → Held a o → Held (after_giving a now packet rest) o
+after_held a o now packet [] h = given_held a.state a.format o h
+after_held a o now packet (d ∷ rest) h = h
 
 first_held : (writes : Writing) (job : JobValue) (a : Calling) (o : Option Dis) (now : ℕ) (due : List Due) → Held a o → Held (given_first writes job a now due).core o
 first_held writes job a o now [] h = h
-first_held writes job a o now (d ∷ due) h = after_held a o now (taken writes job d due).rest h
+first_held writes job a o now (d ∷ due) h = after_held a o now (taken writes job d due).packet (taken writes job d due).rest h
 
 ticked_held : (writes : Writing) (job : JobValue) (a : Calling) (o : Option Dis) (now : ℕ) → Held a o → Held (ticked writes job a now).core o
-ticked_held writes job a o now h = by (timed a now) (timed_held a o now h) (pace_allows (timed a now).last now)
+ticked_held writes job a o now h = by (timed a now) (timed_held a o now h) (pace_allows (timed a now).pace.last now)
   where
     by : (b : Calling) → Held b o → (t : Bool) → Held (if◌then◌else◌ {A = Ticked} t (given_first writes job b now b.waiting) (record { core = b; given = None })).core o
     by b k true = first_held writes job b o now b.waiting k
@@ -268,7 +268,7 @@ first_ends texts job a now marks packet (Text m dcs from ∷ due) e g is h =
         }
 
 paced_ends : (texts : Texts) (job : JobValue) (a : Calling) (now : ℕ) (marks : List Mark) (packet : Packet) → Good texts job a marks → (paced texts.writes job a now).given ≡ Some packet → EndsImage (elements_in packet) marks → InMcf texts job a marks packet
-paced_ends texts job a now marks packet g is h = by (pace_allows a.last now) is
+paced_ends texts job a now marks packet g is h = by (pace_allows a.pace.last now) is
   where
     by : (w : Bool) → (if◌then◌else◌ {A = Ticked} w (given_first texts.writes job a now a.waiting) (record { core = a; given = None })).given ≡ Some packet → InMcf texts job a marks packet
     by true q = first_ends texts job a now marks packet a.waiting refl g q h

@@ -46,7 +46,7 @@ trains writes job core writer left p dis dcs c f on =
       left = tt;
       t1 = refl;
       t4 = refl;
-      last = f.last;
+      pace = f.pace;
       outcome = f.outcome;
     }
 
@@ -65,7 +65,7 @@ sends writes job core writer left p dis dcs c f on =
       left = tt;
       t1 = refl;
       t4 = refl;
-      last = f.last;
+      pace = f.pace;
       outcome = f.outcome;
     }
 
@@ -100,7 +100,7 @@ asks_again writes job core writer left p c f on none awaits page =
       left = tt;
       t1 = refl;
       t4 = refl;
-      last = f.last;
+      pace = f.pace;
       outcome = f.outcome;
     }
   where
@@ -136,7 +136,7 @@ turns writes job core writer left p format now c f on =
       left = tt;
       t1 = refl;
       t4 = refl;
-      last = f.last;
+      pace = f.pace;
       outcome = f.outcome;
     }
 
@@ -155,6 +155,6 @@ closes writes job core writer left p outcome c f on =
       left = tt;
       t1 = refl;
       t4 = refl;
-      last = f.last;
+      pace = f.pace;
       outcome = f.outcome;
     }

@@ -348,13 +348,13 @@ all_taken : (P : Dcs → Type 0) (writes : Writing) (job : JobValue) (d : Due) (
 all_taken P writes job (One p) due h = record { packet = h.0; rest = h.1 }
 all_taken P writes job (Text n dcs from) due h = text_taken P n dcs from (text_at writes job n dcs) due h
 
-after_due : (P : Dcs → Type 0) (a : Calling) (now : ℕ) (due : List Due) → AllDue P due → AllDue P (after_giving a now due).waiting
-after_due P a now [] h = tt
-after_due P a now (d ∷ due) h = h
+after_due : (P : Dcs → Type 0) (a : Calling) (now : ℕ) (packet : Packet) (due : List Due) → AllDue P due → AllDue P (after_giving a now packet due).waiting
+after_due P a now packet [] h = tt
+after_due P a now packet (d ∷ due) h = h
 
-after_format : (a : Calling) (now : ℕ) (due : List Due) → (after_giving a now due).format ≡ a.format
-after_format a now [] = refl
-after_format a now (d ∷ due) = refl
+after_format : (a : Calling) (now : ℕ) (packet : Packet) (due : List Due) → (after_giving a now packet due).format ≡ a.format
+after_format a now packet [] = refl
+after_format a now packet (d ∷ due) = refl
 
 early_given : (state : State) → IsEarly state → IsEarly (state_when_given state)
 early_given Idle h = tt
@@ -370,13 +370,13 @@ late_given f k (AwaitCfr dis dcs) h = h
 late_given f k (AwaitMcf dis dcs) h = h
 late_given f k (Closing o) h = tt
 
-early_after : (a : Calling) (now : ℕ) (due : List Due) → IsEarly a.state → IsEarly (after_giving a now due).state
-early_after a now [] h = early_given a.state h
-early_after a now (d ∷ due) h = h
+early_after : (a : Calling) (now : ℕ) (packet : Packet) (due : List Due) → IsEarly a.state → IsEarly (after_giving a now packet due).state
+early_after a now packet [] h = early_given a.state h
+early_after a now packet (d ∷ due) h = h
 
-late_after : (f : Format) (k : Coding) (a : Calling) (now : ℕ) (due : List Due) → StateKind f k a.state → StateKind f k (after_giving a now due).state
-late_after f k a now [] h = late_given f k a.state h
-late_after f k a now (d ∷ due) h = h
+late_after : (f : Format) (k : Coding) (a : Calling) (now : ℕ) (packet : Packet) (due : List Due) → StateKind f k a.state → StateKind f k (after_giving a now packet due).state
+late_after f k a now packet [] h = late_given f k a.state h
+late_after f k a now packet (d ∷ due) h = h
 
 -- what was to be told is told or is to be told still
 any_first : (p : Packet) (given : List Packet) → tells_eom p ≡ true → TellsEom (p ∷ given)
@@ -413,7 +413,7 @@ abbrev AsksOf : Calling → List Packet → Type 0
 AsksOf a given = Asks a.formats a.pages a.state a.counts a.waiting given
 
 after_asks : (writes : Writing) (job : JobValue) (a : Calling) (now : ℕ) (d : Due) (due : List Due) (given : List Packet) → Asks a.formats a.pages a.state a.counts (d ∷ due) given →
-    let t : Taken = taken writes job d due in AsksOf (after_giving a now t.rest) (t.packet ∷ given)
+    let t : Taken = taken writes job d due in AsksOf (after_giving a now t.packet t.rest) (t.packet ∷ given)
 after_asks writes job a now d due given h =
     by (taken writes job d due).rest a.state (λ x. taken_to_tell writes job d due given x) h
   where
@@ -435,7 +435,7 @@ after_asks writes job a now d due given h =
     ended (AwaitMcf dis dcs) h = h
 
     by : (rest : List Due) (state : State) → (IsToTell (d ∷ due) given → IsToTell rest (packet ∷ given)) → Asks a.formats a.pages state a.counts (d ∷ due) given
-        → AsksOf (after_giving (record a { state = state }) now rest) (packet ∷ given)
+        → AsksOf (after_giving (record a { state = state }) now packet rest) (packet ∷ given)
     by [] state g h = ended state (of [] state g h)
     by (x ∷ rest) state g h = of (x ∷ rest) state g h
 
@@ -446,17 +446,19 @@ first_stage : (f : Format) (writes : Writing) (job : JobValue) (a : Calling) (no
 first_stage f writes job a now [] given e s = s
 first_stage f writes job a now (d ∷ due) given e (IsBefore s) =
     let t = all_taken Never writes job d due (subst (AllDue Never) e s.due) in
+    let packet : Packet = (taken writes job d due).packet in
     let rest : List Due = (taken writes job d due).rest in
-    IsBefore (record { format = after_format a now rest ∙ s.format; state = early_after a now rest s.state; due = after_due Never a now rest t.rest; given_so = (t.packet, s.given_so) })
+    IsBefore (record { format = after_format a now packet rest ∙ s.format; state = early_after a now packet rest s.state; due = after_due Never a now packet rest t.rest; given_so = (t.packet, s.given_so) })
 first_stage f writes job a now (d ∷ due) given e (IsBehind s) =
     let P : Dcs → Type 0 = IsOfKind f s.coding in
     let t = all_taken P writes job d due (subst (AllDue P) e s.due) in
+    let packet : Packet = (taken writes job d due).packet in
     let rest : List Due = (taken writes job d due).rest in
     IsBehind (record {
       coding = s.coding;
-      format = after_format a now rest ∙ s.format;
-      state = late_after f s.coding a now rest s.state;
-      due = after_due P a now rest t.rest;
+      format = after_format a now packet rest ∙ s.format;
+      state = late_after f s.coding a now packet rest s.state;
+      due = after_due P a now packet rest t.rest;
       asks = after_asks writes job a now d due given (subst (λ (w : List Due). Asks a.formats a.pages a.state a.counts w given) e s.asks);
       given_so = (t.packet, s.given_so);
     })
@@ -487,7 +489,7 @@ stage f writes job a (Ticks now ∷ before) s =
     let given : List Packet = packets_given writes job a before in
     let b : Calling = timed (after_events writes job a before) now in
     let u : Stage f b given = timed_stage f (after_events writes job a before) now given (stage f writes job a before s) in
-    paced_stage f (pace_allows b.last now) b (given_first writes job b now b.waiting) given u (first_stage f writes job b now b.waiting given refl u)
+    paced_stage f (pace_allows b.pace.last now) b (given_first writes job b now b.waiting) given u (first_stage f writes job b now b.waiting given refl u)
 
 one_of : (f : Format) (a : Calling) (given : List Packet) → Stage f a given → list_any tells_eom given ≡ false → (coding : Coding) × EachDcs (IsOfKind f coding) given
 one_of f a given (IsBefore s) n = (Mh, no_dcs (IsOfKind f Mh) given s.given_so)

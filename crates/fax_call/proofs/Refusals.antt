@@ -17,7 +17,7 @@ use Rattle.fax_jobs.specs.Jobs.{JobValue}
 use Rattle.fax_call.specs.declared.state.State.{State}
 use Rattle.fax_call.specs.declared.state.State.TheVariants.{Idle, AwaitDis, AwaitCfr, AwaitMcf, Closing}
 use Rattle.fax_call.specs.Writings.{Writing}
-use Rattle.fax_call.specs.Replies.{Due, waits, is_last_page, turn_behind}
+use Rattle.fax_call.specs.Replies.{Packet, Due, waits, is_last_page, turn_behind}
 use Rattle.fax_call.specs.Table.{Counts, Move, Stays, Trains, Sends, AsksAgain, Closes, first_try, next_try, next_step, next_page, one_delivered, one_refused, most_tries, outcome_of, by_choice, tries_again, asks_again, on_frame, on_timers, turns_or, gives_up_dis}
 use Rattle.fax_call.specs.Calls.{Calling, started, moved, heard, came, timed, taken, state_when_given, outcome_when_given, after_giving, Ticked, given_first, ticked, CallEvent, Comes, Ticks, after_events}
 use Rattle.fax_call.specs.Refusals.{EndsByRefusal}
@@ -73,12 +73,12 @@ given_closes : (x : Outcome) (a : Calling) (writes : Writing) (job : JobValue) (
 given_closes x a writes job now [] c = c
 given_closes x a writes job now (d ∷ due) c = by (taken writes job d due).rest
   where
-    by : (rest : List Due) → ClosesWith x (after_giving a now rest)
+    by : (rest : List Due) → ClosesWith x (after_giving a now (taken writes job d due).packet rest)
     by [] = given_last_closes x a.state a.outcome c
     by (r ∷ rest) = c
 
 ticked_closes : (x : Outcome) (a : Calling) (writes : Writing) (job : JobValue) (now : ℕ) → ClosesWith x a → ClosesWith x (ticked writes job a now).core
-ticked_closes x a writes job now c = by (timed a now) (timed_closes x a now c) (pace_allows (timed a now).last now)
+ticked_closes x a writes job now c = by (timed a now) (timed_closes x a now c) (pace_allows (timed a now).pace.last now)
   where
     by : (b : Calling) → ClosesWith x b → (t : Bool) → ClosesWith x (if◌then◌else◌ {A = Ticked} t (given_first writes job b now b.waiting) (record { core = b; given = None })).core
     by b c true = given_closes x b writes job now b.waiting c
@@ -170,19 +170,19 @@ given_last_step (AwaitMcf dis dcs) c h = tt
 given_last_step (Closing x) c h = tt
 
 ticked_step : (a : Calling) (writes : Writing) (job : JobValue) (now : ℕ) → HasStep a → HasStep (ticked writes job a now).core
-ticked_step a writes job now h = by (timed a now) (in_time (waits a.waiting)) (pace_allows (timed a now).last now)
+ticked_step a writes job now h = by (timed a now) (in_time (waits a.waiting)) (pace_allows (timed a now).pace.last now)
   where
     in_time : (t : Bool) → HasStep (moved a (if t then Stays else on_timers (is_due a.t1 now) (is_due a.t4 now) a.state a.counts))
     in_time true = h
     in_time false = timer_step a now a.state refl h
 
-    after : (b : Calling) → HasStep b → (rest : List Due) → HasStep (after_giving b now rest)
-    after b k [] = given_last_step b.state b.counts k
-    after b k (d ∷ due) = k
+    after : (b : Calling) → HasStep b → (packet : Packet) (rest : List Due) → HasStep (after_giving b now packet rest)
+    after b k packet [] = given_last_step b.state b.counts k
+    after b k packet (d ∷ due) = k
 
     first : (b : Calling) → HasStep b → (due : List Due) → HasStep (given_first writes job b now due).core
     first b k [] = k
-    first b k (d ∷ due) = after b k (taken writes job d due).rest
+    first b k (d ∷ due) = after b k (taken writes job d due).packet (taken writes job d due).rest
 
     by : (b : Calling) → HasStep b → (t : Bool) → HasStep (if◌then◌else◌ {A = Ticked} t (given_first writes job b now b.waiting) (record { core = b; given = None })).core
     by b k true = first b k b.waiting

@@ -20,7 +20,7 @@ use Rattle.fax_jobs.specs.declared.outcome.Outcome.TheVariants as outcomes
 use Rattle.fax_jobs.specs.Jobs.{JobValue, IsJob}
 use Rattle.fax_call.specs.declared.state.State.{State}
 use Rattle.fax_call.specs.declared.state.State.TheVariants.{Idle, AwaitDis, AwaitCfr, AwaitMcf, Closing}
-use Rattle.fax_call.specs.Replies.{Due, One, Text, is_last_page, command, goodbye, waits, turn_behind, command_behind}
+use Rattle.fax_call.specs.Replies.{Packet, Due, One, Text, is_last_page, command, goodbye, waits, turn_behind, command_behind}
 use Rattle.fax_call.specs.Table.{Counts, Move, Stays, Trains, Sends, AsksAgain, Closes, HangsUp, outcome_of, first_try, next_try, next_step, next_page, one_delivered, one_refused, by_choice, tries_again, asks_again, after_refusal, on_frame, on_timers, turns_or, gives_up_dis}
 use Rattle.fax_call.specs.Calls.{Calling, started, moved, came, timed, Taken, taken, state_when_given, outcome_when_given, after_giving, given_first, paced, ticked, Ticked}
 use Rattle.fax_call.specs.Emission.{Emission, Mark, Gave, Begins, gave_all, elements_given, acknowledged_by, marks_heard, marks_given, is_preamble, Reply, Asked, Unasked, Answered, closed, reply_given, reply_or, reply_heard, replied, IsAnswered, Emits}
@@ -258,9 +258,9 @@ tally_when_given job AwaitDis pages c o marks t = t
 tally_when_given job (AwaitCfr dis dcs) pages c o marks t = t
 tally_when_given job (AwaitMcf dis dcs) pages c o marks t = t
 
-after_tally : (job : JobValue) (a : Calling) (now : ℕ) (rest : List Due) (marks : List Mark) → TallyOf job a.state a.pages a.counts a.outcome rest marks → Tally job (after_giving a now rest) marks
-after_tally job a now [] marks t = tally_when_given job a.state a.pages a.counts a.outcome marks t
-after_tally job a now (d ∷ due) marks t = t
+after_tally : (job : JobValue) (a : Calling) (now : ℕ) (packet : Packet) (rest : List Due) (marks : List Mark) → TallyOf job a.state a.pages a.counts a.outcome rest marks → Tally job (after_giving a now packet rest) marks
+after_tally job a now packet [] marks t = tally_when_given job a.state a.pages a.counts a.outcome marks t
+after_tally job a now packet (d ∷ due) marks t = t
 
 quiet_acked : (texts : Texts) (job : JobValue) (page n : ℕ) (Post : List elements.Element → Type 0) (d : Due) (due : List Due) (marks : List Mark) → SafeTo texts job page Post (d ∷ due) (elements_given marks) →
     Keeps (d ∷ due) (elements_given marks) × IsAcked job n marks → Keeps (taken texts.writes job d due).rest (elements_given (gave_all (elements_in (taken texts.writes job d due).packet) marks)) × IsAcked job n (gave_all (elements_in (taken texts.writes job d due).packet) marks)
@@ -287,14 +287,14 @@ first_tally : (texts : Texts) (job : JobValue) (a : Calling) (now : ℕ) (marks 
 first_tally texts job a now marks [] h g t = t
 first_tally texts job a now marks (d ∷ due) h g t =
     let k : Taken = taken texts.writes job d due in
-    after_tally job a now k.rest (gave_all (elements_in k.packet) marks) (
+    after_tally job a now k.packet k.rest (gave_all (elements_in k.packet) marks) (
       t.0,
       acked_given texts job a.state a.counts.page a.counts.delivered d due marks (subst (λ (w : List Due). SafeTo texts job a.counts.page (PostOf a.state) w (elements_given marks)) h g.kept.safe)
           (subst (λ (w : List Due). Acked job a.state w a.counts.delivered marks) h t.1),
     )
 
 paced_tally : (texts : Texts) (job : JobValue) (a : Calling) (now : ℕ) (marks : List Mark) → Good texts job a marks → Tally job a marks → Tally job (paced texts.writes job a now).core (marks_given (paced texts.writes job a now).given marks)
-paced_tally texts job a now marks g t = by (pace_allows a.last now)
+paced_tally texts job a now marks g t = by (pace_allows a.pace.last now)
   where
     by : (w : Bool) → Tally job (if◌then◌else◌ {A = Ticked} w (given_first texts.writes job a now a.waiting) (record { core = a; given = None })).core (marks_given (if◌then◌else◌ {A = Ticked} w (given_first texts.writes job a now a.waiting) (record { core = a; given = None })).given marks)
     by true = first_tally texts job a now marks a.waiting refl g t

@@ -58,8 +58,8 @@ ticks_idle : (writes : Writing) (job : JobValue) (a : Calling) (now : ℕ) → a
 ticks_idle writes job a now e w =
     ap (λ (due : List Due). paced writes job (moved a (if waits due then Stays else on_timers (is_due a.t1 now) (is_due a.t4 now) a.state a.counts)) now) w
     ∙ ap (λ (state : State). paced writes job (moved a (on_timers (is_due a.t1 now) (is_due a.t4 now) state a.counts)) now) e
-    ∙ ap (λ (due : List Due). if◌then◌else◌ {A = Ticked} (pace_allows a.last now) (given_first writes job a now due) (record { core = a; given = None })) w
-    ∙ by (pace_allows a.last now)
+    ∙ ap (λ (due : List Due). if◌then◌else◌ {A = Ticked} (pace_allows a.pace.last now) (given_first writes job a now due) (record { core = a; given = None })) w
+    ∙ by (pace_allows a.pace.last now)
   where
     by : (t : Bool) → if◌then◌else◌ {A = Ticked} t (record { core = a; given = None }) (record { core = a; given = None }) ≡ record { core = a; given = None }
     by true = refl

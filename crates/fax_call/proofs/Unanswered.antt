@@ -6,7 +6,7 @@ use Rattle.fax_frames.specs.declared.frame.Frame.TheVariants as frames
 use Rattle.fax_frames.specs.Rates.{kind_of}
 use Rattle.fax_frames.specs.Frames.{frame_of}
 use Rattle.fax_timers.specs.Paces.{pace_allows}
-use Rattle.fax_timers.specs.Spans.{pace}
+use Rattle.fax_timers.specs.Spans.{longest_pause}
 use Rattle.fax_ifp.specs.Elements as elements
 use Rattle.fax_ifp.specs.Pieces as pieces
 use Rattle.fax_jobs.specs.Jobs.{JobValue}
@@ -148,7 +148,7 @@ first_open L texts job a now marks (d ∷ due) h g s k =
 
 paced_open : (L : Type 0) (texts : Texts) (job : JobValue) (a : Calling) (now : ℕ) (marks : List Mark) → Good texts job a marks → IsTimed L a now marks → IsAsking L marks →
     IsAsking L (marks_given (paced texts.writes job a now).given marks)
-paced_open L texts job a now marks g (inl s) k = by (pace_allows a.last now)
+paced_open L texts job a now marks g (inl s) k = by (pace_allows a.pace.last now)
   where
     by : (w : Bool) → IsAsking L (marks_given (paced_by texts job a now a.waiting w).given marks)
     by true = first_open L texts job a now marks a.waiting refl g s k
@@ -158,6 +158,6 @@ paced_open L texts job a now marks g (inr e) k =
     (subst (λ (due : List Due). IsAsking L (marks_given (given_first texts.writes job a now due).given marks)) (sym e.first)
     (text_open L (Signals 3) marks (signal_asks_nothing 3 (elements_given marks) (omega arith)) k))
 
-pub ticked_open : (L : Type 0) (texts : Texts) (job : JobValue) (a : Calling) (now : ℕ) (marks : List Mark) → (2 ^ 64 ≤ now + pace → L) → Good texts job a marks → Timed a → IsRunning L a marks →
+pub ticked_open : (L : Type 0) (texts : Texts) (job : JobValue) (a : Calling) (now : ℕ) (marks : List Mark) → (2 ^ 64 ≤ now + longest_pause → L) → Good texts job a marks → Timed a → IsRunning L a marks →
     IsAsking L marks → IsAsking L (marks_given (ticked texts.writes job a now).given marks)
 ticked_open L texts job a now marks f g h s k = paced_open L texts job (timed a now) now marks (timed_good texts job a now marks g) (timed_counted L a now marks f h s) k

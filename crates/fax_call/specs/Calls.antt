@@ -7,7 +7,7 @@ use Rattle.fax_frames.specs.Capabilities.{coding_of, least_bits_of}
 use Rattle.fax_frames.specs.Frames.{frame_of}
 use Rattle.fax_frames.specs.Rates.{kind_of}
 use Rattle.fax_timers.specs.Moments.{moment_after, is_due}
-use Rattle.fax_timers.specs.Paces.{pace_allows}
+use Rattle.fax_timers.specs.Paces.{PaceValue, new_pace, pace_allows, pace_behind}
 use Rattle.fax_timers.specs.Spans as spans
 use Rattle.fax_pagestore.specs.Pages.{PageValue}
 use Rattle.fax_ifp.specs.Pieces as pieces
@@ -17,11 +17,11 @@ use Rattle.fax_jobs.specs.Jobs.{JobValue}
 use Rattle.fax_call.specs.declared.state.State.{State}
 use Rattle.fax_call.specs.declared.state.State.TheVariants.{Idle, AwaitDis, AwaitCfr, AwaitMcf, Closing}
 use Rattle.fax_call.specs.Writings.{Writing}
-use Rattle.fax_call.specs.Replies.{Packet, Part, Due, One, Text, waits, part_length, calling_tone, training, command_behind, turn_behind, command, image, goodbye}
+use Rattle.fax_call.specs.Replies.{Packet, Part, Due, One, Text, waits, signals_preamble, part_length, calling_tone, training, command_behind, turn_behind, command, image, goodbye}
 use Rattle.fax_call.specs.Table.{Counts, no_counts, Move, Stays, Trains, Sends, AsksAgain, Turns, Closes, HangsUp, on_frame, on_timers}
 
 -- the calling side: its state, the format of the page due, those of all pages, the number of pages, its counts, what waits,
--- the first of it first, T1 and T4, the moment of the last packet given on its leg, and the outcome of a call that has ended
+-- the first of it first, T1 and T4, the pace of its leg, and the outcome of a call that has ended
 pub record Calling : Type 0 where
   pub state : State
   pub format : Format
@@ -31,13 +31,13 @@ pub record Calling : Type 0 where
   pub waiting : List Due
   pub t1 : Option ℕ
   pub t4 : Option ℕ
-  pub last : Option ℕ
+  pub pace : PaceValue
   pub outcome : Option Outcome
 
--- no call was on the leg
-abbrev pub new_calling : Format → Calling
-new_calling format =
-    record { state = Idle; format = format; formats = format ∷ []; pages = 1; counts = no_counts; waiting = []; t1 = None; t4 = None; last = None; outcome = None }
+-- no call was on the leg, and this pause is set
+abbrev pub new_calling : ℕ → Format → Calling
+new_calling pause format =
+    record { state = Idle; format = format; formats = format ∷ []; pages = 1; counts = no_counts; waiting = []; t1 = None; t4 = None; pace = new_pace pause; outcome = None }
 
 -- the formats of the pages of a job
 abbrev pub formats_of : JobValue → List Format
@@ -55,14 +55,14 @@ started a job now =
       waiting = calling_tone;
       t1 = Some (moment_after now spans.t1);
       t4 = None;
-      last = a.last;
+      pace = a.pace;
       outcome = None;
     }
 
 -- behind a move; T1 and T4 are clear while packets wait
 abbrev pub replied_with : Calling → State → Counts → List Due → Calling
 replied_with a state c due =
-    record { state = state; format = a.format; formats = a.formats; pages = a.pages; counts = c; waiting = due; t1 = None; t4 = None; last = a.last; outcome = a.outcome }
+    record { state = state; format = a.format; formats = a.formats; pages = a.pages; counts = c; waiting = due; t1 = None; t4 = None; pace = a.pace; outcome = a.outcome }
 
 abbrev pub moved : Calling → Move → Calling
 moved a Stays = a
@@ -70,10 +70,10 @@ moved a (Trains dis dcs c) = replied_with a (AwaitCfr dis dcs) c (training dcs)
 moved a (Sends dis dcs c) = replied_with a (AwaitMcf dis dcs) c (image (command_behind a.formats a.pages c.page) c.page dcs)
 moved a (AsksAgain c) = replied_with a a.state c (command (command_behind a.formats a.pages c.page))
 moved a (Turns format t1 c) =
-    record { state = AwaitDis; format = format; formats = a.formats; pages = a.pages; counts = c; waiting = []; t1 = Some t1; t4 = None; last = a.last; outcome = a.outcome }
+    record { state = AwaitDis; format = format; formats = a.formats; pages = a.pages; counts = c; waiting = []; t1 = Some t1; t4 = None; pace = a.pace; outcome = a.outcome }
 moved a (Closes outcome c) = replied_with a (Closing outcome) c goodbye
 moved a HangsUp =
-    record { state = Idle; format = a.format; formats = a.formats; pages = a.pages; counts = a.counts; waiting = []; t1 = None; t4 = None; last = a.last; outcome = Some outcomes.HungUp }
+    record { state = Idle; format = a.format; formats = a.formats; pages = a.pages; counts = a.counts; waiting = []; t1 = None; t4 = None; pace = a.pace; outcome = Some outcomes.HungUp }
 
 -- A PIECE comes: frames alone matter, and none while packets wait
 abbrev pub heard : Calling → pieces.Piece → ℕ → Move
@@ -132,8 +132,8 @@ t4_when_given (AwaitCfr dis dcs) old now = Some (moment_after now spans.t4)
 t4_when_given (AwaitMcf dis dcs) old now = Some (moment_after now spans.t4)
 t4_when_given state old now = old
 
-abbrev pub after_giving : Calling → ℕ → List Due → Calling
-after_giving a now [] =
+abbrev pub after_giving : Calling → ℕ → Packet → List Due → Calling
+after_giving a now packet [] =
     record {
       state = state_when_given a.state;
       format = a.format;
@@ -143,10 +143,10 @@ after_giving a now [] =
       waiting = [];
       t1 = a.t1;
       t4 = t4_when_given a.state a.t4 now;
-      last = Some now;
+      pace = pace_behind (signals_preamble packet) a.pace now;
       outcome = outcome_when_given a.state a.outcome;
     }
-after_giving a now (d ∷ due) = record a { waiting = d ∷ due; last = Some now }
+after_giving a now packet (d ∷ due) = record a { waiting = d ∷ due; pace = pace_behind (signals_preamble packet) a.pace now }
 
 -- what a tick leaves, and the packet that it gives
 pub record Ticked : Type 0 where
@@ -158,11 +158,11 @@ abbrev pub given_first : Writing → JobValue → Calling → ℕ → List Due �
 given_first writes job a now [] = record { core = a; given = None }
 given_first writes job a now (d ∷ due) =
     let t : Taken = taken writes job d due in
-    record { core = after_giving a now t.rest; given = Some t.packet }
+    record { core = after_giving a now t.packet t.rest; given = Some t.packet }
 
 abbrev pub paced : Writing → JobValue → Calling → ℕ → Ticked
 paced writes job a now =
-    if pace_allows a.last now then given_first writes job a now a.waiting else record { core = a; given = None }
+    if pace_allows a.pace.last now then given_first writes job a now a.waiting else record { core = a; given = None }
 
 abbrev pub ticked : Writing → JobValue → Calling → ℕ → Ticked
 ticked writes job a now = paced writes job (timed a now) now

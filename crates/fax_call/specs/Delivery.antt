@@ -1,6 +1,6 @@
 -- What is told of a call that has ended: how many pages were delivered, and its outcome.
 use Rattle.std.specs.Prelude.{◌≡◌, ℕ, zero, suc, ◌+◌, ◌^◌, ◌≤◌, ◌⊎◌, Bool, true, false, List, [], ◌∷◌, length, Option, Some, None, if◌then◌else◌}
-use Rattle.fax_timers.specs.Spans.{pace}
+use Rattle.fax_timers.specs.Spans.{longest_pause}
 use Rattle.fax_jobs.specs.declared.outcome.Outcome.{Outcome}
 use Rattle.fax_jobs.specs.declared.outcome.Outcome.TheVariants as outcomes
 use Rattle.fax_jobs.specs.Jobs.{JobValue, IsJob}
@@ -37,7 +37,7 @@ answered_images marks = good_one (replied marks) + answered_before marks
 abbrev pub AtTheLastMoment : List CallEvent → Type 0
 AtTheLastMoment [] = ⊥
 AtTheLastMoment (Comes piece now ∷ before) = AtTheLastMoment before
-AtTheLastMoment (Ticks now ∷ before) = (2 ^ 64 ≤ now + pace) ⊎ AtTheLastMoment before
+AtTheLastMoment (Ticks now ∷ before) = (2 ^ 64 ≤ now + longest_pause) ⊎ AtTheLastMoment before
 
 -- There alone a call that gives its last image up may have to wait with the DCN, and an answer that comes in that while is
 -- not counted. (Else what is given closes the question in the tick in which T4 is due.)

@@ -5,7 +5,7 @@ use Rattle.fax_frames.specs.declared.dcs.Dcs.{Dcs}
 use Rattle.fax_frames.specs.declared.writing.Plain.{Plain}
 use Rattle.fax_pagestore.specs.Pages.{PageValue}
 use Rattle.fax_pagestore.specs.Writers.{WriterValue, HasLeft, HasMore}
-use Rattle.fax_timers.specs.Paces.{pace_allows}
+use Rattle.fax_timers.specs.Paces.{pace_allows, pace_behind}
 use Rattle.fax_jobs.specs.Jobs.{JobValue}
 use Rattle.fax_call.specs.declared.pending.Pending.{Pending}
 use Rattle.fax_call.specs.declared.pending.Pending.TheVariants as pendings
@@ -13,9 +13,9 @@ use Rattle.fax_call.specs.declared.procedure.Procedure.{Procedure}
 use Rattle.fax_call.specs.declared.state.State.{State}
 use Rattle.fax_call.specs.declared.state.State.TheVariants.{Idle, AwaitMcf}
 use Rattle.fax_call.specs.Writings.{Writing}
-use Rattle.fax_call.specs.Replies.{Packet, written, waits, is_last_page, turn_behind, command_by, command_behind}
+use Rattle.fax_call.specs.Replies.{Packet, written, waits, signals_preamble, is_last_page, turn_behind, command_by, command_behind}
 use Rattle.fax_call.specs.Calls.{Calling, formats_of, text_at, given_first, state_when_given, outcome_when_given, t4_when_given}
-use Rattle.fax_call.specs.Kept.{counts_shown, waiting_of, pending_behind, FitsState, FitsPending}
+use Rattle.fax_call.specs.Kept.{counts_shown, waiting_of, packet_of, pending_behind, FitsState, FitsPending}
 
 -- what is known of every procedure
 pub record IsFit (p : Procedure) : Type 0 where
@@ -52,12 +52,12 @@ pub record Follows (writes : Writing) (job : JobValue) (core : Calling) (writer 
   pub left : IsLeft writes job p.counts.page from p.pending writer
   pub t1 : p.t1 ≡ core.t1
   pub t4 : p.t4 ≡ core.t4
-  pub last : p.pace ≡ core.last
+  pub pace : p.pace ≡ core.pace
   pub outcome : p.outcome ≡ core.outcome
 
 -- whether a packet is given now: one waits, and the pace lets it through
 abbrev pub gives_now : Calling → ℕ → Bool
-gives_now core now = waits core.waiting && pace_allows core.last now
+gives_now core now = waits core.waiting && pace_allows core.pace.last now
 
 -- something is left of a text while it is given
 abbrev pub HasText : Pending → WriterValue → Type 0
@@ -75,17 +75,17 @@ pub record HasFormats (p : Procedure) (job : JobValue) : Type 0 where
 abbrev pub IsJobOfCall : Procedure → JobValue → Type 0
 IsJobOfCall p job = (p.state ≡ Idle → ⊥) → HasFormats p job
 
--- the procedure behind the next packet
-abbrev pub behind_packet : Pending → Procedure → ℕ → Procedure
-behind_packet pendings.Nothing p now =
+-- the procedure behind the next packet, which is a preamble or not
+abbrev pub behind_packet : (is_preamble : Bool) → Pending → Procedure → ℕ → Procedure
+behind_packet is_preamble pendings.Nothing p now =
     record p {
       state = state_when_given p.state;
       pending = pendings.Nothing;
       t4 = t4_when_given p.state p.t4 now;
-      pace = Some now;
+      pace = pace_behind is_preamble p.pace now;
       outcome = outcome_when_given p.state p.outcome;
     }
-behind_packet pending p now = record p { pending = pending; pace = Some now }
+behind_packet is_preamble pending p now = record p { pending = pending; pace = pace_behind is_preamble p.pace now }
 
 -- the command behind the page due, by the next page's format that is kept
 abbrev pub command_kept : Procedure → Plain
@@ -93,7 +93,7 @@ command_kept p = command_by (is_last_page p.pages p.counts.page) p.turn
 
 -- where that is a packet of a text it may be the last one
 abbrev pub given_by : Procedure → (last : Bool) → ℕ → Procedure
-given_by p last now = behind_packet (pending_behind p.pending (command_kept p) last) p now
+given_by p last now = behind_packet (signals_preamble (packet_of p.pending)) (pending_behind p.pending (command_kept p) last) p now
 
 -- the job tells the next page's format
 abbrev pub with_turn : Procedure → JobValue → Procedure

@@ -50,6 +50,12 @@ check_length dcs = bits_a_second dcs.rate * 3 / 16
 unfoldable pub training_check : Dcs → List Due
 training_check dcs = parts_of (check_length dcs) (kind_of dcs.rate) (part_length dcs) (replicate (check_length dcs) 0)
 
+-- whether a packet is the preamble before a frame
+abbrev pub signals_preamble : Packet → Bool
+signals_preamble (Signals code) = nat_eq code (indicator_code V21Preamble)
+signals_preamble (Tells frame) = false
+signals_preamble (Part kind last octets) = false
+
 -- the tone of a calling terminal
 abbrev pub calling_tone : List Due
 calling_tone = One (Signals (indicator_code Cng)) ∷ []

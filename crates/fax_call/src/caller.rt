@@ -50,16 +50,17 @@ impl Model for Caller {
 }
 
 impl Caller {
-    /// A calling side on whose leg no call was. It takes no memory.
-    pub fn new(alloc: Global) -> Self
-        ensures reached { (writes : Writing) (job : JobValue) → IsReached writes job [] (new_calling result.procedure.format) result }
+    /// A calling side on whose leg no call was. The packet behind a preamble is given so many milliseconds later, at most
+    /// 2,000. It takes no memory.
+    pub fn new(alloc: Global, preamble_ms: u16) -> Self
+        ensures reached { (writes : Writing) (job : JobValue) → IsReached writes job [] (new_calling preamble_ms result.procedure.format) result }
         ensures idle { result.procedure.state ≡ State.Idle }
         ensures outcome { result.procedure.outcome ≡ None }
     {
         Caller {
             alloc,
             signals: Signals::new(alloc),
-            procedure: Procedure::new(),
+            procedure: Procedure::new(preamble_ms),
             writer: writer_of_none(alloc),
             room: Room::none(alloc),
         }

@@ -23,7 +23,7 @@ pub fn numbers_are_fixed()
 
 /// A call that is over has an outcome and a count of pages: those whose images were answered with MCF or RTP until it was
 /// over, one each, each emitted to its end before that answer. No answer is passed over and asked for again; the outcome
-/// is Delivered exactly where they are all; and nothing is given behind the end. (A tick within 40 ms of the last moment,
+/// is Delivered exactly where they are all; and nothing is given behind the end. (A tick within 2 s of the last moment,
 /// 2^64 - 1 ms, may find a timer due and the pace not yet over: an answer that comes in that while may be passed over.)
 pub fn tells_what_was_answered()
     ensures { TellsWhatWasAnswered }

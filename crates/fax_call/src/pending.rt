@@ -1,7 +1,7 @@
 //! What waits.
 ghost use Rattle.std.specs.Prelude.{◌≡◌, ◌≢◌, ◌≤◌, ◌<◌, ◌*◌, ◌/◌, length, replicate, IfOk, OnErr};
 ghost use Rattle.fax_ifp.specs.WrittenPackets.{written_indicator, written_message, image_fields};
-ghost use Rattle.fax_call.specs.Replies.{written, part_length, check_length, Part};
+ghost use Rattle.fax_call.specs.Replies.{written, signals_preamble, part_length, check_length, Part};
 ghost use Rattle.fax_call.specs.Kept.{frame_text, frame_behind, packet_of, pending_behind, check_part, FitsMessage, FitsPending};
 ghost use Rattle.fax_frames.specs.Rates.{kind_of};
 ghost use Rattle.fax_frames.specs.declared.dcs.Dcs.{Dcs as DcsShown};
@@ -67,6 +67,13 @@ pub(crate) enum Pending {
 }
 
 impl Pending {
+    /// Whether the next packet is the preamble of a frame.
+    pub fn is_preamble(self) -> bool
+        ensures { result ≡ signals_preamble (packet_of self) }
+    {
+        matches!(self, Pending::Preamble(_))
+    }
+
     /// The next packet, where it is none of a text. An indicator takes no memory where there is room for it. An `Err` leaves
     /// the room as it was.
     pub fn packet(self, alloc: Global, room: &mut Room) -> Result<Octets, NoMemory>

@@ -47,10 +47,10 @@ pub(crate) const NO_FORMAT: Format = Format {
 };
 
 impl Procedure {
-    /// No call is on, and none was.
-    pub fn new() -> Self
+    /// No call is on, and none was. The packet behind a preamble waits so many milliseconds, at most 2,000.
+    pub fn new(preamble_ms: u16) -> Self
         ensures fit { IsFit result }
-        ensures follows { (writes : Writing) (job : JobValue) (writer : WriterValue) → Follows writes job (new_calling result.format) writer result }
+        ensures follows { (writes : Writing) (job : JobValue) (writer : WriterValue) → Follows writes job (new_calling preamble_ms result.format) writer result }
         ensures pending { result.pending ≡ Pending.Nothing }
         ensures idle { result.state ≡ State.Idle }
         ensures outcome { result.outcome ≡ None }
@@ -64,7 +64,7 @@ impl Procedure {
             pending: Pending::Nothing,
             t1: Timer::new(),
             t4: Timer::new(),
-            pace: Pace::new(),
+            pace: Pace::new(preamble_ms),
             outcome: None,
         }
     }
@@ -253,7 +253,7 @@ impl Procedure {
         ensures fit { IsFit self.new }
         ensures given { self.new ≡ given_by self.old is_last now }
     {
-        self.pace.given(now);
+        self.pace.given(self.pending.is_preamble(), now);
         self.pending = self.pending.behind(is_last, self.command());
         if self.pending == Pending::Nothing {
             self.finish_reply(now);

@@ -236,7 +236,7 @@ impl Leg {
             name: "a call",
             alloc,
             receiver: Receiver::new(),
-            caller: Caller::new(alloc),
+            caller: Caller::new(alloc, 40),
             job,
             number: 0,
             given: 0,

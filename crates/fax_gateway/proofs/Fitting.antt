@@ -121,18 +121,18 @@ taken_fits : (writes : Writing) (job : JobValue) (d : Due) (due : List Due) → 
 taken_fits writes job (One p) due h k = record { packet = h; rest = k }
 taken_fits writes job (Text n dcs from) due h k = text_fits n dcs from (text_at writes job n dcs) due k
 
-after_fits : (a : Calling) (now : ℕ) (due : List Due) → AllFit due → AllFit (after_giving a now due).waiting
-after_fits a now [] h = tt
-after_fits a now (d ∷ due) h = h
+after_fits : (a : Calling) (now : ℕ) (packet : Packet) (due : List Due) → AllFit due → AllFit (after_giving a now packet due).waiting
+after_fits a now packet [] h = tt
+after_fits a now packet (d ∷ due) h = h
 
 first_fits : (writes : Writing) (job : JobValue) (a : Calling) (now : ℕ) (due : List Due) → AllFit a.waiting → AllFit due → FitTick (given_first writes job a now due)
 first_fits writes job a now [] g h = record { core = g; given = tt }
 first_fits writes job a now (d ∷ due) g h =
     let t : FitTaken (taken writes job d due) = taken_fits writes job d due h.0 h.1 in
-    record { core = after_fits a now (taken writes job d due).rest t.rest; given = t.packet }
+    record { core = after_fits a now (taken writes job d due).packet (taken writes job d due).rest t.rest; given = t.packet }
 
 paced_fits : (writes : Writing) (job : JobValue) (a : Calling) (now : ℕ) → AllFit a.waiting → FitTick (paced writes job a now)
-paced_fits writes job a now h = by (pace_allows a.last now)
+paced_fits writes job a now h = by (pace_allows a.pace.last now)
   where
     by : (t : Bool) → FitTick (if◌then◌else◌ {A = Ticked} t (given_first writes job a now a.waiting) (record { core = a; given = None }))
     by true = first_fits writes job a now a.waiting h h

@@ -108,7 +108,7 @@ tone_back setup = told_back setup [] (written (Signals (indicator_code Cng))) tt
 
 begins_none : (setup : Setup) (P : List Mark → Emission → Type 0) (writes : Writing) (job : JobValue) (before : Calling) (now : ℕ) (marks : List Mark) →
     EachEmission P marks (elements_told (told_called setup writes (Some (begun_leg job before now)) now))
-begins_none setup P writes job before now marks = by (pace_allows before.last now)
+begins_none setup P writes job before now marks = by (pace_allows before.pace.last now)
   where
     core : Calling
     core = started before job now

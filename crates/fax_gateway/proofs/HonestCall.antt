@@ -12,9 +12,9 @@ use Rattle.fax_ifp.specs.Packets.{packet_of, fields_at}
 use Rattle.fax_ifp.specs.WrittenPackets.{written_behind}
 use Rattle.fax_answer.specs.Orders.{order_of}
 use Rattle.fax_answer.specs.Sent.{pages_accepted}
-use Rattle.fax_gateway.specs.Setups.{Setup}
 use Rattle.fax_gateway.specs.Legs.{new_pieces, decides}
 use Rattle.fax_gateway.specs.CallingLegs.{CallingLeg, core_of, calling_leg}
+use Rattle.fax_gateway.proofs.Examples.{usual}
 use Rattle.fax_gateway.proofs.WholeCall.{script, comes, tick, blank}
 
 -- a DCS, a training check of 300 zero octets, an image, EOP
@@ -81,11 +81,11 @@ is_honest = (
 begins : BeginsAtFirst arrivals
 begins = refl
 
--- they are the datagrams that came, and a page is accepted
-arrive : (setup : Setup) → option_map (λ (l : CallingLeg). l.arrived) (calling_leg setup (reverse script)) ≡ Some (datagrams arrivals)
+-- they are the datagrams that came in the usual setup, and a page is accepted
+arrive : option_map (λ (l : CallingLeg). l.arrived) (calling_leg usual (reverse script)) ≡ Some (datagrams arrivals)
 unfolding script comes tick blank new_pieces decides newest_slots slots datagram_of packet_at packets_at length_at secondaries_at packet_of fields_at order_of bits.bit packets.fields_behind packets.field_at packets.octets_at written_datagram written_packet written_length written_behind
-arrive setup = refl
+arrive = refl
 
-accepts : (setup : Setup) → option_map (λ (l : CallingLeg). pages_accepted (core_of l).history) (calling_leg setup (reverse script)) ≡ Some (record { format = record { width = W1728; fine = false }; rows = [] } ∷ [])
+accepts : option_map (λ (l : CallingLeg). pages_accepted (core_of l).history) (calling_leg usual (reverse script)) ≡ Some (record { format = record { width = W1728; fine = false }; rows = [] } ∷ [])
 unfolding script comes tick blank new_pieces decides newest_slots slots datagram_of packet_at packets_at length_at secondaries_at packet_of fields_at order_of bits.bit packets.fields_behind packets.field_at packets.octets_at written_datagram written_packet written_length written_behind
-accepts setup = refl
+accepts = refl

@@ -72,7 +72,7 @@ pub idle_tick : (a : Answering) (now : ℕ) → is_idle a.state ≡ true → Res
 idle_tick a now h r =
     let p : a.state ≡ Idle = idle_is a.state h in
     let none : a.waiting ≡ [] = subst (λ (q : State). Rests q a.waiting) p r in
-    ap (λ (b : Answering). paced b now) (idle_timed a now p) ∙ by (pace_allows a.last now) (ap (given_first a now) none)
+    ap (λ (b : Answering). paced b now) (idle_timed a now p) ∙ by (pace_allows a.pace.last now) (ap (given_first a now) none)
   where
     by : (t : Bool) → given_first a now a.waiting ≡ record { core = a; given = None; ended = false } →
         (if◌then◌else◌ {A = Ticked} t (given_first a now a.waiting) (record { core = a; given = None; ended = false })) ≡ record { core = a; given = None; ended = false }
@@ -111,7 +111,7 @@ pub busy_tick : (a : Answering) (now : ℕ) → is_idle a.state ≡ false → is
 busy_tick a now h =
     let b : Answering = timed a now in
     let n : is_idle b.state ≡ false = goodbye_if (is_waiting a.waiting) a (timed_in a.state a now) h (timed_in_busy a.state a now h) in
-    by b n (pace_allows b.last now)
+    by b n (pace_allows b.pace.last now)
   where
     by : (b : Answering) → is_idle b.state ≡ false → (t : Bool) →
         is_idle (if◌then◌else◌ {A = Ticked} t (given_first b now b.waiting) (record { core = b; given = None; ended = false })).core.state

@@ -21,6 +21,7 @@ mod Serving
 mod States
 mod Steps
 mod Ticking
+mod Turning
 mod WholeCall
 mod Chained
 mod Relayed

@@ -121,7 +121,7 @@ pub ticked_neat : (a : Answering) (now : ℕ) → AllNeat a.waiting → NeatTick
 ticked_neat a now h =
     let b : Answering = timed a now in
     let n : AllNeat b.waiting = either (is_waiting a.waiting) a (timed_in a.state a now) h (timed_in_neat a.state a now h) in
-    tick_if (pace_allows b.last now) b (given_first b now b.waiting) n (first_neat b now b.waiting n n)
+    tick_if (pace_allows b.pace.last now) b (given_first b now b.waiting) n (first_neat b now b.waiting n n)
 
 -- the calling leg
 pub record NeatLeg (l : CallingLeg) : Type 0 where

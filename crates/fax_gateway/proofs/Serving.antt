@@ -47,7 +47,7 @@ Answers now old new step = (heard : List Slot) (core : Answering) → answer.IsR
 pub side_ticks : {S : Type 0} (setup : Setup) (leg : Option CallingLeg) (now : ℕ) (old new : CallingValue) (step : Step S) (datagram : Option (List ℕ)) → new.number ≡ old.number → Answers now old.kept new.kept step
     → Gives setup step.packet old.leg new.leg datagram → IsCalling setup leg old → IsCalling setup (ticked_on leg now) new
 side_ticks setup None now old new step datagram number a g r =
-    let k = a (newest_slots []) new_answering r.core in
+    let k = a (newest_slots []) (new_answering setup.pause) r.core in
     record {
       number = tt;
       core = k.0;
@@ -66,7 +66,7 @@ side_ticks setup (Some l) now old new step datagram number a g r =
 pub side_tells : {S : Type 0} (setup : Setup) (leg : Option CallingLeg) (now : ℕ) (old new : CallingValue) (step told : Step S) → Answers now old.kept new.kept step
     → Gives setup step.packet old.leg new.leg told.packet → told.confirmed ≡ step.confirmed → told.ended ≡ step.ended → IsCalling setup leg old → TellsTick setup leg now told
 side_tells {S} setup None now old new step told a g page ends r =
-    let k = a (newest_slots []) new_answering r.core in
+    let k = a (newest_slots []) (new_answering setup.pause) r.core in
     record {
       packet = (g [] [] r.on_leg).0 ∙ ap (sent_if setup []) k.1.packet;
       confirmed = ap (confirmed_shown {S = S}) page ∙ k.1.confirmed;
@@ -92,7 +92,7 @@ packet_given (Some p) given = refl
 -- memory that is reserved makes no difference
 caller_keeps : (setup : Setup) (writes : Writing) (leg : Option CalledLeg) (old new : call.Kept) → ((writes : Writing) (job : JobValue) (heard : List Slot) (core : Calling) → call.IsReached writes job heard core old → call.IsReached writes job heard core new)
     → new.procedure.format ≡ old.procedure.format → IsCaller setup writes leg old → IsCaller setup writes leg new
-caller_keeps setup writes None old new f same r = λ job. subst (λ (x : Format). call.IsReached writes job [] (new_calling x) new) (sym same) (f writes job [] (new_calling old.procedure.format) (r job))
+caller_keeps setup writes None old new f same r = λ job. subst (λ (x : Format). call.IsReached writes job [] (new_calling setup.pause x) new) (sym same) (f writes job [] (new_calling setup.pause old.procedure.format) (r job))
 caller_keeps setup writes (Some l) old new f same r = f writes l.job (newest_slots l.arrived) (core_of writes l) r
 
 leg_keeps : (setup : Setup) (leg : Option CalledLeg) (old new : Leg) → ((arrived : List DatagramValue) (given : List (List ℕ)) → IsLeg setup arrived given old → IsLeg setup arrived given new) → IsCalledLeg setup leg old → IsCalledLeg setup leg new
@@ -107,7 +107,7 @@ side_keeps setup writes leg old new f same g r = record { core = caller_keeps se
 caller_starts : (setup : Setup) (writes : Writing) (leg : Option CalledLeg) (old new : call.Kept) (job : JobValue) (format : Format) (pages now : ℕ) → format ≡ job.format → pages ≡ length job.pages →
     ((writes others : Writing) (job other : JobValue) (heard : List Slot) (core : Calling) → call.IsReached others other heard core old → job.format ≡ format → length job.pages ≡ pages → call.IsReached writes job [] (started core job now) new)
     → IsCaller setup writes leg old → call.IsReached writes job [] (started (core_left setup writes leg) job now) new
-caller_starts setup writes None old new job format pages now same count f r = f writes writes job job [] (new_calling old.procedure.format) (r job) (sym same) (sym count)
+caller_starts setup writes None old new job format pages now same count f r = f writes writes job job [] (new_calling setup.pause old.procedure.format) (r job) (sym same) (sym count)
 caller_starts setup writes (Some l) old new job format pages now same count f r = f writes writes job l.job (newest_slots l.arrived) (core_of writes l) r (sym same) (sym count)
 
 pub side_starts : (setup : Setup) (writes : Writing) (leg : Option CalledLeg) (old new : CalledSide) (job : JobValue) (format : Format) (pages now : ℕ) → format ≡ job.format → pages ≡ length job.pages →

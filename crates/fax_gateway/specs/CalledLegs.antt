@@ -40,7 +40,7 @@ is_free (Some l) = l.entered
 
 -- the calling side as a call leaves it
 abbrev pub core_left : Setup → Writing → Option CalledLeg → Calling
-core_left setup writes None = new_calling (record { width = W1728; fine = false })
+core_left setup writes None = new_calling setup.pause (record { width = W1728; fine = false })
 core_left setup writes (Some l) = core_of writes l
 
 -- the call of a job begins

@@ -54,7 +54,7 @@ leg_ticked l now = record l { events = Ticks now ∷ l.events; given = packets_w
 
 -- A ring begins a call. A datagram that cannot be read, or that comes while no call is on, brings nothing.
 abbrev pub calling_after : Setup → Option CallingLeg → ℕ → Event → Option CallingLeg
-calling_after setup None now (Ring at number) = Some (rung_leg new_answering now number)
+calling_after setup None now (Ring at number) = Some (rung_leg (new_answering setup.pause) now number)
 calling_after setup (Some l) now (Ring at number) = Some (rung_leg (core_of l) now number)
 calling_after setup (Some l) now (FromCalling octets at decided read) =
     if is_idle (core_of l).state then Some l else Some (leg_with l now read (datagram_of octets))

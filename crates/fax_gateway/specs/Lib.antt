@@ -18,6 +18,7 @@ pub mod ReportsTold
 pub mod Sides
 pub mod Told
 pub mod Traces
+pub mod Turns
 pub mod Wires
 pub mod Sent
 pub mod Setups

@@ -62,7 +62,7 @@ pub record CallingValue : Type 0 where
 
 -- the core, the datagrams and the packets of the last call; before the first they are new
 abbrev pub answering_of : Setup → Option CallingLeg → Answering
-answering_of setup None = new_answering
+answering_of setup None = new_answering setup.pause
 answering_of setup (Some l) = calling_legs.core_of l
 
 abbrev pub arrived_on : Option CallingLeg → List DatagramValue
@@ -113,7 +113,7 @@ pub record TellsTick {S : Type 0} (setup : Setup) (leg : Option CallingLeg) (now
 
 -- THE CALLED SIDE, in the call of a job; before the first one no call was on
 abbrev pub IsCaller : Setup → Writing → Option CalledLeg → call.Kept → Type 0
-IsCaller setup writes None kept = (job : JobValue) → call.IsReached writes job [] (new_calling kept.procedure.format) kept
+IsCaller setup writes None kept = (job : JobValue) → call.IsReached writes job [] (new_calling setup.pause kept.procedure.format) kept
 IsCaller setup writes (Some l) kept = call.IsReached writes l.job (newest_slots l.arrived) (called_legs.core_of writes l) kept
 
 abbrev pub IsCalledLeg : Setup → Option CalledLeg → Leg → Type 0

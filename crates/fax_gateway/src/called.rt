@@ -4,12 +4,12 @@ ghost use Rattle.fax_jobs.specs.Jobs.{JobValue};
 ghost use Rattle.fax_call.specs.Writings.{IsWriting, Writing};
 ghost use Rattle.fax_call.specs.Following.{IsJobOfCall};
 ghost use Rattle.fax_call.specs.declared.pending.Pending.TheVariants as Pending;
-ghost use Rattle.fax_udptl.specs.Sending.{most_redundancy};
-ghost use Rattle.fax_gateway.specs.Setups.{Setup};
+ghost use Rattle.fax_gateway.specs.Setups.{AreAllowed, AreSet, Setup};
 ghost use Rattle.fax_gateway.specs.CalledLegs.{CalledLeg, begun_leg, core_left, decided_called, hears};
 ghost use Rattle.fax_gateway.specs.Reached.{Begins, CalledHasRoom, IsCalled, IsLeg, IsServed, TicksOn, called_alone, most_octets, outcome_kept};
 
 use crate::leg::Leg;
+use crate::settings::Settings;
 use fax_bits::{NoMemory, Octets};
 use fax_call::{Caller, State};
 use fax_jobs::{Job, Jobs, Outcome};
@@ -25,14 +25,14 @@ pub(crate) struct CalledSide {
 
 impl CalledSide {
     /// A side on whose leg no call was. It takes memory for the leg.
-    pub fn new(alloc: Global, redundancy: u8) -> Result<Self, NoMemory>
-        requires { redundancy ≤ most_redundancy }
-        ensures reached { IfOk result (λ side. (setup : Setup) (writes : Writing) → IsCalled setup writes None side) }
+    pub fn new(alloc: Global, settings: Settings) -> Result<Self, NoMemory>
+        requires { AreAllowed settings }
+        ensures reached { IfOk result (λ side. (setup : Setup) (writes : Writing) → AreSet setup settings → IsCalled setup writes None side) }
         ensures idle { IfOk result (λ side. side.caller.procedure.state ≡ State.Idle) }
     {
-        let leg = Leg::new(alloc, redundancy)?;
+        let leg = Leg::new(alloc, settings.redundancy)?;
         Ok(CalledSide {
-            caller: Caller::new(alloc),
+            caller: Caller::new(alloc, settings.preamble_ms),
             leg,
         })
     }

@@ -1,11 +1,13 @@
 //! The calling leg: who calls is answered there.
 ghost use Rattle.std.specs.Prelude.{◌≡◌, ◌≤◌, ◌↔◌, ℕ, true, IsTrue, Option, Some, None, IfOk, OnOk, OnErr};
 ghost use Rattle.fax_udptl.specs.Sending.{most_redundancy};
-ghost use Rattle.fax_gateway.specs.Setups.{Setup};
+ghost use Rattle.fax_gateway.specs.Setups.{AreAllowed, AreSet, Setup};
 ghost use Rattle.fax_gateway.specs.CallingLegs.{CallingLeg, decided_calling, idle_after, rung_leg};
 ghost use Rattle.fax_gateway.specs.Reached.{IsCalling, HearsCalling, CallingHasRoom, TellsTick, answering_of, calling_alone, ticked_on};
+ghost use Rattle.fax_gateway.specs.Turns.{call_kept, call_on};
 
 use crate::leg::Leg;
+use crate::settings::Settings;
 use fax_answer::{Answerer, State, Step};
 use fax_bits::NoMemory;
 use fax_pagestore::RowStore;
@@ -31,15 +33,15 @@ impl<S: RowStore> Model for CallingSide<S> {
 
 impl<S: RowStore> CallingSide<S> {
     /// A side on whose leg no call was. It takes memory for the leg.
-    pub fn new(alloc: Global, redundancy: u8) -> Result<Self, NoMemory>
-        requires { redundancy ≤ most_redundancy }
-        ensures { IfOk result (λ side. (setup : Setup) → redundancy ≡ setup.redundancy → IsCalling setup None side) }
+    pub fn new(alloc: Global, settings: Settings) -> Result<Self, NoMemory>
+        requires { AreAllowed settings }
+        ensures { IfOk result (λ side. (setup : Setup) → AreSet setup settings → IsCalling setup None side) }
     {
-        let leg = Leg::new(alloc, redundancy)?;
+        let leg = Leg::new(alloc, settings.redundancy)?;
         Ok(CallingSide {
             alloc,
             number: 0,
-            answerer: Answerer::new(alloc),
+            answerer: Answerer::new(alloc, settings.preamble_ms),
             leg,
         })
     }
@@ -50,6 +52,18 @@ impl<S: RowStore> CallingSide<S> {
         ensures state { IsTrue result ↔ (self.now.kept.procedure.state ≡ State.Idle) }
     {
         self.answerer.state() == State::Idle
+    }
+
+    /// The number of the call that is on.
+    pub fn call(&self) -> Option<u32>
+        ensures call { result ≡ call_kept self.now }
+        ensures told { (setup : Setup) (leg : Option CallingLeg) → IsCalling setup leg self.now → result ≡ call_on leg }
+    {
+        if self.is_idle() {
+            None
+        } else {
+            Some(self.number)
+        }
     }
 
     /// A ring, where no call is on: the call of this number begins, with a leg of this redundancy. It takes memory for the leg.

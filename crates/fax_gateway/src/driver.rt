@@ -1,17 +1,21 @@
 //! A driver of a gateway.
-ghost use Rattle.std.specs.Prelude.{◌≡◌, ◌<◌, ◌↔◌, ℕ, List, [], ◌∷◌, ◌++◌, IsTrue, IfOk, vec_len};
+ghost use Rattle.std.specs.Prelude.{◌≡◌, ◌<◌, ◌↔◌, ℕ, List, [], ◌∷◌, ◌++◌, IsTrue, IfOk, is_some, option_copied, vec_len};
 ghost use Rattle.fax_call.specs.Writings.{IsWriting, Writing};
 ghost use Rattle.fax_gateway.specs.Setups.{Setup};
 ghost use Rattle.fax_gateway.specs.Events.{Event};
 ghost use Rattle.fax_gateway.specs.Reached.{IsReachedBy};
 ghost use Rattle.fax_gateway.specs.declared.side.Side.{Side as SideShown};
 ghost use Rattle.fax_gateway.specs.Driving.{AreReceives, Carries, Comes, Entry, FailsToReceive, Happens, HasMade, IsHanded, IsReceive, IsSent, IsTick, IsTurn, IsWanting, Steps, events, failed_in_a_row, most_failed, receipts};
+ghost use Rattle.fax_gateway.specs.Turns.{TellTicks, call_dialled, call_ended, call_kept};
 
 use crate::driven::Driven;
 use crate::gateway::Gateway;
+use crate::given::Told;
 use crate::side::Side;
+use crate::turned::Turned;
 use crate::wire::{Wire, WireFault};
 use fax_bits::{NoMemory, Octets};
+use fax_jobs::Job;
 use fax_pagestore::RowStore;
 use std::alloc::Global;
 use std::marker::Model;
@@ -61,22 +65,34 @@ impl Driver {
 
     /// A turn: of the calling and then of the called leg at most 16 datagrams are received and handed on, until none comes or
     /// a receive fails; then time goes on, and what is given is sent, the calling leg first. A datagram whose send fails is
-    /// lost, and what the gateway refuses for want of memory is left out. It answers whether one of the last 100 receives
-    /// did not fail.
+    /// lost, and what the gateway refuses for want of memory is left out. It answers what happened: what its tick told, unless
+    /// that was refused, and which calls ended and began between its two ends.
     pub fn turn<S: RowStore, W: Wire>(
         &mut self,
         gateway: &mut Gateway<S>,
         wire: &mut W,
         now: u64,
-    ) -> bool
+    ) -> Turned
         ensures turned { (setup : Setup) (writes : Writing) (trace : List Event) (earlier : List Entry) → IsWriting writes → IsReachedBy setup writes trace gateway.old → HasMade earlier self.old
-            → (turn : List Entry) × IsTurn now turn × Happens setup writes turn trace gateway.new (W.known wire.old) (W.known wire.new) × HasMade (turn ++ earlier) self.new }
-        ensures goes_on { (made : List Entry) → HasMade made self.new → IsTrue result ↔ (failed_in_a_row (receipts made) < most_failed) }
+            → (turn : List Entry) × IsTurn now turn × Happens setup writes turn trace gateway.new (W.known wire.old) (W.known wire.new) × HasMade (turn ++ earlier) self.new
+            × TellTicks setup trace (events turn ++ trace) result.report result.kept result.gave_up }
+        ensures goes_on { (made : List Entry) → HasMade made self.new → IsTrue result.goes_on ↔ (failed_in_a_row (receipts made) < most_failed) }
+        ensures ended { result.ended ≡ call_ended (call_kept gateway.old.calling) (call_kept gateway.new.calling) }
+        ensures dialled { result.dialled ≡ call_dialled (is_some gateway.old.book.sending) gateway.new.book.sending }
     {
+        let call = gateway.call();
+        let was_sending = gateway.sending().is_some();
         self.serve(Side::Calling, gateway, wire, now);
         self.serve(Side::Called, gateway, wire, now);
-        self.tick(gateway, wire, now);
-        self.failed_in_a_row < MOST_FAILED
+        let told = self.tick(gateway, wire, now);
+        Turned {
+            goes_on: self.failed_in_a_row < MOST_FAILED,
+            report: told.report,
+            kept: told.kept,
+            ended: call_ended(call, gateway.call()),
+            gave_up: told.gave_up,
+            dialled: call_dialled(was_sending, gateway.sending()),
+        }
     }
 
     /// What a run of so many turns came to, where this driver made it.
@@ -159,17 +175,27 @@ impl Driver {
         }
     }
 
-    /// Time goes on, and what is given is sent.
-    fn tick<S: RowStore, W: Wire>(&mut self, gateway: &mut Gateway<S>, wire: &mut W, now: u64)
+    /// Time goes on, and what is given is sent. It answers what is told: nothing where the tick is refused.
+    fn tick<S: RowStore, W: Wire>(
+        &mut self,
+        gateway: &mut Gateway<S>,
+        wire: &mut W,
+        now: u64,
+    ) -> Told
         ensures { (setup : Setup) (writes : Writing) (trace : List Event) (earlier : List Entry) → IsWriting writes → IsReachedBy setup writes trace gateway.old → HasMade earlier self.old
-            → (log : List Entry) × IsTick now log × Steps setup writes log trace earlier gateway.new (W.known wire.old) (W.known wire.new) self.new }
+            → (log : List Entry) × IsTick now log × Steps setup writes log trace earlier gateway.new (W.known wire.old) (W.known wire.new) self.new
+            × TellTicks setup trace (events log ++ trace) result.report result.kept result.gave_up }
     {
         match gateway.tick(now) {
             Ok(given) => {
                 self.send(Side::Calling, &given.calling, wire);
                 self.send(Side::Called, &given.called, wire);
+                given.told()
             }
-            Err(NoMemory) => self.events_refused = self.events_refused.saturating_add(1),
+            Err(NoMemory) => {
+                self.events_refused = self.events_refused.saturating_add(1);
+                Told::nothing()
+            }
         }
     }
 
@@ -191,6 +217,23 @@ impl Driver {
 /// A buffer for one datagram.
 fn buffer_of(alloc: Global) -> Result<Vec<u8>, NoMemory> {
     Ok(vec![in alloc; 0; MOST_OCTETS]?)
+}
+
+/// The call that was on, and is on no more.
+fn call_ended(was_on: Option<u32>, is_on: Option<u32>) -> Option<u32>
+    ensures { result ≡ call_ended was_on is_on }
+{
+    if is_on.is_some() { None } else { was_on }
+}
+
+/// The call of the job that is being sent, where none was.
+fn call_dialled<S: RowStore>(was_sending: bool, job: Option<&Job<S>>) -> Option<u32>
+    ensures { result ≡ call_dialled was_sending (option_copied job.entry) }
+{
+    match job {
+        Some(job) if !was_sending => Some(job.call()),
+        _ => None,
+    }
 }
 
 /// Hands a datagram of a leg on to the gateway. It answers whether it was accepted.

@@ -1,22 +1,23 @@
 //! The gateway.
-ghost use Rattle.std.specs.Prelude.{◌≡◌, ◌<◌, ◌≤◌, ◌↔◌, ℕ, true, false, not, ◌&&◌, List, [], ◌∷◌, Option, None, Ok, Err, IsSome, IfOk, IfErr, OnOk, OnErr, slice_get, length};
+ghost use Rattle.std.specs.Prelude.{◌≡◌, ◌<◌, ◌≤◌, ◌↔◌, ℕ, max, true, false, not, ◌&&◌, List, [], ◌∷◌, Option, None, Ok, Err, IsSome, IfOk, IfErr, OnOk, OnErr, slice_get, length, option_copied};
 ghost use Rattle.fax_jobs.specs.Books.{confirmed, report_of};
 ghost use Rattle.fax_answer.specs.Shown.{confirmed_shown};
 ghost use Rattle.fax_call.specs.Writings.{IsWriting, Writing};
 ghost use Rattle.fax_udptl.specs.Sending.{most_redundancy};
 ghost use Rattle.fax_gateway.specs.Setups.{AreAllowed, AreSet, Setup};
-ghost use Rattle.fax_gateway.specs.Events.{Event, Ring, FromCalled, Tick, rings};
+ghost use Rattle.fax_gateway.specs.Events.{Event, Ring, FromCalled, Tick, clock, rings};
 ghost use Rattle.fax_gateway.specs.CallingLegs.{CallingLeg, calling_leg, decided_calling, idle_after, told_calling};
 ghost use Rattle.fax_gateway.specs.CalledLegs.{decided_called};
 ghost use Rattle.fax_gateway.specs.Sides.{book_of, sides};
 ghost use Rattle.fax_gateway.specs.Reached.{CallingHasRoom, HasRoom, HearsFrom, IsCalling, IsLeg, IsReachedBy, IsServed, alone, closed_if, confirmed_if, confirmed_on, ended_if, ended_on, given_shown, most_octets, outcome_kept, report_if, ticked_on};
+ghost use Rattle.fax_gateway.specs.Turns.{call_if, call_kept, call_on, given_up_at, kept_at, kept_if};
 
 use crate::called::CalledSide;
 use crate::calling::CallingSide;
 use crate::fault::RingFault;
-use crate::given::Given;
+use crate::given::{Given, Kept};
 use crate::leg::Leg;
-use crate::settings::Settings;
+use crate::settings::{PREAMBLE_MS, Settings};
 use fax_answer::Confirmed;
 use fax_bits::{NoMemory, Octets};
 use fax_jobs::{Job, Jobs, Outcome, Report};
@@ -52,23 +53,29 @@ impl<S: RowStore> Model for Gateway<S> {
 }
 
 impl<S: RowStore> Gateway<S> {
-    /// A gateway of this redundancy, at most 8, to which nothing came. It takes memory for both legs and for the reports of
-    /// jobs.
+    /// A gateway of this redundancy, at most 8, with the defaults elsewhere, to which nothing came. It takes memory for both
+    /// legs and for the reports of jobs.
     pub fn new(alloc: Global, redundancy: u8) -> Result<Self, NoMemory>
         requires { redundancy ≤ most_redundancy }
-        ensures { IfOk result (λ gateway. (setup : Setup) (writes : Writing) → redundancy ≡ setup.redundancy → IsReachedBy setup writes [] gateway) }
+        ensures { IfOk result (λ gateway. (setup : Setup) (writes : Writing) → AreSet setup (record { redundancy = redundancy; preamble_ms = 40 }) → IsReachedBy setup writes [] gateway) }
     {
-        Gateway::with_settings(alloc, Settings { redundancy })
+        Gateway::with_settings(
+            alloc,
+            Settings {
+                redundancy,
+                preamble_ms: PREAMBLE_MS,
+            },
+        )
     }
 
-    /// The same with these settings, of which the redundancy is at most 8.
+    /// The same with these settings: the redundancy is at most 8, the pause behind a preamble from 40 to 2,000 milliseconds.
     pub fn with_settings(alloc: Global, settings: Settings) -> Result<Self, NoMemory>
         requires { AreAllowed settings }
         ensures settings { IfOk result (λ gateway. gateway.settings ≡ settings) }
         ensures reached { IfOk result (λ gateway. (setup : Setup) (writes : Writing) → AreSet setup settings → IsReachedBy setup writes [] gateway) }
     {
-        let calling = CallingSide::new(alloc, settings.redundancy)?;
-        let called = CalledSide::new(alloc, settings.redundancy)?;
+        let calling = CallingSide::new(alloc, settings)?;
+        let called = CalledSide::new(alloc, settings)?;
         let jobs = Jobs::new(alloc)?;
         Ok(Gateway {
             alloc,
@@ -142,11 +149,15 @@ impl<S: RowStore> Gateway<S> {
     /// Time goes on, on both legs. It answers what is given: on the calling leg the answering side's next datagram, whose
     /// page joins the book where it confirms one; on the called leg that of the job that is being sent, or of the one that
     /// was closed first where none is; and the report of a job whose call has ended, behind which the next one waits for the
-    /// next tick. It takes memory for the datagrams, and for a page. An `Err` changes nothing but the memory that is
-    /// reserved.
+    /// next tick. It tells the page that it confirms, and the call of the calling leg that it gives up. It takes memory for the
+    /// datagrams, and for a page. An `Err` changes nothing but the memory that is reserved.
     pub fn tick(&mut self, now: u64) -> Result<Given, NoMemory>
         ensures ticked { IfOk result (λ given. (setup : Setup) (writes : Writing) (trace : List Event) → IsWriting writes → IsReachedBy setup writes trace self.old
             → IsReachedBy setup writes (Tick now (given_shown given) ∷ trace) self.new) }
+        ensures confirmed { IfOk result (λ given. (setup : Setup) (writes : Writing) (trace : List Event) → IsReachedBy setup writes trace self.old
+            → given.kept ≡ kept_at (calling_leg setup trace) (max now (clock trace))) }
+        ensures given_up { IfOk result (λ given. (setup : Setup) (writes : Writing) (trace : List Event) → IsReachedBy setup writes trace self.old
+            → given.gave_up ≡ given_up_at (calling_leg setup trace) (max now (clock trace))) }
         ensures err { OnErr result (alone self.new ≡ alone self.old) }
         ensures kept { OnErr result ((setup : Setup) (writes : Writing) (trace : List Event) → IsReachedBy setup writes trace self.old → IsReachedBy setup writes trace self.new) }
     {
@@ -176,6 +187,10 @@ impl<S: RowStore> Gateway<S> {
         requires sends { IsSome self.old.book.sending }
         ensures ticked { IfOk result (λ given. (setup : Setup) (writes : Writing) (trace : List Event) → IsWriting writes → IsReachedBy setup writes trace self.old
             → IsReachedBy setup writes (Tick now (given_shown given) ∷ trace) self.new) }
+        ensures confirmed { IfOk result (λ given. (setup : Setup) (writes : Writing) (trace : List Event) → IsReachedBy setup writes trace self.old
+            → given.kept ≡ kept_at (calling_leg setup trace) (max now (clock trace))) }
+        ensures given_up { IfOk result (λ given. (setup : Setup) (writes : Writing) (trace : List Event) → IsReachedBy setup writes trace self.old
+            → given.gave_up ≡ given_up_at (calling_leg setup trace) (max now (clock trace))) }
         ensures err { OnErr result (self.new ≡ self.old) }
     {
         let mut clock = self.clock;
@@ -185,12 +200,14 @@ impl<S: RowStore> Gateway<S> {
             Some(job) => self.called.tick(job, moment)?,
         };
         self.clock = clock;
-        let calling = serve_calling(&mut self.calling, &mut self.jobs, moment);
+        let served = serve_calling(&mut self.calling, &mut self.jobs, moment);
         let report = end_job(&mut self.jobs, &self.called);
         Ok(Given {
-            calling,
+            calling: served.packet,
             called,
             report,
+            kept: served.kept,
+            gave_up: served.gave_up,
         })
     }
 
@@ -199,19 +216,43 @@ impl<S: RowStore> Gateway<S> {
         requires room { HasRoom self.old }
         requires none { self.old.book.sending ≡ None }
         requires datagram { most_octets < leg.sender.spare }
-        ensures { (setup : Setup) (writes : Writing) (trace : List Event) → IsWriting writes → IsLeg setup [] [] leg → IsReachedBy setup writes trace self.old
+        ensures ticked { (setup : Setup) (writes : Writing) (trace : List Event) → IsWriting writes → IsLeg setup [] [] leg → IsReachedBy setup writes trace self.old
             → IsReachedBy setup writes (Tick now (given_shown result) ∷ trace) self.new }
+        ensures confirmed { (setup : Setup) (writes : Writing) (trace : List Event) → IsReachedBy setup writes trace self.old
+            → result.kept ≡ kept_at (calling_leg setup trace) (max now (clock trace)) }
+        ensures given_up { (setup : Setup) (writes : Writing) (trace : List Event) → IsReachedBy setup writes trace self.old
+            → result.gave_up ≡ given_up_at (calling_leg setup trace) (max now (clock trace)) }
     {
         let moment = self.clock.read(now);
-        let calling = serve_calling(&mut self.calling, &mut self.jobs, moment);
+        let served = serve_calling(&mut self.calling, &mut self.jobs, moment);
         self.jobs.next();
         let called = self.called.begin(&self.jobs, leg, moment);
         let report = end_job(&mut self.jobs, &self.called);
         Given {
-            calling,
+            calling: served.packet,
             called,
             report,
+            kept: served.kept,
+            gave_up: served.gave_up,
         }
+    }
+
+    /// The number of the call that is on on the calling leg.
+    pub fn call(&self) -> Option<u32>
+        ensures call { result ≡ call_kept self.now.calling }
+        ensures told { (setup : Setup) (writes : Writing) (trace : List Event) → IsReachedBy setup writes trace self.now
+            → result ≡ call_on (calling_leg setup trace) }
+    {
+        self.calling.call()
+    }
+
+    /// The job that is being sent: its call is on on the called leg.
+    pub fn sending(&self) -> Option<&Job<S>>
+        ensures sending { option_copied result ≡ self.now.book.sending }
+        ensures told { (setup : Setup) (writes : Writing) (trace : List Event) → IsReachedBy setup writes trace self.now
+            → option_copied result ≡ (book_of (sides setup writes trace)).sending }
+    {
+        self.jobs.sending()
     }
 
     /// How many jobs wait.
@@ -248,25 +289,60 @@ fn has_ended(was_idle: bool, is_idle: bool) -> bool
     !was_idle && is_idle
 }
 
-/// Serves the calling leg in a tick: it answers the datagram that is given, and the book hears of the page that is
-/// confirmed and of the call's end. The memory is reserved.
-fn serve_calling<S: RowStore>(
-    calling: &mut CallingSide<S>,
-    jobs: &mut Jobs<S>,
-    now: u64,
-) -> Option<Octets>
+/// What the calling leg was served in a tick: the datagram that is given, the page that is confirmed, and the call that is
+/// given up.
+#[derive(Drop)]
+struct Served {
+    packet: Option<Octets>,
+    kept: Option<Kept>,
+    gave_up: Option<u32>,
+}
+
+/// Serves the calling leg in a tick, and the book hears of the page that is confirmed and of the call's end. The memory is
+/// reserved.
+fn serve_calling<S: RowStore>(calling: &mut CallingSide<S>, jobs: &mut Jobs<S>, now: u64) -> Served
     requires room { CallingHasRoom calling.old }
     requires page { 1 ≤ jobs.old.spare }
     ensures ticked { (setup : Setup) (leg : Option CallingLeg) → IsCalling setup leg calling.old → IsCalling setup (ticked_on leg now) calling.new }
-    ensures told { (setup : Setup) (leg : Option CallingLeg) → IsCalling setup leg calling.old → result ≡ told_calling setup leg now }
+    ensures told { (setup : Setup) (leg : Option CallingLeg) → IsCalling setup leg calling.old → result.packet ≡ told_calling setup leg now }
+    ensures kept { (setup : Setup) (leg : Option CallingLeg) → IsCalling setup leg calling.old → result.kept ≡ kept_if calling.old.number (confirmed_on leg now) }
+    ensures gave_up { (setup : Setup) (leg : Option CallingLeg) → IsCalling setup leg calling.old → result.gave_up ≡ call_if (ended_on leg now) calling.old.number }
     ensures heard { (setup : Setup) (leg : Option CallingLeg) → IsCalling setup leg calling.old
         → jobs.new.book ≡ closed_if (ended_on leg now) (confirmed_if calling.old.number (confirmed_on leg now) jobs.old.book) }
     ensures sending { jobs.new.book.sending ≡ jobs.old.book.sending }
 {
     let number = calling.number();
     let step = calling.tick(now);
+    let kept = kept_in(number, &step.confirmed);
+    let gave_up = call_in(number, step.ended);
     hear(jobs, number, step.confirmed, step.ended);
-    step.packet
+    Served {
+        packet: step.packet,
+        kept,
+        gave_up,
+    }
+}
+
+/// What is told of a page that is confirmed in the call of this number.
+fn kept_in<S: RowStore>(call: u32, confirmed: &Option<Confirmed<S>>) -> Option<Kept>
+    ensures { result ≡ kept_if call (confirmed_shown confirmed.now) }
+{
+    match confirmed {
+        None => None,
+        Some(found) => Some(Kept {
+            call,
+            format: found.page.format(),
+            rows: found.page.rows().len(),
+            closes: found.closes,
+        }),
+    }
+}
+
+/// The call of this number, where it ended.
+fn call_in(call: u32, has_ended: bool) -> Option<u32>
+    ensures { result ≡ call_if has_ended call }
+{
+    if has_ended { Some(call) } else { None }
 }
 
 /// The book hears of a page that was confirmed in the call of this number, and of the call's end. The memory is reserved.

@@ -1,15 +1,54 @@
 //! What a tick gives.
-ghost use Rattle.std.specs.Prelude.{◌≡◌, is_some};
+ghost use Rattle.std.specs.Prelude.{◌≡◌, None, is_some};
 
 use fax_bits::Octets;
 use fax_jobs::Report;
+use fax_pagestore::Format;
 
-/// What a tick gives: the octets of a datagram on each leg, where there is one, and the report of the job that ended in it.
+/// What a tick gives: the octets of a datagram on each leg, where there is one, and the report of the job that ended in it;
+/// and what it did on the calling leg.
 #[derive(Drop)]
 pub struct Given {
     pub calling: Option<Octets>,
     pub called: Option<Octets>,
     pub report: Option<Report>,
+    /// The page that it confirmed.
+    pub kept: Option<Kept>,
+    /// The number of the calling leg's call where it ended that: T1 or T2 was due (ITU-T T.30, 5.4.3), and our DCN is given.
+    pub gave_up: Option<u32>,
+}
+
+/// A page that was confirmed.
+#[derive(Clone, Copy, PartialEq, Eq, Debug)]
+pub struct Kept {
+    /// The number of the call in which it came.
+    pub call: u32,
+    pub format: Format,
+    /// How many rows it has.
+    pub rows: u32,
+    /// Whether its command was EOP (ITU-T T.30, 5.3.6.1.6): the job is closed behind it.
+    pub closes: bool,
+}
+
+/// What a tick told, beside the datagrams.
+#[derive(Clone, Copy)]
+pub(crate) struct Told {
+    pub report: Option<Report>,
+    pub kept: Option<Kept>,
+    pub gave_up: Option<u32>,
+}
+
+impl Told {
+    /// What a tick told that was refused.
+    pub fn nothing() -> Self
+        ensures { result ≡ record { report = None; kept = None; gave_up = None } }
+    {
+        Told {
+            report: None,
+            kept: None,
+            gave_up: None,
+        }
+    }
 }
 
 impl Given {
@@ -18,5 +57,16 @@ impl Given {
         ensures { result ≡ is_some self.now.report }
     {
         self.report.is_some()
+    }
+
+    /// What is told.
+    pub(crate) fn told(&self) -> Told
+        ensures { result ≡ record { report = self.now.report; kept = self.now.kept; gave_up = self.now.gave_up } }
+    {
+        Told {
+            report: self.report,
+            kept: self.kept,
+            gave_up: self.gave_up,
+        }
     }
 }

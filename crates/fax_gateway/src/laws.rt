@@ -60,7 +60,7 @@ pub fn jobs_have_states()
 
 /// Each report that a tick gives is of the job that was being sent. `delivered` is the number of its pages that went out and
 /// were answered with MCF or RTP until the call was over, one image each, and the outcome is Delivered exactly where they
-/// are all. Behind the end nothing was given. (A tick within 40 ms of the last moment, 2^64 - 1 ms, may find a timer due and
+/// are all. Behind the end nothing was given. (A tick within 2 s of the last moment, 2^64 - 1 ms, may find a timer due and
 /// the pace not yet over: an answer that comes in that while may not be counted.)
 pub fn reports_the_job()
     ensures { ReportsTheJob }

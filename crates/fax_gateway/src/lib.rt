@@ -2,7 +2,7 @@
 //!
 //! Moments are milliseconds. What comes and what is answered is told in `specs/Events`, the two legs in `CallingLegs` and
 //! `CalledLegs`, both over one book and the order within a tick in `Sides`, and the answers in `Traces`; what the octets of
-//! an answer say, in `Told`; what a gateway keeps of a trace, in `Reached`.
+//! an answer say, in `Told`; what a gateway keeps of a trace, in `Reached`; what is told of ticks and turns, in `Turns`.
 #![tactic(auto)]
 
 mod called;
@@ -17,14 +17,16 @@ mod leg;
 mod run;
 mod settings;
 mod side;
+mod turned;
 mod wire;
 
 pub use driven::Driven;
 pub use driver::Driver;
 pub use fault::RingFault;
 pub use gateway::Gateway;
-pub use given::Given;
+pub use given::{Given, Kept};
 pub use run::drive;
 pub use settings::Settings;
 pub use side::Side;
+pub use turned::Turned;
 pub use wire::{Wire, WireFault};

@@ -42,7 +42,8 @@ pub fn drive<S: RowStore, W: Wire>(
         let now = moment(start, turn);
         let is_refused = ring_if(rings.contains(&turn), gateway, now);
         rings_refused += u64::from(is_refused);
-        if !driver.turn(gateway, wire, now) {
+        let turned = driver.turn(gateway, wire, now);
+        if !turned.goes_on {
             return Ok(driver.told(turn + 1, rings_refused, true));
         }
     }

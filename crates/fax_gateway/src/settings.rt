@@ -1,19 +1,28 @@
 //! The settings of a gateway.
 ghost use Rattle.std.specs.Prelude.{◌≡◌};
 
+/// The pause behind a preamble that is usual: the pace of each other packet.
+pub(crate) const PREAMBLE_MS: u16 = 40;
+
 /// What is set for a gateway, on both legs.
 #[derive(Clone, Copy, PartialEq, Eq, Debug)]
 pub struct Settings {
     /// How many of the packets before its own each datagram has: at most 8.
     pub redundancy: u8,
+    /// How long the packet behind a preamble waits, in milliseconds: from 40, as behind each other packet, to 2,000. Behind a
+    /// media gateway, which replays each signal over a modem, a called machine wants 1,000 (ITU-T T.30, 5.3.1).
+    pub preamble_ms: u16,
 }
 
 impl Default for Settings {
     ghost use Rattle.std.specs.Prelude.{◌≡◌};
 
-    ghost is_default = { λ settings. settings ≡ record { redundancy = 3 } };
+    ghost is_default = { λ settings. settings ≡ record { redundancy = 3; preamble_ms = 40 } };
 
     fn default() -> Self {
-        Settings { redundancy: 3 }
+        Settings {
+            redundancy: 3,
+            preamble_ms: PREAMBLE_MS,
+        }
     }
 }

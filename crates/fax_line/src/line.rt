@@ -1,16 +1,17 @@
 //! One line.
-ghost use Rattle.std.specs.Prelude.{◌≡◌, List, [], ◌∷◌, ℕ, IfOk, OnErr, Err, IsTrue, ◌↔◌, ◌<◌, ◌≤◌, false, true, length, slice_get};
+ghost use Rattle.std.specs.Prelude.{◌≡◌, List, [], ◌∷◌, ℕ, IfOk, OnErr, Err, IsTrue, ◌↔◌, ◌<◌, ◌≤◌, false, true, length, is_some, option_copied, slice_get};
 ghost use Rattle.fax_call.specs.Writings.{Writing};
 ghost use Rattle.fax_gateway.specs.CallingLegs.{calling_leg, idle_after};
 ghost use Rattle.fax_gateway.specs.Driving.{Entry, HasMade, failed_in_a_row, most_failed, receipts};
 ghost use Rattle.fax_gateway.specs.Events.{Event, rings};
 ghost use Rattle.fax_gateway.specs.Reached.{IsReachedBy};
 ghost use Rattle.fax_gateway.specs.Setups.{AreAllowed, Setup};
-ghost use Rattle.fax_line.specs.Actions.{Goes, IsNew, Rings, Turns, call_of};
+ghost use Rattle.fax_gateway.specs.Turns.{call_dialled, call_ended, call_kept};
+ghost use Rattle.fax_line.specs.Actions.{Goes, IsNew, Rings, TellsTurn, Turns, call_of, no_turn};
 
 use fax_bits::NoMemory;
-use fax_gateway::{Driver, Gateway, RingFault, Settings, Side};
-use fax_jobs::Report;
+use fax_gateway::{Driver, Gateway, RingFault, Settings, Side, Turned};
+use fax_jobs::{Job, Report};
 use fax_pagestore::PackedRows;
 use fax_repeat::TimedWire;
 use std::alloc::Global;
@@ -22,8 +23,8 @@ pub struct Line<W: TimedWire + Drop> {
     gateway: Gateway<PackedRows>,
     driver: Driver,
     wire: W,
-    /// Whether one of the last 100 receives did not fail.
-    goes_on: bool,
+    /// What the last turn told.
+    turned: Turned,
 }
 
 impl<W: TimedWire + Drop> Model for Line<W> {
@@ -31,9 +32,9 @@ impl<W: TimedWire + Drop> Model for Line<W> {
 
     ghost Value = { LineValue };
 
-    ghost view = { λ l. record { gateway = l.gateway; driver = l.driver; wire = W.known l.wire; goes_on = l.goes_on } };
+    ghost view = { λ l. record { gateway = l.gateway; driver = l.driver; wire = W.known l.wire; turned = l.turned } };
 
-    ghost invariant = { λ l. TellsWhether l.goes_on l.driver };
+    ghost invariant = { λ l. TellsWhether l.turned.goes_on l.driver };
 }
 
 impl<W: TimedWire + Drop> Line<W> {
@@ -43,6 +44,7 @@ impl<W: TimedWire + Drop> Line<W> {
         ensures new { IfOk result (λ line. IsNew line) }
         ensures settings { IfOk result (λ line. line.gateway.settings ≡ settings) }
         ensures wire { IfOk result (λ line. line.wire ≡ W.known wire) }
+        ensures turned { IfOk result (λ line. line.turned ≡ no_turn) }
     {
         let gateway = Gateway::with_settings(alloc, settings)?;
         let driver = Driver::new(alloc)?;
@@ -50,21 +52,32 @@ impl<W: TimedWire + Drop> Line<W> {
             gateway,
             driver,
             wire,
-            goes_on: true,
+            turned: Turned {
+                goes_on: true,
+                report: None,
+                kept: None,
+                ended: None,
+                gave_up: None,
+                dialled: None,
+            },
         })
     }
 
-    /// A turn: the wire is told the time, and the gateway is driven.
+    /// A turn: the wire is told the time, and the gateway is driven. What it told is kept until the next.
     pub fn turn(&mut self, now: u64)
-        ensures { Goes (Turns now ∷ []) self.old self.new }
+        ensures goes { Goes (Turns now ∷ []) self.old self.new }
+        ensures tells { TellsTurn now self.old self.new }
+        ensures ended { self.new.turned.ended ≡ call_ended (call_kept self.old.gateway.calling) (call_kept self.new.gateway.calling) }
+        ensures dialled { self.new.turned.dialled ≡ call_dialled (is_some self.old.gateway.book.sending) self.new.gateway.book.sending }
     {
         self.wire.go_on(now);
-        self.goes_on = self.driver.turn(&mut self.gateway, &mut self.wire, now);
+        self.turned = self.driver.turn(&mut self.gateway, &mut self.wire, now);
     }
 
     /// The wire is told the time, between two turns.
     pub fn tell_time(&mut self, now: u64)
-        ensures { Goes [] self.old self.new }
+        ensures goes { Goes [] self.old self.new }
+        ensures turned { self.new.turned ≡ self.old.turned }
     {
         self.wire.go_on(now);
     }
@@ -77,6 +90,7 @@ impl<W: TimedWire + Drop> Line<W> {
         ensures no_number { (setup : Setup) (writes : Writing) (trace : List Event) → IsReachedBy setup writes trace self.old.gateway → idle_after (calling_leg setup trace) ≡ true
             → result ≡ Err RingFault.NoNumber ↔ (4294967296 ≤ rings trace) }
         ensures err { OnErr result (self.new ≡ self.old) }
+        ensures turned { self.new.turned ≡ self.old.turned }
     {
         match self.gateway.ring(now) {
             Ok(number) => {
@@ -89,10 +103,31 @@ impl<W: TimedWire + Drop> Line<W> {
 
     /// Whether one of the last 100 receives did not fail.
     pub fn goes_on(&self) -> bool
-        ensures same { result ≡ self.now.goes_on }
+        ensures same { result ≡ self.now.turned.goes_on }
         ensures goes_on { (made : List Entry) → HasMade made self.now.driver → IsTrue result ↔ (failed_in_a_row (receipts made) < most_failed) }
     {
-        self.goes_on
+        self.turned.goes_on
+    }
+
+    /// What the last turn told. Before the first one: that it goes on, and nothing else.
+    pub fn turned(&self) -> Turned
+        ensures { result ≡ self.now.turned }
+    {
+        self.turned
+    }
+
+    /// The number of the call that is on on the calling leg.
+    pub fn call(&self) -> Option<u32>
+        ensures { result ≡ call_kept self.now.gateway.calling }
+    {
+        self.gateway.call()
+    }
+
+    /// The job that is being sent: its call is on on the called leg.
+    pub fn sending(&self) -> Option<&Job<PackedRows>>
+        ensures { option_copied result ≡ self.now.gateway.book.sending }
+    {
+        self.gateway.sending()
     }
 
     /// Report i of those that are kept, counted from 0, the oldest.

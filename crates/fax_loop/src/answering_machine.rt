@@ -1,11 +1,11 @@
 //! The machine that is called.
-ghost use Rattle.std.specs.Prelude.{◌≤◌};
-ghost use Rattle.fax_udptl.specs.Sending.{most_redundancy};
+ghost use Rattle.fax_gateway.specs.Setups.{AreAllowed};
 
 use crate::exchange::{MOST_DATAGRAMS, MOST_OCTETS};
 use crate::link::Link;
 use fax_answer::{Answerer, State, Step};
 use fax_bits::NoMemory;
+use fax_gateway::Settings;
 use fax_pagestore::{Page, RowStore};
 use std::alloc::Global;
 use std::net::UdpSocket;
@@ -20,13 +20,13 @@ pub(crate) struct AnsweringMachine<S: RowStore> {
 }
 
 impl<S: RowStore> AnsweringMachine<S> {
-    /// A machine that no datagram has reached, and whose own have this redundancy, at most 8.
-    pub fn new(alloc: Global, socket: UdpSocket, redundancy: u8) -> Result<Self, NoMemory>
-        requires { redundancy ≤ most_redundancy }
+    /// A machine that no datagram has reached, with these settings.
+    pub fn new(alloc: Global, socket: UdpSocket, settings: Settings) -> Result<Self, NoMemory>
+        requires { AreAllowed settings }
     {
-        let link = Link::new(alloc, socket, redundancy)?;
+        let link = Link::new(alloc, socket, settings.redundancy)?;
         Ok(AnsweringMachine {
-            answerer: Answerer::new(alloc),
+            answerer: Answerer::new(alloc, settings.preamble_ms),
             link,
             has_rung: false,
             confirmed: Vec::new(alloc),

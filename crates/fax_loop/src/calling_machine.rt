@@ -1,12 +1,13 @@
 //! The machine that calls.
-ghost use Rattle.std.specs.Prelude.{◌≤◌, IfOk};
-ghost use Rattle.fax_udptl.specs.Sending.{most_redundancy};
+ghost use Rattle.std.specs.Prelude.{IfOk};
 ghost use Rattle.fax_call.specs.Following.{IsJobOfCall};
+ghost use Rattle.fax_gateway.specs.Setups.{AreAllowed};
 
 use crate::exchange::{MOST_DATAGRAMS, MOST_OCTETS};
 use crate::link::Link;
 use fax_bits::NoMemory;
 use fax_call::Caller;
+use fax_gateway::Settings;
 use fax_jobs::Job;
 use fax_pagestore::RowStore;
 use std::alloc::Global;
@@ -20,18 +21,18 @@ pub(crate) struct CallingMachine {
 }
 
 impl CallingMachine {
-    /// A machine whose call begins at moment 0, and whose datagrams have this redundancy, at most 8.
+    /// A machine whose call begins at moment 0, with these settings.
     pub fn new<S: RowStore>(
         alloc: Global,
         socket: UdpSocket,
         job: &Job<S>,
-        redundancy: u8,
+        settings: Settings,
     ) -> Result<Self, NoMemory>
-        requires { redundancy ≤ most_redundancy }
+        requires { AreAllowed settings }
         ensures { IfOk result (λ machine. IsJobOfCall machine.caller.procedure job.now) }
     {
-        let link = Link::new(alloc, socket, redundancy)?;
-        let mut caller = Caller::new(alloc);
+        let link = Link::new(alloc, socket, settings.redundancy)?;
+        let mut caller = Caller::new(alloc, settings.preamble_ms);
         // what it ensures of the job is that it has a page
         let _ = job.pages();
         caller.start(job.format(), job.page_count(), 0);

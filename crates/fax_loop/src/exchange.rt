@@ -21,7 +21,7 @@ use std::alloc::Global;
 use std::net::Net;
 
 /// The most rounds of a call.
-const MOST_ROUNDS: u32 = 5_000;
+const MOST_ROUNDS: u32 = 300_000;
 
 /// From a round to the next, in milliseconds. No clock is read.
 const ROUND_MS: u64 = 40;
@@ -92,8 +92,8 @@ impl Exchange {
         let (caller, calling) = socket_pair(net)?;
         let (called, answerer) = socket_pair(net)?;
         let wire = UdpWire::new(calling, called)?;
-        let caller = CallingMachine::new(alloc, caller, job, settings.redundancy)?;
-        let answerer = AnsweringMachine::new(alloc, answerer, settings.redundancy)?;
+        let caller = CallingMachine::new(alloc, caller, job, settings)?;
+        let answerer = AnsweringMachine::new(alloc, answerer, settings)?;
         let driver = Driver::new(alloc)?;
         let gateway = rung_gateway(alloc, settings)?;
         Ok(Exchange {
@@ -127,9 +127,9 @@ impl Exchange {
         ensures driven { OnOk result ((set : GatewaySettings) → IsDriven set self.old.gateway self.old.driver → IsDriven set self.new.gateway self.new.driver) }
     {
         self.caller.round(job, now)?;
-        let goes_on = self.driver.turn(&mut self.gateway, &mut self.wire, now);
+        let turned = self.driver.turn(&mut self.gateway, &mut self.wire, now);
         self.answerer.round(now)?;
-        Ok(goes_on)
+        Ok(turned.goes_on)
     }
 
     /// How it ended.

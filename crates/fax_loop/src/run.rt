@@ -14,7 +14,7 @@ use std::net::Net;
 
 /// Reads a page as hex text, sends it from one machine over a gateway to another, over sockets of the loopback interface,
 /// writes the line of the job and the rows that the called machine confirmed, and says with which exit status the process
-/// ends. The gateway and both machines have these settings, of which the redundancy is at most 8.
+/// ends. The gateway and both machines have these settings, within their limits.
 pub fn run_loop<R: Net, I: Source, O: Sink>(
     net: &R,
     alloc: Global,

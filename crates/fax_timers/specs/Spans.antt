@@ -16,3 +16,7 @@ t4 = 3000
 -- the least time between two packets given on a leg (this project's profile)
 abbrev pub pace : ℕ
 pace = 40
+
+-- the longest pause behind a preamble (this project's profile)
+abbrev pub longest_pause : ℕ
+longest_pause = 2000

@@ -11,6 +11,6 @@ mod spans;
 mod timer;
 
 pub use clock::Clock;
-pub use pace::Pace;
-pub use spans::{PACE_MS, T1_MS, T2_MS, T4_MS};
+pub use pace::{LastPacket, Pace};
+pub use spans::{LONGEST_PAUSE_MS, PACE_MS, T1_MS, T2_MS, T4_MS};
 pub use timer::Timer;

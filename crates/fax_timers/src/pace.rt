@@ -1,47 +1,69 @@
-//! The pace of a leg: packets are given at least [`PACE_MS`] apart.
-ghost use Rattle.std.specs.Prelude.{Option, None, Some, ◌≡◌};
-ghost use Rattle.fax_timers.specs.Paces.{pace_allows};
+//! The pace of a leg: packets are given at least [`PACE_MS`] apart, and behind the preamble of a frame a pause is set.
+ghost use Rattle.std.specs.Prelude.{◌≡◌};
+ghost use Rattle.fax_timers.specs.Paces.{new_pace, pace_allows, pace_behind};
 
-use crate::spans::PACE_MS;
+use crate::spans::{LONGEST_PAUSE_MS, PACE_MS};
 use std::marker::Model;
 
-/// The moment, in milliseconds, of the last packet that was given on a leg.
+/// A packet that was given: its moment, and how long the next one waits behind it, in milliseconds.
+#[derive(Clone, Copy)]
+pub struct LastPacket {
+    at: u64,
+    span: u64,
+}
+
+/// The last packet that was given on a leg, and how long the next one waits behind a preamble, in milliseconds.
 #[derive(Clone, Copy)]
 pub struct Pace {
-    last: Option<u64>,
+    preamble_ms: u16,
+    last: Option<LastPacket>,
 }
 
 impl Model for Pace {
-    ghost use Rattle.std.specs.Prelude.{ℕ, Option};
+    ghost use Rattle.fax_timers.specs.Paces.{PaceValue};
 
-    ghost Value = { Option ℕ };
+    ghost Value = { PaceValue };
 
-    ghost view = { λ pace. pace.last };
+    ghost view = { λ pace. record { pause = pace.preamble_ms; last = pace.last } };
 
-    ghost inverse = { λ last. record { last = last } };
+    ghost inverse = { λ pace. record { preamble_ms = pace.pause; last = pace.last } };
 }
 
 impl Pace {
-    /// The pace of a leg on which no packet was given.
-    pub fn new() -> Self
-        ensures { result ≡ None }
+    /// The pace of a leg on which no packet was given. The packet behind a preamble waits so many milliseconds there, at
+    /// most [`LONGEST_PAUSE_MS`].
+    pub fn new(preamble_ms: u16) -> Self
+        ensures { result ≡ new_pace preamble_ms }
     {
-        Pace { last: None }
+        Pace {
+            preamble_ms,
+            last: None,
+        }
     }
 
-    /// Whether a packet may be given now: where none was, or [`PACE_MS`] milliseconds or more after the
-    /// last. So none may behind one of the last moments of a `u64`.
+    /// Whether a packet may be given now: where none was, or where the last was given long enough ago. So none may behind
+    /// one of the last moments of a `u64`.
     pub fn allows(&self, now: u64) -> bool
-        ensures { result ≡ pace_allows self.now now }
+        ensures { result ≡ pace_allows self.now.last now }
     {
-        self.last
-            .is_none_or(|last| now.saturating_sub(last) >= PACE_MS)
+        match self.last {
+            None => true,
+            Some(last) => match last.at.checked_add(last.span) {
+                None => false,
+                Some(next) => next <= now,
+            },
+        }
     }
 
-    /// Notes that a packet is given now.
-    pub fn given(&mut self, now: u64)
-        ensures { self.new ≡ Some now }
+    /// Notes that a packet is given now, which is a preamble or not.
+    pub fn given(&mut self, is_preamble: bool, now: u64)
+        ensures { self.new ≡ pace_behind is_preamble self.old now }
     {
-        self.last = Some(now);
+        let span = if is_preamble {
+            u64::from(self.preamble_ms).min(LONGEST_PAUSE_MS)
+        } else {
+            PACE_MS
+        };
+        self.last = Some(LastPacket { at: now, span });
     }
 }

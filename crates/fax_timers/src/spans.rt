@@ -11,3 +11,6 @@ pub const T4_MS: u64 = 3_000;
 
 /// The least time between two packets given on a leg (this project's profile).
 pub const PACE_MS: u64 = 40;
+
+/// The longest pause behind the preamble of a frame (this project's profile).
+pub const LONGEST_PAUSE_MS: u64 = 2_000;

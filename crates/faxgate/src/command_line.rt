@@ -11,7 +11,7 @@ use std::convert::AsStr;
 
 /// What is asked for.
 #[derive(Clone, Copy, PartialEq, Eq, Debug)]
-pub enum Request {
+pub enum Request<'a> {
     /// The rows of a page, or the page of rows.
     Page(PageOptions),
     /// What a gateway with these settings answers to a script.
@@ -20,11 +20,13 @@ pub enum Request {
     Capture(Machines),
     /// A page that goes through a gateway with these settings, over sockets.
     Loop(Settings),
+    /// A server of the lines that the configuration at this path has.
+    Serve(&'a str),
 }
 
 /// What the words of a command line ask for, of which the first is the program's name. An `Err` is the
 /// help that was asked for, or what is wrong.
-pub fn request_of<'a, S: AsStr>(alloc: Global, words: &'a [S]) -> Result<Request, Error> {
+pub fn request_of<'a, S: AsStr>(alloc: Global, words: &'a [S]) -> Result<Request<'a>, Error> {
     let matches = faxgate_command(alloc)?.try_get_matches_from(words)?;
     if let Some(page) = matches.subcommand_matches("page") {
         return Ok(Request::Page(options_of(page)));
@@ -34,6 +36,9 @@ pub fn request_of<'a, S: AsStr>(alloc: Global, words: &'a [S]) -> Result<Request
     }
     if let Some(given) = matches.subcommand_matches("loop") {
         return Ok(Request::Loop(settings_of(given)));
+    }
+    if let Some(given) = matches.subcommand_matches("serve") {
+        return Ok(Request::Serve(given.get_str("config").unwrap_or("")));
     }
     match matches.subcommand_matches("trace") {
         Some(given) => Ok(Request::Trace(settings_of(given))),
@@ -64,9 +69,14 @@ fn options_of(page: &ArgMatches<'_>) -> PageOptions {
 
 /// The settings of the gateway that were given, and the defaults of those that were not.
 fn settings_of(given: &ArgMatches<'_>) -> Settings {
-    match given.get_one::<u8>("redundancy") {
-        Some(redundancy) => Settings { redundancy },
-        None => Settings::default(),
+    let usual = Settings::default();
+    Settings {
+        redundancy: given
+            .get_one::<u8>("redundancy")
+            .unwrap_or(usual.redundancy),
+        preamble_ms: given
+            .get_one::<u16>("preamble")
+            .unwrap_or(usual.preamble_ms),
     }
 }
 
@@ -84,6 +94,11 @@ fn output_of(page: &ArgMatches<'_>) -> Output {
 /// The most of the packets before its own that a datagram has.
 pub const MOST_REDUNDANCY: u8 = 8;
 
+/// The shortest and the longest pause behind a preamble, in milliseconds.
+pub const LEAST_PREAMBLE_MS: u16 = 40;
+
+pub const MOST_PREAMBLE_MS: u16 = 2_000;
+
 /// What `faxgate --version` prints behind the name.
 const VERSION: &str = "0.1.0";
 
@@ -93,13 +108,14 @@ fn faxgate_command<'a>(alloc: Global) -> Result<Command<'a>, AllocError> {
         .bin_name("faxgate")?
         .version(VERSION)
         .about(
-            "Reads and writes the pages of a fax gateway, plays what came to one, from a capture too, and sends a page through one",
+            "Serves the lines of a fax gateway, reads and writes its pages, plays what came to one, from a capture too, and sends a page through one",
         )
         .subcommand_required(true)
         .subcommand(page_command(alloc)?)?
         .subcommand(trace_command(alloc)?)?
         .subcommand(capture_command(alloc)?)?
-        .subcommand(loop_command(alloc)?)
+        .subcommand(loop_command(alloc)?)?
+        .subcommand(serve_command(alloc)?)
 }
 
 /// The command line of `faxgate trace`.
@@ -108,7 +124,8 @@ fn trace_command<'a>(alloc: Global) -> Result<Command<'a>, AllocError> {
         .about(
             "Play a script on a new gateway, and print what it answers. Lines of a script: R (it rings), A HEX and B HEX (a datagram came on the calling or on the called leg), T MS (time goes on to a moment)",
         )
-        .arg(redundancy_option(alloc))
+        .arg(redundancy_option(alloc))?
+        .arg(preamble_option(alloc))
 }
 
 /// The command line of `faxgate loop`.
@@ -117,7 +134,25 @@ fn loop_command<'a>(alloc: Global) -> Result<Command<'a>, AllocError> {
         .about(
             "Send a page from one machine through a gateway to another, over UDP on this host: read its octets as hex text, and print how the job ended and the rows that were confirmed",
         )
-        .arg(redundancy_option(alloc))
+        .arg(redundancy_option(alloc))?
+        .arg(preamble_option(alloc))
+}
+
+/// The command line of `faxgate serve`.
+fn serve_command<'a>(alloc: Global) -> Result<Command<'a>, AllocError> {
+    let config = Arg::new(alloc, "config")
+        .long("config")
+        .value_name("FILE")
+        .required(true)
+        .action(ArgAction::Set)
+        .help(
+            "The configuration, a TOML document: the lines, and the control socket if there is one",
+        );
+    Command::new(alloc, "serve")
+        .about(
+            "Serve the lines of a configuration in real time, over UDP. Words come on the control socket, or on standard input: ring LINE [TAG], peer LINE calling|called ADDRESS, report LINE, status, metrics, events, stop. Prints what happens as lines of JSON where there is no control socket",
+        )
+        .arg(config)
 }
 
 /// The option of the redundancy.
@@ -128,6 +163,21 @@ fn redundancy_option<'a>(alloc: Global) -> Arg<'a> {
         .value_parser(ValueParser::Unsigned(0, u64::from(MOST_REDUNDANCY)))
         .default_value("3")
         .help("How many of the packets before its own each datagram has, from 0 to 8")
+}
+
+/// The option of the pause behind a preamble.
+fn preamble_option<'a>(alloc: Global) -> Arg<'a> {
+    Arg::new(alloc, "preamble")
+        .long("preamble")
+        .value_name("MS")
+        .value_parser(ValueParser::Unsigned(
+            u64::from(LEAST_PREAMBLE_MS),
+            u64::from(MOST_PREAMBLE_MS),
+        ))
+        .default_value("40")
+        .help(
+            "How long the packet behind a preamble waits, from 40 to 2000 milliseconds: 1000 where a machine stands behind a media gateway",
+        )
 }
 
 /// The command line of `faxgate page`.

@@ -1,34 +1,39 @@
 //! `faxgate page` prints the rows of a page (ITU-T T.4), or the page of rows; `faxgate trace` prints what a gateway
 //! answers to a script of what came to it; `faxgate capture` prints the script of a captured call; `faxgate loop` sends a
-//! page through a gateway, over sockets of this host.
+//! page through a gateway, over sockets of this host; `faxgate serve` serves the lines of a configuration.
 #![tactic(auto)]
 
 ghost use Rattle.fax_gateway.specs.Setups.{AreAllowed};
 
 mod capture_line;
 mod command_line;
+mod serving;
 #[cfg(test)]
 mod tests;
 
 use clap::error::ErrorKind;
-use command_line::{MOST_REDUNDANCY, Request, request_of};
+use command_line::{LEAST_PREAMBLE_MS, MOST_PREAMBLE_MS, MOST_REDUNDANCY, Request, request_of};
 use fax_capture::run_capture;
 use fax_command::{Status, StdSink, StdSource, run_page};
 use fax_gateway::Settings;
 use fax_loop::run_loop;
 use fax_trace::run_trace;
+use serving::serve_file;
 use std::net::Net;
 use std::process::ExitCode;
-use std::rt::Env;
+use std::rt::{Clock, Env, Files};
 use std::{env, io};
 
 fn main(rt: HostRuntime) -> ExitCode {
     ExitCode::from(run_words(&rt, &rt))
 }
 
-/// Does what the words of the command line ask for, and says with which exit status the process ends. Sockets are those
-/// of the network.
-fn run_words<R: Print + Eprint + Input + Env + AllocGlobal, N: Net>(rt: &R, net: &N) -> u8 {
+/// Does what the words of the command line ask for, and says with which exit status the process ends. Sockets, files
+/// and the clock are those of the system.
+fn run_words<R: Print + Eprint + Input + Env + AllocGlobal, N: Net + Files + Clock + AllocGlobal>(
+    rt: &R,
+    system: &N,
+) -> u8 {
     let words = match words_of(rt) {
         Ok(words) => words,
         Err(error) => return tell_unread_words(rt, error).code(),
@@ -55,12 +60,13 @@ fn run_words<R: Print + Eprint + Input + Env + AllocGlobal, N: Net>(rt: &R, net:
             &machines.called,
         ),
         Request::Loop(settings) => run_loop(
-            net,
+            system,
             rt.alloc(),
             &mut source,
             &mut sink,
             allowed(settings),
         ),
+        Request::Serve(path) => serve_file(rt, system, path).code(),
     }
 }
 
@@ -68,7 +74,9 @@ fn run_words<R: Print + Eprint + Input + Env + AllocGlobal, N: Net>(rt: &R, net:
 fn allowed(settings: Settings) -> Settings
     ensures { AreAllowed result }
 {
-    if settings.redundancy <= MOST_REDUNDANCY {
+    let is_pause = LEAST_PREAMBLE_MS <= settings.preamble_ms
+        && settings.preamble_ms <= MOST_PREAMBLE_MS;
+    if settings.redundancy <= MOST_REDUNDANCY && is_pause {
         settings
     } else {
         Settings::default()

@@ -4,6 +4,8 @@ mod desk;
 
 use crate::run_words;
 use desk::Desk;
+use std::fs;
+use std::test::Fail;
 
 /// A page of one white row of 1,728 elements.
 const PAGE: &str = "0014d9a8008008008008008008";
@@ -80,6 +82,25 @@ const ANSWERS: &[(&[&str], &str, u8, &str)] = &[
         "ring 0\na 000001040000\na 000101060000\n",
     ),
     (
+        &[
+            "faxgate",
+            "trace",
+            "--redundancy",
+            "0",
+            "--preamble",
+            "1000",
+        ],
+        "R\nT 0\nT 40\nT 80\nT 1039\nT 1040\n",
+        0,
+        "ring 0\na 000001040000\na 000101060000\na 00020cc002800005ffc80100775e400000\n",
+    ),
+    (
+        &["faxgate", "loop", "--preamble=2000"],
+        PAGE,
+        0,
+        "job 0 1728 standard 1 1 Delivered\n1728\n",
+    ),
+    (
         &["faxgate", "loop", "--redundancy=8"],
         PAGE,
         0,
@@ -111,10 +132,11 @@ const ANSWERS: &[(&[&str], &str, u8, &str)] = &[
     (&["faxgate", "trace", "-h"], "", 0, TRACE_HELP),
     (&["faxgate", "capture", "-h"], "", 0, CAPTURE_HELP),
     (&["faxgate", "help", "loop"], "", 0, LOOP_HELP),
+    (&["faxgate", "serve", "--help"], "", 0, SERVE_HELP),
 ];
 
 const HELP: &str = "\
-Reads and writes the pages of a fax gateway, plays what came to one, from a capture too, and sends a page through one
+Serves the lines of a fax gateway, reads and writes its pages, plays what came to one, from a capture too, and sends a page through one
 
 Usage: faxgate <COMMAND>
 
@@ -123,6 +145,7 @@ Commands:
   trace    Play a script on a new gateway, and print what it answers. Lines of a script: R (it rings), A HEX and B HEX (a datagram came on the calling or on the called leg), T MS (time goes on to a moment)
   capture  Read a capture made at a gateway (pcap or pcapng), and print the script of its call for faxgate trace: the ring, the datagrams of both machines at their ticks, and ticks until 40 s behind the last
   loop     Send a page from one machine through a gateway to another, over UDP on this host: read its octets as hex text, and print how the job ended and the rows that were confirmed
+  serve    Serve the lines of a configuration in real time, over UDP. Words come on the control socket, or on standard input: ring LINE [TAG], peer LINE calling|called ADDRESS, report LINE, status, metrics, events, stop. Prints what happens as lines of JSON where there is no control socket
   help     Print this message or the help of the given subcommand(s)
 
 Options:
@@ -152,6 +175,7 @@ Usage: faxgate trace [OPTIONS]
 
 Options:
       --redundancy <PACKETS>  How many of the packets before its own each datagram has, from 0 to 8 [default: 3]
+      --preamble <MS>         How long the packet behind a preamble waits, from 40 to 2000 milliseconds: 1000 where a machine stands behind a media gateway [default: 40]
   -h, --help                  Print help
 ";
 
@@ -179,6 +203,16 @@ Statuses:
   4  a read or a write failed, or the capture has more than 16,777,216 octets
 ";
 
+const SERVE_HELP: &str = "\
+Serve the lines of a configuration in real time, over UDP. Words come on the control socket, or on standard input: ring LINE [TAG], peer LINE calling|called ADDRESS, report LINE, status, metrics, events, stop. Prints what happens as lines of JSON where there is no control socket
+
+Usage: faxgate serve --config <FILE>
+
+Options:
+      --config <FILE>  The configuration, a TOML document: the lines, and the control socket if there is one
+  -h, --help           Print help
+";
+
 const LOOP_HELP: &str = "\
 Send a page from one machine through a gateway to another, over UDP on this host: read its octets as hex text, and print how the job ended and the rows that were confirmed
 
@@ -186,6 +220,7 @@ Usage: faxgate loop [OPTIONS]
 
 Options:
       --redundancy <PACKETS>  How many of the packets before its own each datagram has, from 0 to 8 [default: 3]
+      --preamble <MS>         How long the packet behind a preamble waits, from 40 to 2000 milliseconds: 1000 where a machine stands behind a media gateway [default: 40]
   -h, --help                  Print help
 ";
 
@@ -194,7 +229,7 @@ const REFUSALS: &[(&[&str], &str)] = &[
     (
         &["faxgate"],
         "error: 'faxgate' requires a subcommand but one was not provided
-  [subcommands: page, trace, capture, loop, help]
+  [subcommands: page, trace, capture, loop, serve, help]
 
 Usage: faxgate <COMMAND>
 ",
@@ -275,6 +310,16 @@ Usage: faxgate trace [OPTIONS]
         "error: invalid value '9' for '--redundancy <PACKETS>': 9 is not in 0..=8
 ",
     ),
+    (
+        &["faxgate", "loop", "--preamble", "39"],
+        "error: invalid value '39' for '--preamble <MS>': 39 is not in 40..=2000
+",
+    ),
+    (
+        &["faxgate", "trace", "--preamble", "2001"],
+        "error: invalid value '2001' for '--preamble <MS>': 2001 is not in 40..=2000
+",
+    ),
 ];
 
 #[test]
@@ -302,6 +347,34 @@ fn what_is_told_of_a_refusal(rt: HostRuntime) {
             "at {words:?}"
         );
     }
+}
+
+/// A configuration that is refused, and what is told behind the name of its file.
+const CONFIGURATIONS: &[(&str, &str)] = &[
+    ("lines = 3", "lines is no list of tables"),
+    ("[[lines]]\nname = 'a1'", "line \"a1\": calling is absent"),
+    (
+        "spool = 'spool'",
+        "spool: pages cannot be kept on a disk yet",
+    ),
+];
+
+#[test]
+fn what_is_told_of_a_configuration(rt: HostRuntime) -> Result<(), Fail> {
+    let words = ["faxgate", "serve", "--config", "refused.toml"];
+    for (config, wanted) in CONFIGURATIONS {
+        fs::write(&rt, "refused.toml", *config)?;
+        let desk = Desk::new(rt.alloc(), &words, b"");
+        assert_eq!(rt; run_words(&desk, &rt), 2, "at {config}");
+        let (printed, told) = desk.into_texts();
+        assert!(rt; printed.is_empty(), "at {config}");
+        let wanted = format!(in rt.alloc(); "faxgate: refused.toml: {wanted}\n")?;
+        assert_eq!(rt; told.as_slice(), wanted.as_bytes(), "at {config}");
+    }
+    fs::remove_file(&rt, "refused.toml")?;
+    let desk = Desk::new(rt.alloc(), &words, b"");
+    assert_eq!(rt; run_words(&desk, &rt), 4);
+    Ok(())
 }
 
 /// The picture of a white row: the head, and an octet of 0 for each eight picture elements.

@@ -9,4 +9,6 @@ mod lines;
 #[cfg(test)]
 mod repeats;
 #[cfg(test)]
+mod serving;
+#[cfg(test)]
 mod spool;

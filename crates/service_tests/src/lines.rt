@@ -2,7 +2,7 @@
 mod peers;
 
 use fax_bits::NoMemory;
-use fax_gateway::{RingFault, Settings};
+use fax_gateway::{Kept, RingFault, Settings, Turned};
 use fax_jobs::{Outcome, Report};
 use fax_line::{Line, Lines, Order, Pace, SLOTS, serve};
 use fax_pagestore::Format;
@@ -25,16 +25,40 @@ const DELIVERED: Report = Report {
     outcome: Outcome::Delivered,
 };
 
+/// What is told while it goes through: each of it once. The calling machine hangs up.
+const TOLD: Turned = Turned {
+    goes_on: true,
+    report: Some(DELIVERED),
+    kept: Some(Kept {
+        call: 0,
+        format: Format {
+            width: Width::W1728,
+            fine: false,
+        },
+        rows: 1,
+        closes: true,
+    }),
+    ended: Some(0),
+    gave_up: None,
+    dialled: Some(0),
+};
+
+/// What is told of a turn in which nothing happens.
+const NOTHING: Turned = Turned {
+    goes_on: true,
+    report: None,
+    kept: None,
+    ended: None,
+    gave_up: None,
+    dialled: None,
+};
+
 type PeerLine = Line<RepeatingWire<PeerWire>>;
 
 /// A line between two machines, which loses each so many-th datagram that it sends. 0: none.
 fn line_of(alloc: Global, loses: u32, policy: RepeatPolicy) -> Result<PeerLine, NoMemory> {
     let wire = PeerWire::new(alloc, loses)?;
-    Line::new(
-        alloc,
-        Settings { redundancy: 3 },
-        RepeatingWire::new(wire, policy),
-    )
+    Line::new(alloc, Settings::default(), RepeatingWire::new(wire, policy))
 }
 
 /// Calls through a line of its own, with repeats 20 ms behind each turn.
@@ -65,6 +89,50 @@ fn a_page_goes_through_a_line(rt: HostRuntime) -> Result<(), Fail> {
         assert_eq!(rt; line.waiting(), 0, "at {policy:?}");
         assert!(rt; line.goes_on(), "at {policy:?}");
     }
+    Ok(())
+}
+
+/// What a line told in the turns of a call, and how much of it there was.
+fn told_in_a_call(line: &mut PeerLine) -> (Turned, u32) {
+    let mut told = NOTHING;
+    let mut count = 0u32;
+    for turn in 0..200u64 {
+        line.turn(40 * turn);
+        let turned = line.turned();
+        count = count.saturating_add(count_of(&turned));
+        told = Turned {
+            goes_on: told.goes_on && turned.goes_on,
+            report: told.report.or(turned.report),
+            kept: told.kept.or(turned.kept),
+            ended: told.ended.or(turned.ended),
+            gave_up: told.gave_up.or(turned.gave_up),
+            dialled: told.dialled.or(turned.dialled),
+        };
+    }
+    (told, count)
+}
+
+/// How much a turn told.
+fn count_of(turned: &Turned) -> u32 {
+    let told = [
+        turned.report.is_some(),
+        turned.kept.is_some(),
+        turned.ended.is_some(),
+        turned.gave_up.is_some(),
+        turned.dialled.is_some(),
+    ];
+    told.iter().map(|is_told| u32::from(*is_told)).sum()
+}
+
+/// A page, the end of its call, the call of its job and the job's end are told once each.
+#[test]
+fn a_line_tells_what_happens(rt: HostRuntime) -> Result<(), Fail> {
+    let mut line = line_of(rt.alloc(), 0, RepeatPolicy::Never)?;
+    assert!(rt; line.turned() == NOTHING && line.call().is_none());
+    assert!(rt; line.ring(0) == Ok(0));
+    assert!(rt; line.call() == Some(0) && line.sending().is_none());
+    assert!(rt; told_in_a_call(&mut line) == (TOLD, 4));
+    assert!(rt; line.call().is_none() && line.sending().is_none());
     Ok(())
 }
 

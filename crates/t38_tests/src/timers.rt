@@ -61,10 +61,10 @@ fn moments_stop_at_the_last_one(rt: HostRuntime) {
 
 #[test]
 fn packets_are_40_milliseconds_apart(rt: HostRuntime) {
-    let mut pace = Pace::new();
+    let mut pace = Pace::new(1000);
     assert!(rt; pace.allows(0));
     assert!(rt; pace.allows(u64::MAX));
-    pace.given(1000);
+    pace.given(false, 1000);
     for (now, allowed) in [
         (0, false),
         (1000, false),
@@ -74,10 +74,33 @@ fn packets_are_40_milliseconds_apart(rt: HostRuntime) {
     ] {
         assert_eq!(rt; pace.allows(now), allowed);
     }
-    pace.given(u64::MAX - 40);
+    pace.given(false, u64::MAX - 40);
     assert!(rt; !pace.allows(u64::MAX - 1));
     assert!(rt; pace.allows(u64::MAX));
-    pace.given(u64::MAX - 39);
+    pace.given(false, u64::MAX - 39);
     assert!(rt; !pace.allows(0));
     assert!(rt; !pace.allows(u64::MAX));
+}
+
+#[test]
+fn the_packet_behind_a_preamble_waits_for_the_pause(rt: HostRuntime) {
+    for (pause, at, now, allowed) in [
+        (40, 1000, 1039, false),
+        (40, 1000, 1040, true),
+        (1000, 1000, 1040, false),
+        (1000, 1000, 1999, false),
+        (1000, 1000, 2000, true),
+        (2000, u64::MAX - 2000, u64::MAX - 1, false),
+        (2000, u64::MAX - 2000, u64::MAX, true),
+        (2000, u64::MAX - 1999, u64::MAX, false),
+        (u16::MAX, 1000, 2999, false),
+        (u16::MAX, 1000, 3000, true),
+    ] {
+        let mut pace = Pace::new(pause);
+        pace.given(true, at);
+        assert_eq!(rt; pace.allows(now), allowed, "a pause of {pause}");
+        pace.given(false, 0);
+        assert!(rt; !pace.allows(39));
+        assert!(rt; pace.allows(40));
+    }
 }

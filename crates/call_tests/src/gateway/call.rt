@@ -1,7 +1,7 @@
 //! A whole call: what comes on both legs, and what is given there.
 use super::list_wire::{OnWire, ShortOctets};
 use fax_bits::{NoMemory, Octets};
-use fax_gateway::{Gateway, Given, RingFault, Side};
+use fax_gateway::{Gateway, Given, Kept, RingFault, Side};
 use fax_jobs::{Outcome, Report};
 use fax_pagestore::{Format, PlainRows};
 use fax_runcodes::Width;
@@ -95,6 +95,20 @@ pub(super) const DELIVERED: Report = Report {
     outcome: Outcome::Delivered,
 };
 
+/// The turn in which its page is confirmed.
+const CONFIRMED: u32 = 6;
+
+/// What is told of the page.
+const KEPT: Kept = Kept {
+    call: 0,
+    format: Format {
+        width: Width::W1728,
+        fine: false,
+    },
+    rows: 1,
+    closes: true,
+};
+
 /// What differs in a call.
 #[derive(Clone, Copy)]
 pub(super) enum Change<'a> {
@@ -118,6 +132,8 @@ pub(super) struct Playing {
     /// Whether what came in place of one did.
     pub is_taken: bool,
     ended: Option<u32>,
+    /// The page that was confirmed, and the turn.
+    kept: Option<(u32, Kept)>,
     pub report: Option<Report>,
     /// How many calls of the gateway were refused memory, and how many texts of the test's own.
     pub refused_calls: u64,
@@ -134,6 +150,7 @@ impl Playing {
             decided: 0,
             is_taken: false,
             ended: None,
+            kept: None,
             report: None,
             refused_calls,
             refused_texts,
@@ -167,6 +184,9 @@ impl Playing {
         let delivers = self.report == Some(DELIVERED) && self.gateway.report(0) == self.report;
         delivers
             && self.ended == Some(LAST_TURN)
+            && self.kept == Some((CONFIRMED, KEPT))
+            && self.gateway.call() == Some(0)
+            && self.gateway.sending().is_none()
             && self.gateway.waiting() == 0
             && self.decided as usize == COMES.len()
             && is_whole_call(self.given.as_slice())
@@ -273,6 +293,9 @@ impl Playing {
         let given = self.given_in(rt, turn);
         self.note(rt, turn, Side::Calling, &given.calling);
         self.note(rt, turn, Side::Called, &given.called);
+        if let Some(kept) = given.kept {
+            self.kept = Some((turn, kept));
+        }
         if given.ended() {
             self.ended = Some(turn);
             self.report = given.report;

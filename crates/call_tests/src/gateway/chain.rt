@@ -226,7 +226,7 @@ struct Machine {
 impl Machine {
     fn new(rt: &impl Abort, alloc: Global) -> Self {
         Machine {
-            answerer: Answerer::new(alloc),
+            answerer: Answerer::new(alloc, 40),
             receiver: Receiver::new(),
             sender: Sender::new(alloc, 3).expect(rt, "a sender"),
             has_rung: false,

@@ -5,7 +5,7 @@ use super::call::{
 use super::list_wire::{Fails, ListWire, OnWire};
 use super::refused;
 use fax_bits::NoMemory;
-use fax_gateway::{Driven, Gateway, drive};
+use fax_gateway::{Driven, Driver, Gateway, drive};
 use fax_jobs::Report;
 use fax_pagestore::PlainRows;
 use std::alloc::Global;
@@ -77,6 +77,24 @@ fn runs_over_a_broken_wire(rt: HostRuntime) {
     mute.rings = &[0];
     mute.driven.sends_failed = 3 + 2 * 11 + 2;
     comes_to(&rt, rt.alloc(), mute, 1000);
+}
+
+/// T1 is due at 35 s. Our DCN, behind its preamble, ends the call.
+#[test]
+fn a_call_that_is_given_up(rt: HostRuntime) -> Result<(), Fail> {
+    let mut gateway: Gateway<PlainRows> = Gateway::new(rt.alloc(), 3)?;
+    let mut wire = ListWire::new(rt.alloc(), Fails::NONE, Fails::NONE)?;
+    let mut driver = Driver::new(rt.alloc())?;
+    assert!(rt; gateway.ring(0) == Ok(0));
+    for turn in 0..=876u64 {
+        assert!(rt; gateway.call() == Some(0));
+        let turned = driver.turn(&mut gateway, &mut wire, 40 * turn);
+        let ended = if turn == 876 { Some(0) } else { None };
+        assert!(rt; turned.goes_on && turned.ended == ended && turned.gave_up == ended);
+        assert!(rt; turned.kept.is_none() && turned.dialled.is_none() && turned.report.is_none());
+    }
+    assert!(rt; gateway.call().is_none());
+    Ok(())
 }
 
 #[test]

@@ -34,7 +34,7 @@ fn a_call_that_begins_with_a_reservation(rt: HostRuntime) -> Result<(), Fail> {
     if job.page_count() == 0 {
         rt.abort()
     }
-    let mut caller = Caller::new(rt.alloc());
+    let mut caller = Caller::new(rt.alloc(), 40);
     let given = first_packet(&mut caller, &job, 240)?;
     // CNG
     assert!(rt; given.is_some_and(|packet| packet.as_slice() == b"\x02".as_slice()));

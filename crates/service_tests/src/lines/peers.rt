@@ -43,7 +43,7 @@ impl CallingPeer {
         let page = page_of(alloc)?;
         let job = job_of(alloc, page)?;
         let sender = Sender::new(alloc, 3)?;
-        let mut caller = Caller::new(alloc);
+        let mut caller = Caller::new(alloc, 40);
         // what it ensures of the job is that it has a page
         let _ = job.pages();
         caller.start(job.format(), job.page_count(), 0);
@@ -97,7 +97,7 @@ impl AnsweringPeer {
     fn new(alloc: Global) -> Result<Self, NoMemory> {
         let sender = Sender::new(alloc, 3)?;
         Ok(AnsweringPeer {
-            answerer: Answerer::new(alloc),
+            answerer: Answerer::new(alloc, 40),
             receiver: Receiver::new(),
             sender,
             has_rung: false,

@@ -12,6 +12,6 @@ loop-round-preserved g c =
     elim c.if-i-lines.branch [
       | then-i-lines w ↦ subst (λ (l : List LineValue). EachGoes (λ i. []) c.args.lines.now l) (sym w.lines-is)
           (told_on at c.args.lines.now c.loop-round.lines w.tell_time.new.self w.if-i-lines.true
-          (λ d. subst (λ (l : LineValue). Goes [] l w.tell_time.new.self) (get_or_default c.loop-round.lines at w.index-lines-i.result d w.if-i-lines.true) w.tell_time.ensures) c.loop-round.invariant)
+          (λ d. subst (λ (l : LineValue). Goes [] l w.tell_time.new.self) (get_or_default c.loop-round.lines at w.index-lines-i.result d w.if-i-lines.true) w.tell_time.ensures.goes) c.loop-round.invariant)
       | else-i-lines w ↦ subst (λ (l : List LineValue). EachGoes (λ i. []) c.args.lines.now l) (sym w.lines-is) c.loop-round.invariant
     ]

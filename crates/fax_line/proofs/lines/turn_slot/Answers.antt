@@ -15,7 +15,7 @@ loop-round-preserved g c =
     elim c.if-i-lines.branch [
       | then-i-lines w ↦ subst (λ (l : List LineValue). EachGoes (done_of (Turns c.args.now ∷ []) c.args.slot (c.loop-round.round + 1)) c.args.lines.now l) (sym w.lines-is)
           (round_on (Turns c.args.now ∷ []) c.args.slot c.loop-round.round at c.args.lines.now c.loop-round.lines w.turn.new.self refl c.requires w.if-i-lines.true
-          (λ d. subst (λ (l : LineValue). Goes (Turns c.args.now ∷ []) l w.turn.new.self) (get_or_default c.loop-round.lines at w.index-lines-i.result d w.if-i-lines.true) w.turn.ensures) c.loop-round.invariant)
+          (λ d. subst (λ (l : LineValue). Goes (Turns c.args.now ∷ []) l w.turn.new.self) (get_or_default c.loop-round.lines at w.index-lines-i.result d w.if-i-lines.true) w.turn.ensures.goes) c.loop-round.invariant)
       | else-i-lines w ↦ subst (λ (l : List LineValue). EachGoes (done_of (Turns c.args.now ∷ []) c.args.slot (c.loop-round.round + 1)) c.args.lines.now l) (sym w.lines-is)
           (round_off (Turns c.args.now ∷ []) c.args.slot c.loop-round.round at c.args.lines.now c.loop-round.lines refl c.requires w.if-i-lines.false c.loop-round.invariant)
     ]

@@ -6,22 +6,23 @@ use Rattle.fax_gateway.specs.CallingLegs.{CallingLeg, calling_leg, told_calling}
 use Rattle.fax_gateway.specs.CalledLegs.{CalledLeg}
 use Rattle.fax_gateway.specs.Sides.{in_tick, sides}
 use Rattle.fax_gateway.specs.Reached.{Begins, GatewayValue, IsCalling, IsReachedBy, ended_if, outcome_kept, report_if, ticked_on}
+use Rattle.fax_gateway.proofs.Turning.{call_told, page_told}
 use Rattle.fax_gateway.proofs.Ticking.{IsHeard, same_served, serves_off, ticks}
 use Rattle.fax_gateway.proofs.gateway.Gateway.tick_between.Goals as goal
 
-pub returns : goal.returns
-returns g c setup writes trace writing fresh r =
+pub returns-clause-ticked : goal.returns-clause-ticked
+returns-clause-ticked g c setup writes trace writing fresh r =
     let at : ℕ = c.args.now in
     let inside = c.self.inside in
     let s = subst (λ (k : GatewayValue). IsReachedBy setup writes trace k) (sym c.self.view_is) r in
     let old : GatewayValue = record { settings = inside.settings; clock = inside.clock; rings = inside.rings; calling = inside.calling; called = inside.called; book = inside.jobs.book; spare = inside.jobs.spare } in
     let left = c.end_job-report.new.jobs in
     let side : CalledSide = c.begin-called.new.self in
-    let new : GatewayValue = record { settings = inside.settings; clock = c.read-moment.new.self; rings = inside.rings; calling = c.serve_calling-calling.new.calling; called = side; book = left.book; spare = left.spare } in
+    let new : GatewayValue = record { settings = inside.settings; clock = c.read-moment.new.self; rings = inside.rings; calling = c.serve_calling-served.new.calling; called = side; book = left.book; spare = left.spare } in
     let leg : Option CallingLeg = calling_leg setup trace in
     let now_is : c.read-moment.result ≡ max at (clock trace) = c.read-moment.ensures.moment ∙ c.read-moment.ensures.later ∙ ap (λ (m : ℕ). max at m) s.at in
-    let served = c.serve_calling-calling.ensures in
-    let heard : Book = c.serve_calling-calling.new.jobs.book in
+    let served = c.serve_calling-served.ensures in
+    let heard : Book = c.serve_calling-served.new.jobs.book in
     let next : c.next.new.self.book ≡ taken heard = c.next.ensures.taken in
     let none = ap (λ (k : GatewayValue). k.book.sending) c.self.view_is ∙ c.requires.none in
     let o = outcome_kept side.caller.procedure in
@@ -38,3 +39,19 @@ returns g c setup writes trace writing fresh r =
     (subst (λ (m : ℕ). IsHeard setup trace m old heard) now_is (served.heard setup leg s.calling))
     (subst (λ (m : ℕ). Begins setup writes l (taken heard).sending m given inside.called side) now_is
     (subst (λ (b : Book). Begins setup writes l b.sending c.read-moment.result given inside.called side) next (c.begin-called.ensures.begun setup writes l writing fresh s.called)))))
+
+pub returns-clause-confirmed : goal.returns-clause-confirmed
+returns-clause-confirmed g c setup writes trace r =
+    let inside = c.self.inside in
+    let s = subst (λ (k : GatewayValue). IsReachedBy setup writes trace k) (sym c.self.view_is) r in
+    let now_is : c.read-moment.result ≡ max c.args.now (clock trace) = c.read-moment.ensures.moment ∙ c.read-moment.ensures.later ∙ ap (λ (m : ℕ). max c.args.now m) s.at in
+    page_told (calling_leg setup trace) c.read-moment.result (max c.args.now (clock trace)) inside.calling.number c.serve_calling-served.result.kept now_is s.calling.number
+    (c.serve_calling-served.ensures.kept setup (calling_leg setup trace) s.calling)
+
+pub returns-clause-given_up : goal.returns-clause-given_up
+returns-clause-given_up g c setup writes trace r =
+    let inside = c.self.inside in
+    let s = subst (λ (k : GatewayValue). IsReachedBy setup writes trace k) (sym c.self.view_is) r in
+    let now_is : c.read-moment.result ≡ max c.args.now (clock trace) = c.read-moment.ensures.moment ∙ c.read-moment.ensures.later ∙ ap (λ (m : ℕ). max c.args.now m) s.at in
+    call_told (calling_leg setup trace) c.read-moment.result (max c.args.now (clock trace)) inside.calling.number c.serve_calling-served.result.gave_up now_is s.calling.number
+    (c.serve_calling-served.ensures.gave_up setup (calling_leg setup trace) s.calling)

@@ -6,6 +6,7 @@ use Rattle.fax_gateway.specs.CallingLegs.{CallingLeg, calling_leg, told_calling}
 use Rattle.fax_gateway.specs.CalledLegs.{CalledLeg}
 use Rattle.fax_gateway.specs.Sides.{in_tick}
 use Rattle.fax_gateway.specs.Reached.{GatewayValue, IsCalling, IsCalled, IsReachedBy, TicksOn, ended_if, outcome_kept, report_if, ticked_on}
+use Rattle.fax_gateway.proofs.Turning.{call_told, page_told}
 use Rattle.fax_gateway.proofs.Ticking.{IsHeard, same_served, serves_on, ticks}
 use Rattle.fax_gateway.proofs.gateway.Gateway.tick_in_call.Goals as goal
 
@@ -17,11 +18,11 @@ returns-clause-ticked g c setup writes trace writing r =
     let old : GatewayValue = record { settings = inside.settings; clock = inside.clock; rings = inside.rings; calling = inside.calling; called = inside.called; book = inside.jobs.book; spare = inside.jobs.spare } in
     let left = c.end_job-report.new.jobs in
     let side : CalledSide = c.tick.new.self in
-    let new : GatewayValue = record { settings = inside.settings; clock = c.read-moment.new.self; rings = inside.rings; calling = c.serve_calling-calling.new.calling; called = side; book = left.book; spare = left.spare } in
+    let new : GatewayValue = record { settings = inside.settings; clock = c.read-moment.new.self; rings = inside.rings; calling = c.serve_calling-served.new.calling; called = side; book = left.book; spare = left.spare } in
     let leg : Option CallingLeg = calling_leg setup trace in
     let now_is : c.read-moment.result ≡ max at (clock trace) = c.read-moment.ensures.moment ∙ c.read-moment.ensures.later ∙ ap (λ (m : ℕ). max at m) s.at in
-    let served = c.serve_calling-calling.ensures in
-    let heard = c.serve_calling-calling.new.jobs.book in
+    let served = c.serve_calling-served.ensures in
+    let heard = c.serve_calling-served.new.jobs.book in
     let job : JobValue = c.in-Some.job.now in
     let sends : inside.jobs.book.sending ≡ Some job = sym c.in-Some.ensures in
     let still : heard.sending ≡ Some job = served.sending ∙ sends in
@@ -37,3 +38,19 @@ returns-clause-ticked g c setup writes trace writing r =
     (serves_on setup writes trace at old job side given heard s sends
     (subst (λ (m : ℕ). IsHeard setup trace m old heard) now_is (served.heard setup leg s.calling))
     (λ (l : CalledLeg) (same : l.job ≡ job) (k : IsCalled setup writes (Some l) inside.called). subst (λ (m : ℕ). TicksOn setup writes l m given side) now_is (c.in_ok-called-in-Some.ensures.ticked setup writes l writing same k))))
+
+pub returns-clause-confirmed : goal.returns-clause-confirmed
+returns-clause-confirmed g c setup writes trace r =
+    let inside = c.self.inside in
+    let s = subst (λ (k : GatewayValue). IsReachedBy setup writes trace k) (sym c.self.view_is) r in
+    let now_is : c.read-moment.result ≡ max c.args.now (clock trace) = c.read-moment.ensures.moment ∙ c.read-moment.ensures.later ∙ ap (λ (m : ℕ). max c.args.now m) s.at in
+    page_told (calling_leg setup trace) c.read-moment.result (max c.args.now (clock trace)) inside.calling.number c.serve_calling-served.result.kept now_is s.calling.number
+    (c.serve_calling-served.ensures.kept setup (calling_leg setup trace) s.calling)
+
+pub returns-clause-given_up : goal.returns-clause-given_up
+returns-clause-given_up g c setup writes trace r =
+    let inside = c.self.inside in
+    let s = subst (λ (k : GatewayValue). IsReachedBy setup writes trace k) (sym c.self.view_is) r in
+    let now_is : c.read-moment.result ≡ max c.args.now (clock trace) = c.read-moment.ensures.moment ∙ c.read-moment.ensures.later ∙ ap (λ (m : ℕ). max c.args.now m) s.at in
+    call_told (calling_leg setup trace) c.read-moment.result (max c.args.now (clock trace)) inside.calling.number c.serve_calling-served.result.gave_up now_is s.calling.number
+    (c.serve_calling-served.ensures.gave_up setup (calling_leg setup trace) s.calling)

@@ -8,7 +8,7 @@ returns-clause-reached g c setup writes set =
       set = set;
       at = c.new-4.ensures;
       rung = refl;
-      calling = c.in_ok-calling.ensures setup set.redundancy;
-      called = c.in_ok-called.ensures.reached setup writes;
+      calling = c.in_ok-calling.ensures setup set;
+      called = c.in_ok-called.ensures.reached setup writes set;
       book = c.in_ok-jobs.ensures;
     }

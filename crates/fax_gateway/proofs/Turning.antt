@@ -1,0 +1,132 @@
+-- What is told of ticks and turns.
+use Rattle.std.proofs.Common.{◌≡◌, ℕ, max, Bool, true, false, not, List, [], ◌∷◌, ◌++◌, Option, Some, None, inl, inr, refl, sym, ◌∙◌, ap, subst, append_assoc}
+use Rattle.std.specs.List.{All}
+use Rattle.std.proofs.lemmas.Bool.{false≢true}
+use Rattle.std.proofs.lemmas.List.Elements.{All-head, All-tail}
+use Rattle.std.proofs.lemmas.Grind.{flat_map-append}
+use Rattle.fax_jobs.specs.declared.report.Report.{Report}
+use Rattle.fax_gateway.specs.declared.side.Side.{Side}
+use Rattle.fax_gateway.specs.declared.side.Side.TheVariants as side
+use Rattle.fax_gateway.specs.declared.given.Kept.{Kept}
+use Rattle.fax_gateway.specs.Setups.{Setup}
+use Rattle.fax_gateway.specs.Events.{Event, Ring, FromCalling, FromCalled, Tick, Given, clock}
+use Rattle.fax_gateway.specs.CallingLegs.{CallingLeg, calling_leg}
+use Rattle.fax_gateway.specs.Reports.{report_list, reports_given}
+use Rattle.fax_gateway.specs.Reached.{HasNumber, confirmed_on, ended_on}
+use Rattle.fax_gateway.specs.Driving.{Entry, Accepts, AreReceives, BringsNone, Comes, FailsToReceive, IsSent, ReceivesNothing, RefusesDatagram, RefusesRing, RefusesTick, Sends, events, events_in}
+use Rattle.fax_gateway.specs.Turns.{TellTicks, call_if, call_list, calls_given_up, given_up_at, kept_at, kept_if, kept_list, pages_kept}
+use Rattle.fax_gateway.proofs.DrivingLemmas.{sends_no_event}
+
+-- ---- a tick, by the number that is kept of the call
+
+numbered_page : (leg : Option CallingLeg) (now number : ℕ) → HasNumber leg number → kept_if number (confirmed_on leg now) ≡ kept_at leg now
+numbered_page None now number is = refl
+numbered_page (Some l) now number is = ap (λ (n : ℕ). kept_if n (confirmed_on (Some l) now)) (sym is)
+
+numbered_call : (leg : Option CallingLeg) (now number : ℕ) → HasNumber leg number → call_if (ended_on leg now) number ≡ given_up_at leg now
+numbered_call None now number is = refl
+numbered_call (Some l) now number is = ap (λ (n : ℕ). call_if (ended_on (Some l) now) n) (sym is)
+
+pub page_told : (leg : Option CallingLeg) (now moment number : ℕ) (kept : Option Kept) → now ≡ moment → HasNumber leg number → kept ≡ kept_if number (confirmed_on leg now) → kept ≡ kept_at leg moment
+page_told leg now moment number kept same is told = told ∙ numbered_page leg now number is ∙ ap (kept_at leg) same
+
+pub call_told : (leg : Option CallingLeg) (now moment number : ℕ) (call : Option ℕ) → now ≡ moment → HasNumber leg number → call ≡ call_if (ended_on leg now) number → call ≡ given_up_at leg moment
+call_told leg now moment number call same is told = told ∙ numbered_call leg now number is ∙ ap (given_up_at leg) same
+
+-- ---- datagrams are no ticks
+
+-- two traces of which the same ticks are told
+record SameTicks (setup : Setup) (older newer : List Event) : Type 0 where
+  reports : reports_given newer ≡ reports_given older
+  pages : pages_kept setup newer ≡ pages_kept setup older
+  calls : calls_given_up setup newer ≡ calls_given_up setup older
+
+same_ticks : (setup : Setup) (trace : List Event) → SameTicks setup trace trace
+same_ticks setup trace = record { reports = refl; pages = refl; calls = refl }
+
+comes_no_tick : (setup : Setup) (at : Side) (now : ℕ) (e : Entry) (older trace : List Event) → Comes at now e → SameTicks setup older trace → SameTicks setup older (events_in e ++ trace)
+comes_no_tick setup at now (Accepts (Ring moment number)) older trace h s = absurd h
+comes_no_tick setup at now (Accepts (FromCalling octets moment decided read)) older trace h s = record { reports = s.reports; pages = s.pages; calls = s.calls }
+comes_no_tick setup at now (Accepts (FromCalled octets moment decided)) older trace h s = record { reports = s.reports; pages = s.pages; calls = s.calls }
+comes_no_tick setup at now (Accepts (Tick moment given)) older trace h s = absurd h
+comes_no_tick setup at now RefusesRing older trace h s = absurd h
+comes_no_tick setup at now (RefusesDatagram on octets) older trace h s = s
+comes_no_tick setup at now RefusesTick older trace h s = absurd h
+comes_no_tick setup at now (ReceivesNothing on) older trace h s = absurd h
+comes_no_tick setup at now (FailsToReceive on) older trace h s = absurd h
+comes_no_tick setup at now (Sends on octets fails) older trace h s = absurd h
+
+all_come_no_tick : (setup : Setup) (at : Side) (now : ℕ) (log : List Entry) (trace : List Event) → All (Comes at now) log → SameTicks setup trace (events log ++ trace)
+all_come_no_tick setup at now [] trace all = same_ticks setup trace
+all_come_no_tick setup at now (e ∷ log) trace all =
+    subst (λ (t : List Event). SameTicks setup trace t) (sym (append_assoc (events_in e) (events log) trace))
+    (comes_no_tick setup at now e trace (events log ++ trace) (All-head (Comes at now) e log all) (all_come_no_tick setup at now log trace (All-tail (Comes at now) e log all)))
+
+none_no_event : (at : Side) (e : Entry) → BringsNone at e → events_in e ≡ []
+none_no_event at e (inl is) = ap events_in is
+none_no_event at e (inr is) = ap events_in is
+
+receives_no_tick : (setup : Setup) (at : Side) (now : ℕ) (log : List Entry) (trace : List Event) → AreReceives at now log → SameTicks setup trace (events log ++ trace)
+receives_no_tick setup at now log trace (inl (each, many)) = all_come_no_tick setup at now log trace each
+receives_no_tick setup at now log trace (inr (came, last, is, each, low, none)) =
+    subst (λ (l : List Event). SameTicks setup trace (l ++ trace)) (sym (ap events is ∙ ap (λ (l : List Event). l ++ events came) (none_no_event at last none)))
+    (all_come_no_tick setup at now came trace each)
+
+-- ---- a tick
+
+one_event : (now : ℕ) (given : Given) (calling called : List Entry) → IsSent side.Calling given.on_calling calling → IsSent side.Called given.on_called called
+    → events (called ++ (calling ++ Accepts (Tick now given) ∷ [])) ≡ Tick now given ∷ []
+one_event now given calling called first second =
+    let tick : List Entry = Accepts (Tick now given) ∷ [] in
+    flat_map-append events_in called (calling ++ tick) ∙ ap (λ (l : List Event). l ++ events (calling ++ tick)) (sends_no_event side.Called given.on_called called second)
+    ∙ flat_map-append events_in calling tick ∙ ap (λ (l : List Event). l ++ events tick) (sends_no_event side.Calling given.on_calling calling first)
+
+pub tick_tells :
+    (setup : Setup) (trace : List Event) (now : ℕ) (given : Given) (calling called : List Entry) (report : Option Report) (kept : Option Kept) (gave_up : Option ℕ)
+    → IsSent side.Calling given.on_calling calling → IsSent side.Called given.on_called called
+    → report ≡ given.report → kept ≡ kept_at (calling_leg setup trace) (max now (clock trace)) → gave_up ≡ given_up_at (calling_leg setup trace) (max now (clock trace))
+    → TellTicks setup trace (events (called ++ (calling ++ Accepts (Tick now given) ∷ [])) ++ trace) report kept gave_up
+tick_tells setup trace now given calling called report kept gave_up first second r k u =
+    subst (λ (l : List Event). TellTicks setup trace (l ++ trace) report kept gave_up) (sym (one_event now given calling called first second))
+    (subst (λ (x : Option Report). TellTicks setup trace (Tick now given ∷ trace) x kept gave_up) (sym r)
+    (subst (λ (x : Option Kept). TellTicks setup trace (Tick now given ∷ trace) given.report x gave_up) (sym k)
+    (subst (λ (x : Option ℕ). TellTicks setup trace (Tick now given ∷ trace) given.report (kept_at (calling_leg setup trace) (max now (clock trace))) x) (sym u)
+    (record { reports = refl; pages = refl; calls = refl }))))
+
+-- what stays the same has nothing behind it
+none_behind : {A : Type 0} (xs : List A) → xs ≡ xs ++ []
+none_behind [] = refl
+none_behind (x ∷ xs) = ap (λ l. x ∷ l) (none_behind xs)
+
+pub refused_tells : (setup : Setup) (trace : List Event) → TellTicks setup trace trace None None None
+refused_tells setup trace = record { reports = none_behind (reports_given trace); pages = none_behind (pages_kept setup trace); calls = none_behind (calls_given_up setup trace) }
+
+-- ---- a turn: the receives of both legs, and the tick
+
+pub turn_tells :
+    (setup : Setup) (now : ℕ) (calling called tick : List Entry) (trace : List Event) (report : Option Report) (kept : Option Kept) (gave_up : Option ℕ)
+    → AreReceives side.Calling now calling → AreReceives side.Called now called
+    → TellTicks setup (events (called ++ calling) ++ trace) (events tick ++ (events (called ++ calling) ++ trace)) report kept gave_up
+    → TellTicks setup trace (events (tick ++ (called ++ calling)) ++ trace) report kept gave_up
+turn_tells setup now calling called tick trace report kept gave_up on_calling on_called told =
+    let a = receives_no_tick setup side.Calling now calling trace on_calling in
+    let b = receives_no_tick setup side.Called now called (events calling ++ trace) on_called in
+    let mid : List Event = events (called ++ calling) ++ trace in
+    let mid_is : events called ++ (events calling ++ trace) ≡ mid = sym (append_assoc (events called) (events calling) trace) ∙ ap (λ (l : List Event). l ++ trace) (sym (flat_map-append events_in called calling)) in
+    let s = subst (λ (t : List Event). SameTicks setup (events calling ++ trace) t) mid_is b in
+    let all_is : events tick ++ mid ≡ events (tick ++ (called ++ calling)) ++ trace =
+    sym (append_assoc (events tick) (events (called ++ calling)) trace) ∙ ap (λ (l : List Event). l ++ trace) (sym (flat_map-append events_in tick (called ++ calling))) in
+    subst (λ (t : List Event). TellTicks setup trace t report kept gave_up) all_is record {
+      reports = told.reports ∙ ap (λ (l : List Report). l ++ report_list report) (s.reports ∙ a.reports);
+      pages = told.pages ∙ ap (λ (l : List Kept). l ++ kept_list kept) (s.pages ∙ a.pages);
+      calls = told.calls ∙ ap (λ (l : List ℕ). l ++ call_list gave_up) (s.calls ∙ a.calls);
+    }
+
+-- whether a turn goes on, by the test that it does not
+pub stops : (goes_on : Bool) → not goes_on ≡ true → goes_on ≡ false
+stops true is = absurd (false≢true is)
+stops false is = refl
+
+pub goes : (goes_on : Bool) → not goes_on ≡ false → goes_on ≡ true
+goes true is = refl
+goes false is = absurd (false≢true (sym is))

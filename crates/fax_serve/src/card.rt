@@ -1,0 +1,128 @@
+//! What a server keeps of a line beside its gateway.
+use crate::failures::Failures;
+use fax_control::Leg;
+use fax_events::Direction;
+use std::alloc::{AllocError, Global};
+
+/// The most tags that are kept of a line: the newest.
+const MOST_TAGS: usize = 256;
+
+/// A call, and its tag.
+#[derive(Drop)]
+struct Tagged {
+    call: u32,
+    tag: String,
+}
+
+/// What a server keeps of a line.
+#[derive(Drop)]
+pub(crate) struct Card {
+    name: String,
+    tags: Vec<Tagged>,
+    /// Calls that were rung.
+    calls: u64,
+    /// Pages that were confirmed, in all calls and in the last one.
+    pages: u64,
+    pages_in_call: u32,
+    /// Whether the last page that was confirmed in the last call was said to be the last.
+    is_closed: bool,
+    /// How many failures of each leg and direction were told.
+    failures: Failures,
+    /// How many datagrams had come on each leg when its last call began.
+    calling_heard: u64,
+    called_heard: u64,
+}
+
+impl Card {
+    /// A line of this name to which nothing happened.
+    pub fn new(alloc: Global, name: &str) -> Result<Self, AllocError> {
+        Ok(Card {
+            name: String::from_str(alloc, name)?,
+            tags: Vec::new(alloc),
+            calls: 0,
+            pages: 0,
+            pages_in_call: 0,
+            is_closed: false,
+            failures: Failures::default(),
+            calling_heard: 0,
+            called_heard: 0,
+        })
+    }
+
+    /// The line's name.
+    pub fn name(&self) -> &str {
+        self.name.as_str()
+    }
+
+    /// How many calls were rung.
+    pub fn calls(&self) -> u64 {
+        self.calls
+    }
+
+    /// How many pages were confirmed.
+    pub fn pages(&self) -> u64 {
+        self.pages
+    }
+
+    /// A call was rung, when so many datagrams had come on the calling leg. Its tag is kept, where memory is there; of more
+    /// than 256 tags the oldest is forgotten.
+    pub fn ring(&mut self, call: u32, tag: Option<String>, heard: u64) {
+        self.calls = self.calls.saturating_add(1);
+        self.pages_in_call = 0;
+        self.is_closed = false;
+        self.calling_heard = heard;
+        let Some(tag) = tag else {
+            return;
+        };
+        if self.tags.len() >= MOST_TAGS {
+            self.tags.remove(0);
+        }
+        let _ = self.tags.push(Tagged { call, tag });
+    }
+
+    /// The call of a job began, when so many datagrams had come on the called leg.
+    pub fn dial(&mut self, heard: u64) {
+        self.called_heard = heard;
+    }
+
+    /// A page was confirmed, and said to be the last of its call or not. It answers its number in the call, from 1 on.
+    pub fn keep_page(&mut self, closes: bool) -> u32 {
+        self.pages = self.pages.saturating_add(1);
+        self.pages_in_call = self.pages_in_call.saturating_add(1);
+        self.is_closed = closes;
+        self.pages_in_call
+    }
+
+    /// Whether the last page of the last call was said to be the last.
+    pub fn is_closed(&self) -> bool {
+        self.is_closed
+    }
+
+    /// Whether more than these datagrams came on a leg since its last call began.
+    pub fn has_heard(&self, leg: Leg, received: u64) -> bool {
+        match leg {
+            Leg::Calling => received > self.calling_heard,
+            Leg::Called => received > self.called_heard,
+        }
+    }
+
+    /// The tag of a call, where it has one.
+    pub fn tag(&self, call: u32) -> Option<&str> {
+        for tagged in self.tags.iter().rev() {
+            if tagged.call == call {
+                return Some(tagged.tag.as_str());
+            }
+        }
+        None
+    }
+
+    /// How many failures were told.
+    pub fn failures(&self) -> Failures {
+        self.failures
+    }
+
+    /// So many failures of a leg and a direction were told.
+    pub fn tell_failures(&mut self, leg: Leg, direction: Direction, count: u64) {
+        self.failures.tell(leg, direction, count);
+    }
+}

@@ -1,0 +1,25 @@
+//! The moments of a server.
+use std::io;
+use std::rt::Clock;
+use std::time::Instant;
+
+/// Tells how many milliseconds passed since it began.
+#[derive(Drop)]
+pub(crate) struct Stopwatch<'a, C: Clock> {
+    clock: &'a C,
+    start: Instant,
+}
+
+impl<'a, C: Clock> Stopwatch<'a, C> {
+    /// It begins now.
+    pub fn new(clock: &'a C) -> io::Result<Self> {
+        let start = Instant::now(clock)?;
+        Ok(Stopwatch { clock, start })
+    }
+
+    /// How many milliseconds passed. None: the clock does not tell.
+    pub fn now(&self) -> Option<u64> {
+        let passed = self.start.elapsed(self.clock).ok()?;
+        u64::try_from(passed.as_millis()).ok()
+    }
+}

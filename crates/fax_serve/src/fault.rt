@@ -1,0 +1,53 @@
+//! Why a server does not begin, or does not go on.
+use fax_bits::NoMemory;
+use fax_control::Leg;
+use std::alloc::{AllocError, AllocFailed};
+use std::{fmt, io};
+
+/// Why a server does not begin, or does not go on.
+#[derive(Debug, Drop)]
+pub enum ServeFault {
+    /// A leg of the line of this name: its socket, or its peer.
+    Leg(String, Leg, io::Error),
+    /// The control socket.
+    Control(io::Error),
+    /// Another process serves on the control socket.
+    Served,
+    /// The clock.
+    Clock(io::Error),
+    NoMemory,
+}
+
+/// Prints one line, without a line feed.
+impl fmt::Display for ServeFault {
+    fn fmt<W: fmt::Write>(&self, f: &mut fmt::Formatter<W>) -> fmt::Result {
+        match self {
+            ServeFault::Leg(name, leg, error) => {
+                let leg = leg.name();
+                write!(f, "line {name:?}: {leg}: {error}")
+            }
+            ServeFault::Control(error) => write!(f, "control: {error}"),
+            ServeFault::Served => write!(f, "control: another process serves there"),
+            ServeFault::Clock(error) => write!(f, "no clock: {error}"),
+            ServeFault::NoMemory => write!(f, "memory was refused"),
+        }
+    }
+}
+
+impl From<NoMemory> for ServeFault {
+    fn from(_: NoMemory) -> Self {
+        ServeFault::NoMemory
+    }
+}
+
+impl From<AllocError> for ServeFault {
+    fn from(_: AllocError) -> Self {
+        ServeFault::NoMemory
+    }
+}
+
+impl<T: Drop> From<AllocFailed<T>> for ServeFault {
+    fn from(_: AllocFailed<T>) -> Self {
+        ServeFault::NoMemory
+    }
+}

@@ -1,0 +1,23 @@
+//! A server of many lines in real time, over UDP: what `faxgate serve` runs.
+#![tactic(auto)]
+
+mod answers;
+mod card;
+mod clock;
+mod control;
+mod failures;
+mod fault;
+mod pace;
+mod run;
+mod schedule;
+mod sockets;
+mod stop;
+mod telling;
+mod udp_wire;
+
+pub use fault::ServeFault;
+pub use pace::RealPace;
+pub use run::{run_serve, serve_clients};
+pub use schedule::Schedule;
+pub use sockets::{ServedLine, ServedLines, open_lines};
+pub use udp_wire::{LegCounts, LegSocket, UdpWire};

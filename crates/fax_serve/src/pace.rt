@@ -1,0 +1,402 @@
+//! What gives the orders: the clock, and those who say words.
+use crate::answers::{answer_text, counters_of, counts_of, is_idle, report_text, status_text};
+use crate::card::Card;
+use crate::clock::Stopwatch;
+use crate::schedule::Schedule;
+use crate::sockets::{ServedLine, ServedLines};
+use crate::stop::Stop;
+use crate::telling::Teller;
+use crate::udp_wire::UdpWire;
+use fax_bits::NoMemory;
+use fax_clients::{Asker, Clients};
+use fax_control::{Answer, Heard, Leg, Refusal, Word, read_word};
+use fax_events::{What, write_metrics};
+use fax_gateway::{RingFault, Side};
+use fax_line::{Order, Pace, SLOTS};
+use fax_repeat::RepeatingWire;
+use std::alloc::Global;
+use std::io::{Read, Write};
+use std::net::SocketAddr;
+use std::rt::Clock;
+
+/// A turn that is so many milliseconds late is told.
+const LATE_MS: u64 = 100;
+
+/// At most so often, in milliseconds.
+const BETWEEN_LATE_MS: u64 = 1_000;
+
+/// Behind time, the clients are asked at one turn of so many.
+const TURNS_A_WORD: u64 = 16;
+
+/// The most words and wake-ups between two turns.
+const MOST_WAKES: u32 = 100_000;
+
+/// The clock and the clients.
+#[derive(Drop)]
+pub struct RealPace<'a, C: Clock, I: Read + Drop, O: Write + Drop> {
+    alloc: Global,
+    clock: Stopwatch<'a, C>,
+    /// The moment that was read last.
+    now: u64,
+    schedule: Schedule,
+    /// How many turns were ordered.
+    turns: u64,
+    /// The slot whose turn was ordered, and not told of yet.
+    turned: Option<usize>,
+    /// From which moment on a late turn is told again.
+    late_from: u64,
+    stop: Stop,
+    stop_ms: u64,
+    /// Who asked for the ring that was ordered, and its tag.
+    ringing: Option<Ringing>,
+    cards: Vec<Card>,
+    teller: Teller<I, O>,
+}
+
+/// Who asked for a ring, and its tag.
+#[derive(Drop)]
+struct Ringing {
+    asker: Asker,
+    tag: Option<String>,
+    /// How many datagrams had come on the calling leg.
+    heard: u64,
+}
+
+impl<'a, C: Clock, I: Read + Drop, O: Write + Drop> RealPace<'a, C, I, O> {
+    /// The time begins now. A stop takes so many milliseconds at most.
+    pub(crate) fn new(
+        alloc: Global,
+        clock: Stopwatch<'a, C>,
+        clients: Clients<I, O>,
+        cards: Vec<Card>,
+        stop_ms: u64,
+    ) -> Self {
+        let count = cards.len();
+        RealPace {
+            alloc,
+            clock,
+            now: 0,
+            schedule: Schedule::new(),
+            turns: 0,
+            turned: None,
+            late_from: 0,
+            stop: Stop::No,
+            stop_ms,
+            ringing: None,
+            cards,
+            teller: Teller::new(alloc, clients, count),
+        }
+    }
+
+    /// Reads the clock. Where it does not tell, the moment is the one before.
+    fn read_clock(&mut self) {
+        if let Some(now) = self.clock.now() {
+            self.now = now;
+        }
+    }
+
+    /// Tells what the turn that was ordered came to.
+    fn tell_turned(&mut self, lines: &ServedLines) {
+        let Some(slot) = self.turned.take() else {
+            return;
+        };
+        let rounds = self.cards.len() / SLOTS + 1;
+        for round in 0..rounds {
+            let i = round.saturating_mul(SLOTS).saturating_add(slot);
+            if let Some(card) = self.cards.get_mut(i)
+                && let Some(line) = lines.line(i)
+            {
+                self.teller.tell_turn(card, line, self.now);
+            }
+        }
+    }
+
+    /// Whether the run ends.
+    fn is_over(&mut self, lines: &ServedLines) -> bool {
+        if self.stop == Stop::No && self.teller.clients.have_ended() {
+            self.stop = self.stop.asked(self.now, self.stop_ms);
+        }
+        match self.stop {
+            Stop::No => false,
+            Stop::At(moment) => self.now >= moment || are_idle(lines),
+            Stop::Now => true,
+        }
+    }
+
+    /// Whether the clients are asked now.
+    fn asks_clients(&self) -> bool {
+        self.schedule.left(self.now) > 0 || self.turns % TURNS_A_WORD == 0
+    }
+
+    /// Waits for a word or for the next turn. It answers the line that is to ring, if one is.
+    fn wait(&mut self, lines: &ServedLines) -> Option<usize> {
+        let left = self.schedule.left(self.now).min(1_000);
+        self.teller.clients.wait(left as i32);
+        self.read_clock();
+        let (asker, heard) = self.teller.clients.hear()?;
+        match heard {
+            Heard::TooLong => {
+                self.answer(asker, Answer::Refused(Refusal::TooLong));
+                None
+            }
+            Heard::Line(octets) => match read_word(octets.as_slice()) {
+                Some(word) => self.obey(asker, word, lines),
+                None => {
+                    self.answer(asker, Answer::Refused(Refusal::NoWord));
+                    None
+                }
+            },
+        }
+    }
+
+    /// The turn of the next slot.
+    fn turn(&mut self, lines: &ServedLines) -> Order {
+        let late = self.schedule.begin(self.now);
+        self.turns = self.turns.saturating_add(1);
+        let slot = lines.slot();
+        self.turned = Some(slot);
+        if late > LATE_MS {
+            self.tell_late(slot, late);
+        }
+        Order::Turn { now: self.now }
+    }
+
+    /// Counts a turn that is late, and tells it of the first line of its slot, once a second at most.
+    fn tell_late(&mut self, slot: usize, late: u64) {
+        let counters = &mut self.teller.counters;
+        counters.turns_late = counters.turns_late.saturating_add(1);
+        counters.skipped_ms = self.schedule.skipped();
+        if self.now < self.late_from {
+            return;
+        }
+        if let Some(card) = self.cards.get(slot) {
+            self.late_from = self.now.saturating_add(BETWEEN_LATE_MS);
+            self.teller.tell(card.name(), self.now, What::Late(late));
+        }
+    }
+
+    /// Does what a word says. It answers the line that is to ring, if one is.
+    fn obey(&mut self, asker: Asker, word: Word<'_>, lines: &ServedLines) -> Option<usize> {
+        match word {
+            Word::Ring(name, tag) => return self.ring(asker, name, tag, lines),
+            Word::Peer(name, leg, address) => {
+                let answer = self.set_peer(name, leg, address, lines);
+                self.answer(asker, answer);
+            }
+            Word::HangUp(_, _) => self.answer(asker, Answer::Refused(Refusal::NoWord)),
+            Word::Report(name) => self.report(asker, name, lines),
+            Word::Status => {
+                let text = status_text(self.alloc, self.cards.as_slice(), lines);
+                self.put(asker, text);
+            }
+            Word::Metrics => self.tell_metrics(asker, lines),
+            Word::Events => self.want_events(asker),
+            Word::Stop => {
+                self.stop = self.stop.asked(self.now, self.stop_ms);
+                self.answer(asker, Answer::Done);
+            }
+        }
+        None
+    }
+
+    /// A line is to ring: which one, where it can.
+    fn ring(
+        &mut self,
+        asker: Asker,
+        name: &str,
+        tag: Option<&str>,
+        lines: &ServedLines,
+    ) -> Option<usize> {
+        match self.ring_of(asker, name, tag, lines) {
+            Ok((i, ringing)) => {
+                self.ringing = Some(ringing);
+                Some(i)
+            }
+            Err(refusal) => {
+                self.answer(asker, Answer::Refused(refusal));
+                None
+            }
+        }
+    }
+
+    /// The line that is to ring, and who asked for it.
+    fn ring_of(
+        &self,
+        asker: Asker,
+        name: &str,
+        tag: Option<&str>,
+        lines: &ServedLines,
+    ) -> Result<(usize, Ringing), Refusal> {
+        if !self.stop.takes_rings() {
+            return Err(Refusal::Stopping);
+        }
+        let Some(i) = self.find(name) else {
+            return Err(Refusal::NoLine);
+        };
+        let Some(line) = lines.line(i) else {
+            return Err(Refusal::NoLine);
+        };
+        if !line.wire().wire().leg(Side::Calling).has_peer() {
+            return Err(Refusal::NoPeer);
+        }
+        let tag = match tag {
+            None => None,
+            Some(tag) => match String::from_str(self.alloc, tag) {
+                Ok(tag) => Some(tag),
+                Err(_) => return Err(Refusal::NoMemory),
+            },
+        };
+        let heard = counts_of(line, Side::Calling).received;
+        Ok((i, Ringing { asker, tag, heard }))
+    }
+
+    /// The line of this name.
+    fn find(&self, name: &str) -> Option<usize> {
+        self.cards.iter().position(|card| card.name() == name)
+    }
+
+    /// A leg gets another peer.
+    fn set_peer(&self, name: &str, leg: Leg, peer: SocketAddr, lines: &ServedLines) -> Answer {
+        if let Some(i) = self.find(name)
+            && let Some(card) = self.cards.get(i)
+            && let Some(line) = lines.line(i)
+        {
+            peer_answer(card, line, leg, peer)
+        } else {
+            Answer::Refused(Refusal::NoLine)
+        }
+    }
+
+    /// The last reports of a line are told.
+    fn report(&mut self, asker: Asker, name: &str, lines: &ServedLines) {
+        if let Some(i) = self.find(name)
+            && let Some(card) = self.cards.get(i)
+            && let Some(line) = lines.line(i)
+        {
+            let text = report_text(self.alloc, card, line, self.now);
+            self.put(asker, text);
+        } else {
+            self.answer(asker, Answer::Refused(Refusal::NoLine));
+        }
+    }
+
+    /// The counts are told.
+    fn tell_metrics(&mut self, asker: Asker, lines: &ServedLines) {
+        let counters = counters_of(self.teller.counters(), lines);
+        let text = match write_metrics(self.alloc, &counters) {
+            Ok(text) => Ok(text.into_bytes()),
+            Err(NoMemory) => Err(NoMemory),
+        };
+        self.put(asker, text);
+    }
+
+    /// From now on a client is told events.
+    fn want_events(&mut self, asker: Asker) {
+        let answer = match self.teller.clients.want_events(asker) {
+            Ok(()) => Answer::Done,
+            Err(NoMemory) => Answer::Refused(Refusal::NoMemory),
+        };
+        self.answer(asker, answer);
+    }
+
+    /// A client is answered by a line. Without memory for it there is no answer.
+    fn answer(&mut self, asker: Asker, answer: Answer) {
+        if let Ok(text) = answer_text(self.alloc, answer) {
+            self.teller.clients.answer(asker, text);
+        }
+    }
+
+    /// A client is answered by a text, or told that memory lacks for it.
+    fn put(&mut self, asker: Asker, text: Result<Vec<u8>, NoMemory>) {
+        match text {
+            Ok(text) => self.teller.clients.answer(asker, text),
+            Err(NoMemory) => self.answer(asker, Answer::Refused(Refusal::NoMemory)),
+        }
+    }
+
+    /// Writes what clients are still to be told, for a while.
+    pub(crate) fn finish(&mut self) {
+        self.teller.clients.finish();
+    }
+}
+
+/// A leg of a line gets another peer, unless its call is on and has heard from its peer.
+fn peer_answer(card: &Card, line: &ServedLine, leg: Leg, peer: SocketAddr) -> Answer {
+    let (side, is_on) = match leg {
+        Leg::Calling => (Side::Calling, line.call().is_some()),
+        Leg::Called => (Side::Called, line.sending().is_some()),
+    };
+    if is_on && card.has_heard(leg, counts_of(line, side).received) {
+        return Answer::Refused(Refusal::InCall);
+    }
+    match line.wire().wire().leg(side).set_peer(peer) {
+        Ok(()) => Answer::Done,
+        Err(_) => Answer::Refused(Refusal::NoRoute),
+    }
+}
+
+/// Whether no line has a call or a job.
+fn are_idle(lines: &ServedLines) -> bool {
+    for i in 0..lines.len() {
+        if let Some(line) = lines.line(i)
+            && !is_idle(line)
+        {
+            return false;
+        }
+    }
+    true
+}
+
+/// What was answered to a ring.
+fn ring_answer(answer: Option<Result<u32, RingFault>>) -> Answer {
+    match answer {
+        None => Answer::Refused(Refusal::NoLine),
+        Some(Ok(call)) => Answer::Rung(call),
+        Some(Err(RingFault::Busy)) => Answer::Refused(Refusal::Busy),
+        Some(Err(RingFault::NoNumber)) => Answer::Refused(Refusal::NoNumber),
+        Some(Err(RingFault::NoMemory)) => Answer::Refused(Refusal::NoMemory),
+    }
+}
+
+/// What is asked and answered is not told of a clock and sockets.
+impl<'a, C: Clock, I: Read + Drop, O: Write + Drop> Pace<RepeatingWire<UdpWire>>
+    for RealPace<'a, C, I, O> {
+    ghost use Rattle.std.specs.Prelude.{None};
+
+    ghost words = { λ _. None };
+
+    fn next(&mut self, lines: &ServedLines) -> Option<Order> {
+        self.read_clock();
+        self.tell_turned(lines);
+        for _ in 0..MOST_WAKES {
+            if self.is_over(lines) {
+                return None;
+            }
+            if self.asks_clients()
+                && let Some(line) = self.wait(lines)
+            {
+                return Some(Order::Ring {
+                    line,
+                    now: self.now,
+                });
+            }
+            if self.schedule.left(self.now) == 0 {
+                break;
+            }
+        }
+        Some(self.turn(lines))
+    }
+
+    fn rung(&mut self, line: usize, answer: Option<Result<u32, RingFault>>) {
+        let Some(Ringing { asker, tag, heard }) = self.ringing.take() else {
+            return;
+        };
+        self.answer(asker, ring_answer(answer));
+        let Some(Ok(call)) = answer else {
+            return;
+        };
+        if let Some(card) = self.cards.get_mut(line) {
+            self.teller.tell_ring(card, call, tag, heard, self.now);
+        }
+    }
+}

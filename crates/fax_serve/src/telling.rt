@@ -1,0 +1,133 @@
+//! What is told of lines.
+use crate::answers::{counts_of, failures_of};
+use crate::card::Card;
+use crate::sockets::ServedLine;
+use fax_clients::Clients;
+use fax_events::{Counters, Ending, Event, PageKept, What, write_event};
+use fax_gateway::{Kept, Side};
+use fax_jobs::{Outcome, Report};
+use std::alloc::Global;
+use std::io::{Read, Write};
+
+/// Counts, and tells the clients that want events.
+#[derive(Drop)]
+pub(crate) struct Teller<I: Read + Drop, O: Write + Drop> {
+    alloc: Global,
+    pub clients: Clients<I, O>,
+    pub counters: Counters,
+    /// Events that were lost for want of memory.
+    lost: u64,
+}
+
+impl<I: Read + Drop, O: Write + Drop> Teller<I, O> {
+    /// Nothing was told; there are so many lines.
+    pub fn new(alloc: Global, clients: Clients<I, O>, lines: usize) -> Self {
+        Teller {
+            alloc,
+            clients,
+            counters: Counters {
+                lines: lines as u64,
+                ..Counters::default()
+            },
+            lost: 0,
+        }
+    }
+
+    /// The counts, with the events that were lost.
+    pub fn counters(&self) -> Counters {
+        Counters {
+            events_lost: self.clients.lost().saturating_add(self.lost),
+            ..self.counters
+        }
+    }
+
+    /// Tells an event of the line of this name. Without memory it is lost.
+    pub fn tell(&mut self, line: &str, at: u64, what: What<'_>) {
+        if !self.clients.tell_events() {
+            return;
+        }
+        match write_event(self.alloc, &Event { line, at, what }) {
+            Ok(text) => self.clients.tell(text.as_slice()),
+            Err(_) => self.lost = self.lost.saturating_add(1),
+        }
+    }
+
+    /// Tells a call that was rung with this tag, when so many datagrams had come on the calling leg.
+    pub fn tell_ring(
+        &mut self,
+        card: &mut Card,
+        call: u32,
+        tag: Option<String>,
+        heard: u64,
+        at: u64,
+    ) {
+        self.counters.calls = self.counters.calls.saturating_add(1);
+        card.ring(call, tag, heard);
+        self.tell(card.name(), at, What::Rung(call, card.tag(call)));
+    }
+
+    /// Tells what the last turn of a line came to.
+    pub fn tell_turn(&mut self, card: &mut Card, line: &ServedLine, at: u64) {
+        let turned = line.turned();
+        if let Some(kept) = turned.kept {
+            self.tell_page(card, kept, at);
+        }
+        if let Some(call) = turned.ended {
+            let how = ending(turned.gave_up.is_some(), card.is_closed());
+            self.tell(card.name(), at, What::Ended(call, how));
+        }
+        if let Some(report) = turned.report {
+            self.count_report(report);
+            self.tell(card.name(), at, What::Job(report, card.tag(report.call)));
+        }
+        if let Some(call) = turned.dialled {
+            card.dial(counts_of(line, Side::Called).received);
+            self.tell(card.name(), at, What::Dial(call, card.tag(call)));
+        }
+        self.tell_failures(card, line, at);
+    }
+
+    /// Tells a page that was confirmed.
+    fn tell_page(&mut self, card: &mut Card, kept: Kept, at: u64) {
+        self.counters.pages_confirmed = self.counters.pages_confirmed.saturating_add(1);
+        let page = PageKept {
+            call: kept.call,
+            number: card.keep_page(kept.closes),
+            format: kept.format,
+            rows: kept.rows,
+        };
+        self.tell(card.name(), at, What::Page(page));
+    }
+
+    /// Counts a job that ended.
+    fn count_report(&mut self, report: Report) {
+        let counters = &mut self.counters;
+        let delivered = u64::from(report.delivered);
+        counters.pages_delivered = counters.pages_delivered.saturating_add(delivered);
+        if report.outcome == Outcome::Delivered {
+            counters.jobs_delivered = counters.jobs_delivered.saturating_add(1);
+        } else {
+            counters.jobs_failed = counters.jobs_failed.saturating_add(1);
+        }
+    }
+
+    /// Tells of receives and sends that fail.
+    fn tell_failures(&mut self, card: &mut Card, line: &ServedLine, at: u64) {
+        let told = card.failures();
+        let Some((leg, direction, count)) = failures_of(line).news(&told) else {
+            return;
+        };
+        card.tell_failures(leg, direction, count);
+        self.tell(card.name(), at, What::Wire(leg, direction, count));
+    }
+}
+
+/// How a call ended: we gave it up or its peer ended it, and the last page was said to be the last or not. A peer that says
+/// no more behind its last page has done what it called for.
+fn ending(is_given_up: bool, is_closed: bool) -> Ending {
+    if is_given_up && !is_closed {
+        Ending::GivenUp
+    } else {
+        Ending::Done
+    }
+}

@@ -1,0 +1,67 @@
+//! `faxgate serve`.
+use fax_command::Status;
+use fax_config::{Config, ConfigFault, Misfit, read_config};
+use fax_serve::{ServeFault, run_serve};
+use std::fmt::Display;
+use std::net::Net;
+use std::rt::{Clock, Files};
+use std::{fs, io};
+
+/// Serves the lines of the configuration in the file at this path. Faults are told in one line on the standard error.
+pub fn serve_file<R: Print + Eprint + Input + AllocGlobal, N: Net + Files + Clock + AllocGlobal>(
+    rt: &R,
+    system: &N,
+    path: &str,
+) -> Status {
+    let text = match fs::read_to_string(system, path) {
+        Ok(text) => text,
+        Err(error) => return tell(rt, path, error, Status::Stream),
+    };
+    match read_config(rt.alloc(), text.as_str()) {
+        Ok(config) => serve_config(rt, system, path, &config),
+        Err(ConfigFault::Misfit(Misfit::NoMemory)) => {
+            tell(rt, path, "memory was refused", Status::NoMemory)
+        }
+        Err(fault) => tell(rt, path, fault, Status::Usage),
+    }
+}
+
+/// Serves the lines of a configuration.
+fn serve_config<R: Print + Eprint + Input + AllocGlobal, N: Net + Files + Clock>(
+    rt: &R,
+    system: &N,
+    path: &str,
+    config: &Config,
+) -> Status {
+    if let Some(lacking) = lacking(config) {
+        return tell(rt, path, lacking, Status::Usage);
+    }
+    if rt
+        .print("pages are kept in memory alone: no spool is set\n")
+        .is_err()
+    {
+        return Status::Stream;
+    }
+    match run_serve(system, rt.alloc(), config, rt.reader(), io::writer(rt)) {
+        Ok(()) => Status::Done,
+        Err(ServeFault::NoMemory) => tell(rt, path, ServeFault::NoMemory, Status::NoMemory),
+        Err(fault) => tell(rt, path, fault, Status::Stream),
+    }
+}
+
+/// What a configuration asks for that is not there yet.
+fn lacking(config: &Config) -> Option<&'static str> {
+    if config.spool.is_some() {
+        Some("spool: pages cannot be kept on a disk yet")
+    } else {
+        None
+    }
+}
+
+/// Tells a fault of a configuration in one line, and gives the status that says it.
+fn tell<R: Eprint, D: Display + Drop>(rt: &R, path: &str, fault: D, status: Status) -> Status {
+    match rt.eprintln(format_args!("faxgate: {path}: {fault}")) {
+        Ok(()) => status,
+        Err(_) => Status::Stream,
+    }
+}
