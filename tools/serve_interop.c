@@ -11,6 +11,7 @@
 #include <errno.h>
 #include <fcntl.h>
 #include <netinet/in.h>
+#include <setjmp.h>
 #include <signal.h>
 #include <sys/socket.h>
 #include <sys/wait.h>
@@ -23,12 +24,14 @@ enum {
     SAMPLES_A_STEP = 8 * STEP_MS,
     MOST_STEPS = 300 * 1000 / STEP_MS,
     STEPS_BEHIND = 3 * 1000 / STEP_MS,
+    STEPS_TO_A_HANGUP = 1000 / STEP_MS,
+    MOST_PACKETS_A_STEP = 1000,
 };
 
 /* What is played: who is called, what is lost, and when callers hang up. */
 typedef struct {
     const char *name;
-    int lost_percent, is_direct, has_modem, hangs_up, jobs;
+    int lost_percent, is_direct, has_modem, hangs_up;
 } Kind;
 
 typedef struct {
@@ -37,22 +40,33 @@ typedef struct {
     char sent[96], got[96];
     Peer *calling, *called;
     int calling_socket, called_socket;
-    int jobs, delivered, is_done, steps_behind;
+    int pages_kept, has_hung_up, is_ended, jobs, delivered, is_done, is_stuck, steps, steps_behind;
 } Line;
 
 static const char *faxgate;
+static int shows_events;
 static char room[64] = "/tmp/serve-interop-XXXXXX";
 static Line lines[MOST_CALLS];
 
 /* ---- terminals over sockets, and over nothing ---- */
 
+/* Now and then a terminal of spandsp sends empty packets for ever within one step: it is left then, and counted. */
+static jmp_buf out_of_the_step;
+static int packets_in_step;
+
+static void count_packet(void) {
+    if (++packets_in_step > MOST_PACKETS_A_STEP) longjmp(out_of_the_step, 1);
+}
+
 static void send_over_socket(Peer *p, const uint8_t *octets, int count) {
     int socket = *(int *)p->to;
+    count_packet();
     if (send(socket, octets, (size_t)count, 0) < 0 && errno != ECONNREFUSED) perror("send");
 }
 
 static void hand_over(Peer *p, const uint8_t *octets, int count) {
     Peer *other = *(Peer **)p->to;
+    count_packet();
     if (other) receive(other, octets, count);
 }
 
@@ -154,6 +168,8 @@ static void obey(const Kind *kind, const char *event) {
     if (strstr(event, "\"event\":\"dial\"") && !l->called)
         l->called = kind->has_modem ? new_modem_peer(&l->setting, l->got, send_over_socket, &l->called_socket)
                                     : new_peer(&l->setting, NULL, l->got, send_over_socket, &l->called_socket);
+    l->pages_kept += strstr(event, "\"event\":\"page\"") != NULL;
+    l->is_ended |= strstr(event, "\"event\":\"ended\"") != NULL;
     if (strstr(event, "\"event\":\"job\"")) {
         l->jobs++;
         l->delivered += strstr(event, "\"outcome\":\"Delivered\"") != NULL;
@@ -169,6 +185,7 @@ static void hear_events(Server *server, const Kind *kind) {
     char *line = server->text, *end;
     for (; (end = strchr(line, '\n')); line = end + 1) {
         *end = 0;
+        if (shows_events) fprintf(stderr, "%s\n", line);
         obey(kind, line);
     }
     server->length -= (size_t)(line - server->text);
@@ -188,18 +205,33 @@ static void prepare(Line *l, int i, const Kind *kind) {
     write_tiff(l->sent, &l->setting, l->pages);
 }
 
-/* A step of a line; whether it is over: its job has ended, and the called terminal has heard of it. */
-static int is_over(Line *l, const Kind *kind) {
-    if (kind->is_direct) {
-        l->is_done |= step(l->calling);
-        step(l->called);
-        return l->is_done && l->steps_behind++ > STEPS_BEHIND;
+/* The caller of a line hangs up a second behind its first page, in the middle of the second. */
+static void may_hang_up(Line *l, int i, Server *server) {
+    if (l->has_hung_up || l->pages_kept == 0 || ++l->steps < STEPS_TO_A_HANGUP) return;
+    l->has_hung_up = 1;
+    dprintf(server->words, "hangup l%d calling\n", i);
+}
+
+/* A step of the terminals of a line. */
+static void step_line(Line *l, const Kind *kind) {
+    packets_in_step = 0;
+    if (l->is_stuck) return;
+    if (setjmp(out_of_the_step)) {
+        l->is_stuck = 1;
+        return;
     }
-    hear_socket(l->calling_socket, l->calling, kind->lost_percent);
-    hear_socket(l->called_socket, l->called, kind->lost_percent);
-    if (l->calling) l->is_done |= step(l->calling);
+    if (!kind->is_direct) {
+        hear_socket(l->calling_socket, l->has_hung_up ? NULL : l->calling, kind->lost_percent);
+        hear_socket(l->called_socket, l->called, kind->lost_percent);
+    }
+    if (!l->has_hung_up) l->is_done |= step(l->calling);
     if (l->called) step(l->called);
-    return l->jobs > 0 && l->steps_behind++ > STEPS_BEHIND;
+}
+
+/* Whether a line is over: its job has ended, and the called terminal has heard of it. */
+static int is_over(Line *l, const Kind *kind) {
+    int is_ended = l->is_stuck || (kind->is_direct ? l->is_done : l->jobs > 0 && l->is_ended);
+    return is_ended && l->steps_behind++ > STEPS_BEHIND;
 }
 
 static void wait_for(struct timespec *moment) {
@@ -229,9 +261,9 @@ static void close_line(Line *l, const Kind *kind) {
 
 /* Calls of one kind, all at once; a line of the table. It answers how many pages differ. */
 static int play(const Kind *kind, int count) {
-    Server server;
+    static Server server;
     char configuration[96];
-    int left = count, whole = 0, delivered = 0, differ = 0, steps = 0, confirmed = 0, got = 0;
+    int left = count, whole = 0, delivered = 0, differ = 0, steps = 0, confirmed = 0, got = 0, stuck = 0;
     struct timespec moment;
     snprintf(configuration, sizeof configuration, "%s/serve.toml", room);
     write_configuration(configuration, kind, count);
@@ -241,7 +273,11 @@ static int play(const Kind *kind, int count) {
     clock_gettime(CLOCK_MONOTONIC, &moment);
     for (; left > 0 && steps < MOST_STEPS; steps++) {
         left = 0;
-        for (int i = 0; i < count; i++) left += !is_over(&lines[i], kind);
+        for (int i = 0; i < count; i++) {
+            step_line(&lines[i], kind);
+            if (kind->hangs_up) may_hang_up(&lines[i], i, &server);
+            left += !is_over(&lines[i], kind);
+        }
         if (!kind->is_direct) hear_events(&server, kind), wait_for(&moment);
     }
     for (int i = 0; i < count; i++) {
@@ -252,10 +288,12 @@ static int play(const Kind *kind, int count) {
         got += pages;
         differ += wrong;
         delivered += lines[i].delivered;
+        stuck += lines[i].is_stuck;
     }
     if (!kind->is_direct) stop(&server);
     printf("%s, %d%% lost: %d calls, %d with all pages right", kind->name, kind->lost_percent, count, whole);
     if (!kind->is_direct) printf(", %d jobs delivered", delivered);
+    if (stuck) printf(", %d with a terminal that stuck", stuck);
     printf("; pages: %d sent, %d confirmed, %d got, %d differ; %d s\n", count * MOST_PAGES, confirmed, got, differ,
            steps * STEP_MS / 1000);
     fflush(stdout);
@@ -278,6 +316,7 @@ static const Kind kinds[] = {
     {.name = "direct", .lost_percent = 20, .is_direct = 1},
     {.name = "through faxgate", .lost_percent = 20},
     {.name = "to a media gateway", .lost_percent = 0, .has_modem = 1},
+    {.name = "callers that hang up", .lost_percent = 0, .hangs_up = 1},
 };
 
 int main(int count, char **words) {
@@ -285,6 +324,7 @@ int main(int count, char **words) {
     if (count < 2 || count > 3 || calls < 1 || calls > MOST_CALLS)
         return fprintf(stderr, "usage: serve_interop FAXGATE [CALLS]\n"), 2;
     faxgate = words[1];
+    shows_events = getenv("EVENTS") != NULL;
     signal(SIGPIPE, SIG_IGN);
     if (!mkdtemp(room)) fail(room);
     for (size_t k = 0; k < sizeof kinds / sizeof kinds[0]; k++) differ += play(&kinds[k], calls);
