@@ -2,7 +2,8 @@
    checks that each page that the called terminal got is the page that was sent, element for element. For `make
    serve-interop` only; nothing of the product is C.
 
-   usage: serve_interop FAXGATE [CALLS]    (the proved program; how many calls of each kind, 40 if it is not said)
+   usage: serve_interop FAXGATE [CALLS [KIND]]    (the proved program; how many calls of each kind, 40 if it is not said;
+   the kinds whose names begin so, all of them if it is not said)
 
    The calls of one kind are played at once, each on a line of its own. Datagrams are lost at random on each of the four
    paths. Beside each loss stands what two terminals come to that are joined without a gateway. */
@@ -259,7 +260,7 @@ static void close_line(Line *l, const Kind *kind) {
     if (!kind->is_direct) close(l->calling_socket), close(l->called_socket);
 }
 
-/* Calls of one kind, all at once; a line of the table. It answers how many pages differ. */
+/* Calls of one kind, all at once; a line of the table. It answers how many pages differ behind a gateway. */
 static int play(const Kind *kind, int count) {
     static Server server;
     char configuration[96];
@@ -297,7 +298,7 @@ static int play(const Kind *kind, int count) {
     printf("; pages: %d sent, %d confirmed, %d got, %d differ; %d s\n", count * MOST_PAGES, confirmed, got, differ,
            steps * STEP_MS / 1000);
     fflush(stdout);
-    return differ;
+    return kind->is_direct ? 0 : differ;
 }
 
 static void clear_room(void) {
@@ -320,14 +321,16 @@ static const Kind kinds[] = {
 };
 
 int main(int count, char **words) {
-    int differ = 0, calls = count == 3 ? atoi(words[2]) : 40;
-    if (count < 2 || count > 3 || calls < 1 || calls > MOST_CALLS)
-        return fprintf(stderr, "usage: serve_interop FAXGATE [CALLS]\n"), 2;
+    int differ = 0, calls = count > 2 ? atoi(words[2]) : 40;
+    const char *name = count == 4 ? words[3] : "";
+    if (count < 2 || count > 4 || calls < 1 || calls > MOST_CALLS)
+        return fprintf(stderr, "usage: serve_interop FAXGATE [CALLS [KIND]]\n"), 2;
     faxgate = words[1];
     shows_events = getenv("EVENTS") != NULL;
     signal(SIGPIPE, SIG_IGN);
     if (!mkdtemp(room)) fail(room);
-    for (size_t k = 0; k < sizeof kinds / sizeof kinds[0]; k++) differ += play(&kinds[k], calls);
+    for (size_t k = 0; k < sizeof kinds / sizeof kinds[0]; k++)
+        if (!strncmp(kinds[k].name, name, strlen(name))) differ += play(&kinds[k], calls);
     clear_room();
     return differ != 0;
 }
