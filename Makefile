@@ -2,12 +2,16 @@
 RT ?= rt
 PROGRAM = crates/faxgate/out/faxgate
 
-.PHONY: all test wrong-bodies format memory bench interop tables check-docs
+.PHONY: all demo test wrong-bodies format memory bench load interop serve-interop tables check-docs
 
 # Proves and builds the program, and says where it lies.
 all:
 	cd crates/faxgate && $(RT) run -- --help > /dev/null
 	@echo "the proved program lies at $(PROGRAM)"
+
+# A page through the gateway in real time, on this host, in half a minute.
+demo: all
+	tools/demo $(PROGRAM)
 
 # The merge gate: every proof from nothing, the wrong bodies, the tests, the stored run.
 test:
@@ -73,10 +77,27 @@ bench: all bench/example bench/bench
 	cd crates/codec_tests && $(RT) test > /dev/null
 	FAX_PAGE=bench/pages/text-1728.mr crates/codec_tests/out/codec_tests_tests pagestore::speed::times_pieces
 
+# Many lines of `faxgate serve` at once, in real time: see docs/PERFORMANCE.md. It wants a C compiler and Python 3, and more
+# than 8,000 open files (`ulimit -n`).
+bench/load: bench/load.c
+	$(CC) -O2 -Wall -Wextra -o $@ bench/load.c -lpthread
+
+load: all bench/load
+	bench/gateway $(PROGRAM) bench/pages/text-1728.mr --call > bench/call.trace
+	for lines in 100 1000 2000; do bench/load $(PROGRAM) bench/call.trace $$lines || exit 1; done
+
 # Calls between two T.38 terminals of spandsp through the gateway: see docs/INTEROP.md. It wants a C compiler, libspandsp-dev
 # and libtiff-dev, and some minutes.
-tools/interop: tools/interop.c
+tools/interop: tools/interop.c tools/terminals.h
 	$(CC) -O2 -Wall -Wextra -o $@ tools/interop.c -lspandsp -ltiff
 
 interop: all tools/interop
 	tools/interop $(PROGRAM)
+
+# The same in real time, through `faxgate serve` over UDP on this host: with losses, beside the same terminals without a
+# gateway; to a machine behind a media gateway; and with callers that hang up. It takes some ten minutes.
+tools/serve_interop: tools/serve_interop.c tools/terminals.h
+	$(CC) -O2 -Wall -Wextra -o $@ tools/serve_interop.c -lspandsp -ltiff
+
+serve-interop: all tools/serve_interop
+	tools/serve_interop $(PROGRAM)

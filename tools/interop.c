@@ -6,44 +6,18 @@
 
    A call is a script that grows: each round of 40 ms the terminals' datagrams are put behind it, and a tick. The program
    is run on the whole script, and what it prints more than on the last one is what the gateway gave in this round. */
-#define _GNU_SOURCE
-#define SPANDSP_EXPOSE_INTERNAL_STRUCTURES
-#include <spandsp.h>
-#include <stdint.h>
-#include <stdio.h>
-#include <stdlib.h>
-#include <string.h>
+#include "terminals.h"
 #include <sys/wait.h>
-#include <tiffio.h>
-#include <unistd.h>
 
 enum {
-    ROWS = 120,
-    MOST_PAGES = 3,
     CALLS = 48,
     ROUND_MS = 40,
     MOST_ROUNDS = 9000,
     SAMPLES_A_ROUND = 8 * ROUND_MS,
-    REDUNDANCY = 3,
-    MOST_PACKET = 1024,
-    MOST_OUT = 4 * (MOST_PACKET + 2) + 8,
 };
 
 static const char *faxgate;
 static char room[64] = "/tmp/interop-XXXXXX";
-
-static void fail(const char *why) {
-    perror(why);
-    exit(2);
-}
-
-static uint32_t state_of_chance = 1;
-
-/* A number below `bound`, the same ones in each run of the program. */
-static uint32_t chance(uint32_t bound) {
-    state_of_chance = state_of_chance * 1664525u + 1013904223u;
-    return (state_of_chance >> 8) % bound;
-}
 
 /* ---- texts that grow ---- */
 
@@ -70,179 +44,13 @@ static void put_line(Text *t, char leg, const uint8_t *octets, int count) {
     put(t, line, (size_t)at);
 }
 
-/* ---- what is played ---- */
-
-typedef struct {
-    int width, fine, two_dimensional, pages, lost_percent;
-} Setting;
-
-typedef struct {
-    t38_terminal_state_t *terminal;
-    char leg; /* A: the calling leg, B: the called one */
-    Text *script;
-    int lost_percent;
-    /* what it sent: packets, newest first, and the number of the next */
-    uint8_t sent[REDUNDANCY + 1][MOST_PACKET];
-    int sent_length[REDUNDANCY + 1];
-    unsigned number;
-    /* the number of the packet that it wants next */
-    unsigned wanted;
-} Peer;
-
-/* The datagram of the newest packet (ITU-T T.38, UDPTL with redundancy). */
-static int datagram_of(const Peer *p, unsigned number, uint8_t *out) {
-    int at = 0, before = number < REDUNDANCY ? (int)number : REDUNDANCY;
-    out[at++] = (uint8_t)(number >> 8);
-    out[at++] = (uint8_t)number;
-    for (int k = 0; k <= before; k++) {
-        int length = p->sent_length[k];
-        if (k == 1) {
-            out[at++] = 0;
-            out[at++] = (uint8_t)before;
-        }
-        if (length > 127) out[at++] = (uint8_t)(0x80 | length >> 8);
-        out[at++] = (uint8_t)length;
-        memcpy(out + at, p->sent[k], (size_t)length);
-        at += length;
-    }
-    if (before == 0) {
-        out[at++] = 0;
-        out[at++] = 0;
-    }
-    return at;
+/* A datagram of a terminal is a line of the script. */
+static void put_calling(Peer *p, const uint8_t *octets, int count) {
+    put_line(p->to, 'A', octets, count);
 }
 
-/* A terminal sends a packet, `count` times: a line of the script for each datagram that is not lost. */
-static int send_packet(t38_core_state_t *core, void *user, const uint8_t *octets, int length, int count) {
-    Peer *p = user;
-    uint8_t out[MOST_OUT];
-    (void)core;
-    if (length > MOST_PACKET) return -1;
-    memmove(p->sent[1], p->sent[0], sizeof p->sent[0] * REDUNDANCY);
-    memmove(p->sent_length + 1, p->sent_length, sizeof p->sent_length[0] * REDUNDANCY);
-    memcpy(p->sent[0], octets, (size_t)length);
-    p->sent_length[0] = length;
-    int total = datagram_of(p, p->number++, out);
-    for (int i = 0; i < count; i++)
-        if ((int)chance(100) >= p->lost_percent) put_line(p->script, p->leg, out, total);
-    return 0;
-}
-
-static int length_at(const uint8_t *in, int *at) {
-    int length = in[(*at)++];
-    return length < 128 ? length : (length & 63) << 8 | in[(*at)++];
-}
-
-/* A datagram of the gateway comes to a terminal: the packets that it wants yet, the oldest first. */
-static void receive(Peer *p, const uint8_t *in, int count) {
-    const uint8_t *packets[256];
-    int lengths[256], at = 2, n = 1;
-    unsigned number = (unsigned)(in[0] << 8 | in[1]);
-    lengths[0] = length_at(in, &at);
-    packets[0] = in + at;
-    at += lengths[0];
-    if (at + 2 <= count && in[at] == 0)
-        for (int left = in[at + 1], first = 1; left > 0 && n < 256; left--, n++) {
-            if (first) at += 2, first = 0;
-            lengths[n] = length_at(in, &at);
-            packets[n] = in + at;
-            at += lengths[n];
-        }
-    t38_core_state_t *core = t38_terminal_get_t38_core_state(p->terminal);
-    for (int k = n - 1; k >= 0; k--) {
-        if ((int)(number - p->wanted) < k) continue;
-        t38_core_rx_ifp_packet(core, packets[k], lengths[k], (uint16_t)(number - (unsigned)k));
-        p->wanted = number - (unsigned)k + 1;
-    }
-}
-
-/* ---- pages ---- */
-
-typedef uint8_t Page[ROWS][2432 / 8];
-
-/* Black strokes on white, as wide as letters: other ones on each page. */
-static void draw(Page page, int width) {
-    memset(page, 0, sizeof(Page));
-    for (int line = 0; line < ROWS / 12; line++)
-        for (int x = 40; x + 40 < width; x += 12 + (int)chance(30)) {
-            int wide = 1 + (int)chance(7), top = (int)chance(4), bottom = 5 + (int)chance(5);
-            for (int y = top; y < bottom; y++)
-                for (int i = x; i < x + wide; i++) page[12 * line + y][i / 8] |= (uint8_t)(0x80 >> i % 8);
-        }
-}
-
-static void write_tiff(const char *path, const Setting *s, Page *pages) {
-    TIFF *tiff = TIFFOpen(path, "w");
-    if (!tiff) fail(path);
-    for (int n = 0; n < s->pages; n++) {
-        TIFFSetField(tiff, TIFFTAG_SUBFILETYPE, FILETYPE_PAGE);
-        TIFFSetField(tiff, TIFFTAG_IMAGEWIDTH, s->width);
-        TIFFSetField(tiff, TIFFTAG_IMAGELENGTH, ROWS);
-        TIFFSetField(tiff, TIFFTAG_BITSPERSAMPLE, 1);
-        TIFFSetField(tiff, TIFFTAG_SAMPLESPERPIXEL, 1);
-        TIFFSetField(tiff, TIFFTAG_ROWSPERSTRIP, ROWS);
-        TIFFSetField(tiff, TIFFTAG_COMPRESSION, COMPRESSION_CCITT_T4);
-        TIFFSetField(tiff, TIFFTAG_PHOTOMETRIC, PHOTOMETRIC_MINISWHITE);
-        TIFFSetField(tiff, TIFFTAG_FILLORDER, FILLORDER_LSB2MSB);
-        TIFFSetField(tiff, TIFFTAG_RESOLUTIONUNIT, RESUNIT_CENTIMETER);
-        TIFFSetField(tiff, TIFFTAG_XRESOLUTION, 80.3);
-        TIFFSetField(tiff, TIFFTAG_YRESOLUTION, s->fine ? 77.0 : 38.5);
-        TIFFSetField(tiff, TIFFTAG_PAGENUMBER, n, s->pages);
-        for (int y = 0; y < ROWS; y++)
-            if (TIFFWriteScanline(tiff, pages[n][y], (uint32_t)y, 0) < 0) fail("TIFFWriteScanline");
-        TIFFWriteDirectory(tiff);
-    }
-    TIFFClose(tiff);
-}
-
-/* How many pages a picture file has; `differs` counts those that are not the page sent at their place. */
-static int compare(const char *path, const Setting *s, Page *pages, int *differs) {
-    TIFF *tiff = access(path, R_OK) == 0 ? TIFFOpen(path, "r") : NULL;
-    int count = 0;
-    if (!tiff) return 0;
-    do {
-        uint32_t width = 0, rows = 0;
-        uint8_t row[4096];
-        TIFFGetField(tiff, TIFFTAG_IMAGEWIDTH, &width);
-        TIFFGetField(tiff, TIFFTAG_IMAGELENGTH, &rows);
-        int same = count < s->pages && (int)width == s->width && rows == ROWS;
-        for (uint32_t y = 0; same && y < ROWS; y++)
-            same = TIFFReadScanline(tiff, row, y, 0) >= 0 && memcmp(row, pages[count][y], width / 8) == 0;
-        *differs += !same;
-        count++;
-    } while (TIFFReadDirectory(tiff));
-    TIFFClose(tiff);
-    return count;
-}
-
-/* ---- terminals ---- */
-
-static Peer *new_peer(char leg, const Setting *s, Text *script, const char *sends, const char *gets) {
-    Peer *p = calloc(1, sizeof *p);
-    if (!p) fail("memory");
-    p->leg = leg;
-    p->script = script;
-    p->lost_percent = s->lost_percent;
-    p->terminal = t38_terminal_init(NULL, leg == 'A', send_packet, p);
-    t38_set_t38_version(t38_terminal_get_t38_core_state(p->terminal), 0);
-    t30_state_t *t30 = t38_terminal_get_t30_state(p->terminal);
-    t30_set_ecm_capability(t30, 0);
-    t30_set_supported_modems(t30, T30_SUPPORT_V27TER | T30_SUPPORT_V29 | T30_SUPPORT_V17);
-    t30_set_supported_compressions(
-        t30, T30_SUPPORT_T4_1D_COMPRESSION | (s->two_dimensional ? T30_SUPPORT_T4_2D_COMPRESSION : 0));
-    t30_set_supported_resolutions(
-        t30, T30_SUPPORT_STANDARD_RESOLUTION | T30_SUPPORT_FINE_RESOLUTION | T30_SUPPORT_R8_RESOLUTION);
-    t30_set_supported_image_sizes(t30, T30_SUPPORT_215MM_WIDTH | T30_SUPPORT_255MM_WIDTH | T30_SUPPORT_303MM_WIDTH
-                                           | T30_SUPPORT_UNLIMITED_LENGTH | T30_SUPPORT_A4_LENGTH);
-    if (sends) t30_set_tx_file(t30, sends, -1, -1);
-    if (gets) t30_set_rx_file(t30, gets, -1);
-    return p;
-}
-
-static t30_stats_t statistics_of(Peer *p) {
-    t30_stats_t stats;
-    t30_get_transfer_statistics(t38_terminal_get_t30_state(p->terminal), &stats);
-    return stats;
+static void put_called(Peer *p, const uint8_t *octets, int count) {
+    put_line(p->to, 'B', octets, count);
 }
 
 /* ---- the gateway ---- */
@@ -295,7 +103,7 @@ static void hear(Call *c, size_t from) {
         char *end = strchr(line, '\n');
         if (end) *end = 0;
         if (line[0] == 'b' && !c->called)
-            c->called = new_peer('B', &c->setting, &c->script, NULL, c->got_path);
+            c->called = new_peer(&c->setting, NULL, c->got_path, put_called, &c->script);
         if (line[0] == 'a') receive_hex(c->calling, line + 2, c->setting.lost_percent);
         if (line[0] == 'b') receive_hex(c->called, line + 2, c->setting.lost_percent);
         if (!strncmp(line, "job ", 4)) snprintf(c->job, sizeof c->job, "%s", line);
@@ -323,11 +131,6 @@ static void play(Call *c) {
     for (int i = 0; c->called && i < 100; i++) t38_terminal_send_timeout(c->called->terminal, SAMPLES_A_ROUND);
 }
 
-static void end_peer(Peer *p) {
-    if (p) t38_terminal_free(p->terminal);
-    free(p);
-}
-
 /* One call: it prints a line, and counts in what was delivered and in how many pages differ. */
 static void call(int number, Setting s, int shows_script, int *delivered, int *differ) {
     static Page pages[MOST_PAGES];
@@ -339,7 +142,7 @@ static void call(int number, Setting s, int shows_script, int *delivered, int *d
     snprintf(c.got_path, sizeof c.got_path, "%s/got.tif", room);
     unlink(c.got_path);
     write_tiff(c.sent_path, &s, pages);
-    c.calling = new_peer('A', &s, &c.script, c.sent_path, NULL);
+    c.calling = new_peer(&s, c.sent_path, NULL, put_calling, &c.script);
     play(&c);
     int confirmed = statistics_of(c.calling).pages_tx;
     end_peer(c.called);
