@@ -1,0 +1,4 @@
+pub mod Endings
+pub mod HangUps
+pub mod Legs
+pub mod Runs

@@ -7,6 +7,8 @@ mod clock;
 mod control;
 mod failures;
 mod fault;
+mod hang_up;
+mod legs;
 mod pace;
 mod run;
 mod schedule;
