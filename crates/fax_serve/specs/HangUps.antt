@@ -44,7 +44,6 @@ due_again peers.Gone = peers.Gone
 due_again peers.Told = peers.Gone
 
 -- The goodbye behind the newest datagram is handed out, in the front of the buffer, and is the newest then.
-pub record HandsOut (old new : PeerCall) (before after : List ℕ) (count : ℕ) : Type 0 where
-  pub octets : after ≡ goodbye (number_behind old.newest) ++ drop count before
-  pub many : count ≡ 14
+pub record HandsOut (old new : PeerCall) (before after : List ℕ) : Type 0 where
+  pub octets : after ≡ goodbye (number_behind old.newest) ++ drop 14 before
   pub call : new ≡ record { newest = Some (number_behind old.newest); peer = peers.Told }

@@ -2,16 +2,13 @@
 use Rattle.std.specs.Prelude.{ℕ}
 use Rattle.fax_gateway.specs.declared.side.Side.{Side}
 use Rattle.fax_gateway.specs.declared.side.Side.TheVariants as side
-use Rattle.fax_serve.specs.declared.udp_wire.LegCounts.{LegCounts}
+use Rattle.fax_serve.specs.declared.leg_socket.LegCounts.{LegCounts}
 
 -- what went over each leg, and how many receives and sends failed
 pub record UdpValue : Type 0 where
   pub calling : LegCounts
   pub called : LegCounts
   pub failures : ℕ
-
-abbrev pub no_counts : LegCounts
-no_counts = record { received = 0; sent = 0; receive_failures = 0; send_failures = 0 }
 
 abbrev pub leg_on : Side → UdpValue → LegCounts
 leg_on side.Calling wire = wire.calling

@@ -1,3 +1,4 @@
+pub mod Counts
 pub mod Endings
 pub mod HangUps
 pub mod Legs

@@ -1,9 +1,9 @@
 //! How the end of a peer's call is brought in where a word says it: a datagram with a DCN is handed out, as if it had come.
-ghost use Rattle.std.specs.Prelude.{◌≡◌, ◌≤◌, ◌↔◌, false, length, IfNone, IfSome, IsSome};
+ghost use Rattle.std.specs.Prelude.{◌≡◌, ◌≤◌, ◌↔◌, true, false, length, IsTrue};
 ghost use Rattle.fax_serve.specs.HangUps.{HandsOut, due_again, goodbye, newest_behind, number_behind, is_late};
 
 /// How many octets a datagram with a DCN has.
-const GOODBYE_OCTETS: usize = 14;
+pub(crate) const GOODBYE_OCTETS: usize = 14;
 
 /// Whether the peer's call is gone.
 #[derive(Clone, Copy, PartialEq, Eq, Debug)]
@@ -73,22 +73,21 @@ impl PeerCall {
     }
 
     /// Where it is gone, and no DCN was handed out in this turn, hands one out: a datagram behind the newest, in the front of a
-    /// buffer that has room for it. It answers how many octets it has.
-    pub(crate) fn hand_out(&mut self, buffer: &mut [u8]) -> Option<usize>
-        ensures handed { IfSome result (λ count. HandsOut self.old self.new buffer.old buffer.new count) }
-        ensures fits { IfSome result (λ count. count ≤ length buffer.new) }
-        ensures due { IsSome result ↔ ((self.old.peer ≡ Peer.Gone) × (14 ≤ length buffer.old)) }
-        ensures none { IfNone result (self.new ≡ self.old) }
-        ensures left { IfNone result (buffer.new ≡ buffer.old) }
+    /// buffer that has room for it. It answers whether it did.
+    pub(crate) fn hand_out(&mut self, buffer: &mut [u8]) -> bool
+        ensures due { IsTrue result ↔ ((self.old.peer ≡ Peer.Gone) × (14 ≤ length buffer.old)) }
+        ensures handed { result ≡ true → HandsOut self.old self.new buffer.old buffer.new }
+        ensures none { result ≡ false → self.new ≡ self.old }
+        ensures left { result ≡ false → buffer.new ≡ buffer.old }
     {
         if self.peer != Peer::Gone || buffer.len() < GOODBYE_OCTETS {
-            return None;
+            return false;
         }
         let number = number_behind(self.newest);
         buffer[..GOODBYE_OCTETS].copy_from_slice(&goodbye(number));
         self.newest = Some(number);
         self.peer = Peer::Told;
-        Some(GOODBYE_OCTETS)
+        true
     }
 }
 

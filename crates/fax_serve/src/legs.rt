@@ -1,8 +1,8 @@
 //! What words do with the legs of a line.
 use crate::answers::counts_of;
 use crate::card::Card;
+use crate::leg_socket::LegSocket;
 use crate::sockets::ServedLine;
-use crate::udp_wire::LegSocket;
 use fax_control::{Answer, Leg, Refusal};
 use fax_gateway::Side;
 use std::net::SocketAddr;

@@ -8,6 +8,7 @@ mod control;
 mod failures;
 mod fault;
 mod hang_up;
+mod leg_socket;
 mod legs;
 mod pace;
 mod run;
@@ -18,8 +19,9 @@ mod telling;
 mod udp_wire;
 
 pub use fault::ServeFault;
+pub use leg_socket::{LegCounts, LegSocket};
 pub use pace::RealPace;
 pub use run::{run_serve, serve_clients};
 pub use schedule::Schedule;
 pub use sockets::{ServedLine, ServedLines, open_lines};
-pub use udp_wire::{LegCounts, LegSocket, UdpWire};
+pub use udp_wire::UdpWire;

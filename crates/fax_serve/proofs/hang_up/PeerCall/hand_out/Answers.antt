@@ -1,4 +1,4 @@
-use Rattle.std.proofs.Common.{ℕ, List, Some, ◌++◌, ◌∙◌, ap, refl, drop}
+use Rattle.std.proofs.Common.{ℕ, List, Some, ◌++◌, ◌∙◌, ap, drop}
 use Rattle.fax_serve.specs.declared.hang_up.Peer.TheVariants as peers
 use Rattle.fax_serve.specs.declared.hang_up.PeerCall.{PeerCall}
 use Rattle.fax_serve.specs.HangUps.{goodbye}
@@ -11,8 +11,7 @@ called n = record { newest = Some n; peer = peers.Told }
 pub returns-clause-handed : goal.returns-clause-handed
 returns-clause-handed c =
     let number = c.number_behind-number.ensures in
-    record {
+    λ _. record {
       octets = ap (λ (front : List ℕ). front ++ drop 14 c.args.buffer.now) (c.copy_from_slice.ensures.after ∙ c.goodbye.ensures ∙ ap goodbye number);
-      many = refl;
       call = ap called number;
     }
