@@ -1,10 +1,11 @@
 -- How the end of a peer's call is brought in where a word says it (this project's profile).
-use Rattle.std.specs.Prelude.{◌≡◌, ℕ, ◌+◌, ◌-◌, ◌*◌, ◌%◌, nat_lt, Bool, false, List, [], ◌∷◌, ◌++◌, drop, Option, None, Some, if◌then◌else◌}
+use Rattle.std.specs.Prelude.{◌≡◌, ℕ, ◌+◌, ◌-◌, ◌*◌, ◌<◌, ◌%◌, nat_lt, Bool, false, List, [], ◌∷◌, ◌++◌, drop, Option, None, Some, if◌then◌else◌}
 use Rattle.fax_frames.specs.declared.writing.Plain.TheVariants.{Dcn}
 use Rattle.fax_frames.specs.Written.{written_plain}
 use Rattle.fax_ifp.specs.Packets.{FieldText}
 use Rattle.fax_ifp.specs.WrittenPackets.{frame_fields, written_message}
-use Rattle.fax_udptl.specs.Datagrams.{written_datagram}
+use Rattle.fax_udptl.specs.Datagrams.{DatagramValue, written_datagram}
+use Rattle.fax_udptl.specs.Taking.{IsAfter}
 use Rattle.fax_serve.specs.declared.hang_up.Peer.{Peer}
 use Rattle.fax_serve.specs.declared.hang_up.Peer.TheVariants as peers
 use Rattle.fax_serve.specs.declared.hang_up.PeerCall.{PeerCall}
@@ -47,3 +48,19 @@ due_again peers.Told = peers.Gone
 pub record HandsOut (old new : PeerCall) (before after : List ℕ) : Type 0 where
   pub octets : after ≡ goodbye (number_behind old.newest) ++ drop 14 before
   pub call : new ≡ record { newest = Some (number_behind old.newest); peer = peers.Told }
+
+-- the number of the newest of the datagrams that came, where the last of them stands first
+abbrev pub newest_of : List DatagramValue → Option ℕ
+newest_of [] = None
+newest_of (d ∷ earlier) = newer_of (newest_of earlier) d.number
+
+-- a number has 16 bits
+abbrev pub HaveNumbers : List DatagramValue → Type 0
+HaveNumbers [] = Unit {0}
+HaveNumbers (d ∷ earlier) = (d.number < 65536) × HaveNumbers earlier
+
+-- It is the greatest that a receiver knows of. So a goodbye has the number that the receiver expects: it is not late, and no
+-- slot is missing before it.
+abbrev pub GoodbyesAreExpected : Type 0
+GoodbyesAreExpected =
+    (arrived : List DatagramValue) (expected : ℕ) → HaveNumbers arrived → IsAfter arrived (Some expected) → number_behind (newest_of arrived) ≡ expected

@@ -8,6 +8,7 @@ mod control;
 mod failures;
 mod fault;
 mod hang_up;
+pub mod laws;
 mod leg_socket;
 mod legs;
 mod pace;
