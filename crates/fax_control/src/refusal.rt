@@ -27,6 +27,8 @@ pub enum Refusal {
     TooLong,
     /// 10: the system does not take the address for this leg.
     NoRoute,
+    /// 11: no call is on on this leg.
+    NoCall,
 }
 
 impl Refusal {
@@ -45,6 +47,7 @@ impl Refusal {
             Refusal::NoWord => 8,
             Refusal::TooLong => 9,
             Refusal::NoRoute => 10,
+            Refusal::NoCall => 11,
         }
     }
 
@@ -63,6 +66,7 @@ impl Refusal {
             Refusal::NoWord => "NoWord",
             Refusal::TooLong => "TooLong",
             Refusal::NoRoute => "NoRoute",
+            Refusal::NoCall => "NoCall",
         }
     }
 }

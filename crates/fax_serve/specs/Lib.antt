@@ -1,0 +1,5 @@
+pub mod Counts
+pub mod Endings
+pub mod HangUps
+pub mod Legs
+pub mod Runs

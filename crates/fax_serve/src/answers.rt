@@ -1,8 +1,8 @@
 //! The texts that control words are answered with.
 use crate::card::Card;
 use crate::failures::Failures;
+use crate::leg_socket::LegCounts;
 use crate::sockets::{ServedLine, ServedLines};
-use crate::udp_wire::LegCounts;
 use fax_bits::NoMemory;
 use fax_control::Answer;
 use fax_events::{Counters, Event, What, write_event};

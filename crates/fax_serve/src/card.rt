@@ -35,7 +35,7 @@ pub(crate) struct Card {
 
 impl Card {
     /// A line of this name to which nothing happened.
-    pub fn new(alloc: Global, name: &str) -> Result<Self, AllocError> {
+    pub(crate) fn new(alloc: Global, name: &str) -> Result<Self, AllocError> {
         Ok(Card {
             name: String::from_str(alloc, name)?,
             tags: Vec::new(alloc),
@@ -50,23 +50,23 @@ impl Card {
     }
 
     /// The line's name.
-    pub fn name(&self) -> &str {
+    pub(crate) fn name(&self) -> &str {
         self.name.as_str()
     }
 
     /// How many calls were rung.
-    pub fn calls(&self) -> u64 {
+    pub(crate) fn calls(&self) -> u64 {
         self.calls
     }
 
     /// How many pages were confirmed.
-    pub fn pages(&self) -> u64 {
+    pub(crate) fn pages(&self) -> u64 {
         self.pages
     }
 
     /// A call was rung, when so many datagrams had come on the calling leg. Its tag is kept, where memory is there; of more
     /// than 256 tags the oldest is forgotten.
-    pub fn ring(&mut self, call: u32, tag: Option<String>, heard: u64) {
+    pub(crate) fn ring(&mut self, call: u32, tag: Option<String>, heard: u64) {
         self.calls = self.calls.saturating_add(1);
         self.pages_in_call = 0;
         self.is_closed = false;
@@ -81,12 +81,12 @@ impl Card {
     }
 
     /// The call of a job began, when so many datagrams had come on the called leg.
-    pub fn dial(&mut self, heard: u64) {
+    pub(crate) fn dial(&mut self, heard: u64) {
         self.called_heard = heard;
     }
 
     /// A page was confirmed, and said to be the last of its call or not. It answers its number in the call, from 1 on.
-    pub fn keep_page(&mut self, closes: bool) -> u32 {
+    pub(crate) fn keep_page(&mut self, closes: bool) -> u32 {
         self.pages = self.pages.saturating_add(1);
         self.pages_in_call = self.pages_in_call.saturating_add(1);
         self.is_closed = closes;
@@ -94,12 +94,12 @@ impl Card {
     }
 
     /// Whether the last page of the last call was said to be the last.
-    pub fn is_closed(&self) -> bool {
+    pub(crate) fn is_closed(&self) -> bool {
         self.is_closed
     }
 
     /// Whether more than these datagrams came on a leg since its last call began.
-    pub fn has_heard(&self, leg: Leg, received: u64) -> bool {
+    pub(crate) fn has_heard(&self, leg: Leg, received: u64) -> bool {
         match leg {
             Leg::Calling => received > self.calling_heard,
             Leg::Called => received > self.called_heard,
@@ -107,7 +107,7 @@ impl Card {
     }
 
     /// The tag of a call, where it has one.
-    pub fn tag(&self, call: u32) -> Option<&str> {
+    pub(crate) fn tag(&self, call: u32) -> Option<&str> {
         for tagged in self.tags.iter().rev() {
             if tagged.call == call {
                 return Some(tagged.tag.as_str());
@@ -117,12 +117,12 @@ impl Card {
     }
 
     /// How many failures were told.
-    pub fn failures(&self) -> Failures {
+    pub(crate) fn failures(&self) -> Failures {
         self.failures
     }
 
     /// So many failures of a leg and a direction were told.
-    pub fn tell_failures(&mut self, leg: Leg, direction: Direction, count: u64) {
+    pub(crate) fn tell_failures(&mut self, leg: Leg, direction: Direction, count: u64) {
         self.failures.tell(leg, direction, count);
     }
 }

@@ -12,13 +12,13 @@ pub(crate) struct Stopwatch<'a, C: Clock> {
 
 impl<'a, C: Clock> Stopwatch<'a, C> {
     /// It begins now.
-    pub fn new(clock: &'a C) -> io::Result<Self> {
+    pub(crate) fn new(clock: &'a C) -> io::Result<Self> {
         let start = Instant::now(clock)?;
         Ok(Stopwatch { clock, start })
     }
 
     /// How many milliseconds passed. None: the clock does not tell.
-    pub fn now(&self) -> Option<u64> {
+    pub(crate) fn now(&self) -> Option<u64> {
         let passed = self.start.elapsed(self.clock).ok()?;
         u64::try_from(passed.as_millis()).ok()
     }

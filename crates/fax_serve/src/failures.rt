@@ -16,7 +16,7 @@ pub(crate) struct Failures {
 
 impl Failures {
     /// Which leg and direction has failed for the first time since these were told, or 100 times more, and how often it did.
-    pub fn news(&self, told: &Failures) -> Option<(Leg, Direction, u64)> {
+    pub(crate) fn news(&self, told: &Failures) -> Option<(Leg, Direction, u64)> {
         if is_news(self.calling_receives, told.calling_receives) {
             Some((Leg::Calling, Direction::Receives, self.calling_receives))
         } else if is_news(self.calling_sends, told.calling_sends) {
@@ -31,7 +31,7 @@ impl Failures {
     }
 
     /// So many of a leg and a direction are told.
-    pub fn tell(&mut self, leg: Leg, direction: Direction, count: u64) {
+    pub(crate) fn tell(&mut self, leg: Leg, direction: Direction, count: u64) {
         match (leg, direction) {
             (Leg::Calling, Direction::Receives) => self.calling_receives = count,
             (Leg::Calling, Direction::Sends) => self.calling_sends = count,
@@ -41,7 +41,7 @@ impl Failures {
     }
 
     /// All of them; at most the greatest count.
-    pub fn sum(&self) -> u64 {
+    pub(crate) fn sum(&self) -> u64 {
         self.calling_receives
             .saturating_add(self.calling_sends)
             .saturating_add(self.called_receives)

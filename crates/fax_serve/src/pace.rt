@@ -2,8 +2,9 @@
 use crate::answers::{answer_text, counters_of, counts_of, is_idle, report_text, status_text};
 use crate::card::Card;
 use crate::clock::Stopwatch;
+use crate::legs::{hang_up_answer, peer_answer, settle_legs};
 use crate::schedule::Schedule;
-use crate::sockets::{ServedLine, ServedLines};
+use crate::sockets::ServedLines;
 use crate::stop::Stop;
 use crate::telling::Teller;
 use crate::udp_wire::UdpWire;
@@ -107,6 +108,7 @@ impl<'a, C: Clock, I: Read + Drop, O: Write + Drop> RealPace<'a, C, I, O> {
                 && let Some(line) = lines.line(i)
             {
                 self.teller.tell_turn(card, line, self.now);
+                settle_legs(line);
             }
         }
     }
@@ -183,7 +185,10 @@ impl<'a, C: Clock, I: Read + Drop, O: Write + Drop> RealPace<'a, C, I, O> {
                 let answer = self.set_peer(name, leg, address, lines);
                 self.answer(asker, answer);
             }
-            Word::HangUp(_, _) => self.answer(asker, Answer::Refused(Refusal::NoWord)),
+            Word::HangUp(name, leg) => {
+                let answer = self.hang_up(name, leg, lines);
+                self.answer(asker, answer);
+            }
             Word::Report(name) => self.report(asker, name, lines),
             Word::Status => {
                 let text = status_text(self.alloc, self.cards.as_slice(), lines);
@@ -267,6 +272,17 @@ impl<'a, C: Clock, I: Read + Drop, O: Write + Drop> RealPace<'a, C, I, O> {
         }
     }
 
+    /// The peer's call on a leg is gone.
+    fn hang_up(&self, name: &str, leg: Leg, lines: &ServedLines) -> Answer {
+        if let Some(i) = self.find(name)
+            && let Some(line) = lines.line(i)
+        {
+            hang_up_answer(line, leg)
+        } else {
+            Answer::Refused(Refusal::NoLine)
+        }
+    }
+
     /// The last reports of a line are told.
     fn report(&mut self, asker: Asker, name: &str, lines: &ServedLines) {
         if let Some(i) = self.find(name)
@@ -317,21 +333,6 @@ impl<'a, C: Clock, I: Read + Drop, O: Write + Drop> RealPace<'a, C, I, O> {
     /// Writes what clients are still to be told, for a while.
     pub(crate) fn finish(&mut self) {
         self.teller.clients.finish();
-    }
-}
-
-/// A leg of a line gets another peer, unless its call is on and has heard from its peer.
-fn peer_answer(card: &Card, line: &ServedLine, leg: Leg, peer: SocketAddr) -> Answer {
-    let (side, is_on) = match leg {
-        Leg::Calling => (Side::Calling, line.call().is_some()),
-        Leg::Called => (Side::Called, line.sending().is_some()),
-    };
-    if is_on && card.has_heard(leg, counts_of(line, side).received) {
-        return Answer::Refused(Refusal::InCall);
-    }
-    match line.wire().wire().leg(side).set_peer(peer) {
-        Ok(()) => Answer::Done,
-        Err(_) => Answer::Refused(Refusal::NoRoute),
     }
 }
 

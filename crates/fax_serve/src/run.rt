@@ -1,10 +1,14 @@
 //! A run of `faxgate serve`.
+ghost use Rattle.std.specs.Prelude.{OnOk, length};
+ghost use Rattle.fax_line.specs.Deeds.{AreNew};
+ghost use Rattle.fax_serve.specs.Runs.{ServedAlone};
+
 use crate::card::Card;
 use crate::clock::Stopwatch;
 use crate::control::{close_control, open_control};
 use crate::fault::ServeFault;
 use crate::pace::RealPace;
-use crate::sockets::open_lines;
+use crate::sockets::{ServedLines, open_lines};
 use fax_clients::Clients;
 use fax_config::{Config, LineConfig};
 use fax_line::serve;
@@ -25,7 +29,9 @@ pub fn run_serve<N: Net + Files + Clock, I: Read + Drop, O: Write + Drop>(
     config: &Config,
     input: I,
     output: O,
-) -> Result<(), ServeFault> {
+) -> Result<(), ServeFault>
+    ensures { OnOk result (ServedAlone (length config.now.lines.items)) }
+{
     match &config.control {
         Some(path) => {
             let path = path.as_str();
@@ -48,8 +54,10 @@ pub fn serve_clients<N: Net + Clock, I: Read + Drop, O: Write + Drop>(
     alloc: Global,
     config: &Config,
     clients: Clients<I, O>,
-) -> Result<(), ServeFault> {
-    let mut lines = open_lines(system, alloc, config.lines.as_slice())?;
+) -> Result<(), ServeFault>
+    ensures { OnOk result (ServedAlone (length config.now.lines.items)) }
+{
+    let lines = open_lines(system, alloc, config.lines.as_slice())?;
     let cards = cards_of(alloc, config.lines.as_slice())?;
     let clock = match Stopwatch::new(system) {
         Ok(clock) => clock,
@@ -57,9 +65,20 @@ pub fn serve_clients<N: Net + Clock, I: Read + Drop, O: Write + Drop>(
     };
     let stop_ms = u64::from(config.stop_seconds) * SECOND_MS;
     let mut pace = RealPace::new(alloc, clock, clients, cards, stop_ms);
-    serve(&mut lines, &mut pace);
+    serve_new(lines, &mut pace);
     pace.finish();
     Ok(())
+}
+
+/// Serves lines that are new.
+fn serve_new<C: Clock, I: Read + Drop, O: Write + Drop>(
+    mut lines: ServedLines,
+    pace: &mut RealPace<'_, C, I, O>,
+)
+    requires { AreNew lines.lines }
+    ensures { ServedAlone (length lines.lines) }
+{
+    serve(&mut lines, pace);
 }
 
 /// What is kept of the lines.

@@ -5,7 +5,8 @@ ghost use Rattle.fax_line.specs.Actions.{IsNew};
 ghost use Rattle.fax_line.specs.Deeds.{AreNew};
 
 use crate::fault::ServeFault;
-use crate::udp_wire::{LegSocket, UdpWire};
+use crate::leg_socket::LegSocket;
+use crate::udp_wire::UdpWire;
 use fax_config::{LegConfig, LineConfig, Repeat};
 use fax_control::Leg;
 use fax_gateway::Settings;

@@ -14,7 +14,7 @@ pub(crate) enum Stop {
 
 impl Stop {
     /// It is asked to stop, within so many milliseconds; a second time it ends at once.
-    pub fn asked(self, now: u64, within_ms: u64) -> Self
+    pub(crate) fn asked(self, now: u64, within_ms: u64) -> Self
         ensures first { self ≡ Stop.No → result ≡ Stop.At (min (now + within_ms) (2 ^ 64 - 1)) }
         ensures second { (self ≡ Stop.No → ⊥) → result ≡ Stop.Now }
     {
@@ -25,7 +25,7 @@ impl Stop {
     }
 
     /// Whether it takes rings.
-    pub fn takes_rings(self) -> bool
+    pub(crate) fn takes_rings(self) -> bool
         ensures { IsTrue result ↔ (self ≡ Stop.No) }
     {
         self == Stop::No

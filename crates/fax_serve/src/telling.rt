@@ -1,4 +1,7 @@
 //! What is told of lines.
+ghost use Rattle.std.specs.Prelude.{◌≡◌};
+ghost use Rattle.fax_serve.specs.Endings.{ending_of};
+
 use crate::answers::{counts_of, failures_of};
 use crate::card::Card;
 use crate::sockets::ServedLine;
@@ -21,7 +24,7 @@ pub(crate) struct Teller<I: Read + Drop, O: Write + Drop> {
 
 impl<I: Read + Drop, O: Write + Drop> Teller<I, O> {
     /// Nothing was told; there are so many lines.
-    pub fn new(alloc: Global, clients: Clients<I, O>, lines: usize) -> Self {
+    pub(crate) fn new(alloc: Global, clients: Clients<I, O>, lines: usize) -> Self {
         Teller {
             alloc,
             clients,
@@ -34,7 +37,7 @@ impl<I: Read + Drop, O: Write + Drop> Teller<I, O> {
     }
 
     /// The counts, with the events that were lost.
-    pub fn counters(&self) -> Counters {
+    pub(crate) fn counters(&self) -> Counters {
         Counters {
             events_lost: self.clients.lost().saturating_add(self.lost),
             ..self.counters
@@ -42,7 +45,7 @@ impl<I: Read + Drop, O: Write + Drop> Teller<I, O> {
     }
 
     /// Tells an event of the line of this name. Without memory it is lost.
-    pub fn tell(&mut self, line: &str, at: u64, what: What<'_>) {
+    pub(crate) fn tell(&mut self, line: &str, at: u64, what: What<'_>) {
         if !self.clients.tell_events() {
             return;
         }
@@ -53,7 +56,7 @@ impl<I: Read + Drop, O: Write + Drop> Teller<I, O> {
     }
 
     /// Tells a call that was rung with this tag, when so many datagrams had come on the calling leg.
-    pub fn tell_ring(
+    pub(crate) fn tell_ring(
         &mut self,
         card: &mut Card,
         call: u32,
@@ -67,13 +70,14 @@ impl<I: Read + Drop, O: Write + Drop> Teller<I, O> {
     }
 
     /// Tells what the last turn of a line came to.
-    pub fn tell_turn(&mut self, card: &mut Card, line: &ServedLine, at: u64) {
+    pub(crate) fn tell_turn(&mut self, card: &mut Card, line: &ServedLine, at: u64) {
         let turned = line.turned();
         if let Some(kept) = turned.kept {
             self.tell_page(card, kept, at);
         }
         if let Some(call) = turned.ended {
-            let how = ending(turned.gave_up.is_some(), card.is_closed());
+            let is_hung_up = line.wire().wire().leg(Side::Calling).is_hung_up();
+            let how = ending(is_hung_up, turned.gave_up.is_some(), card.is_closed());
             self.tell(card.name(), at, What::Ended(call, how));
         }
         if let Some(report) = turned.report {
@@ -122,10 +126,16 @@ impl<I: Read + Drop, O: Write + Drop> Teller<I, O> {
     }
 }
 
-/// How a call ended: we gave it up or its peer ended it, and the last page was said to be the last or not. A peer that says
-/// no more behind its last page has done what it called for.
-fn ending(is_given_up: bool, is_closed: bool) -> Ending {
-    if is_given_up && !is_closed {
+/// How a call ended: its peer's call was said to be gone, we gave it up, or its peer ended it; and the last page was said to be
+/// the last or not. A peer that says no more behind its last page has done what it called for.
+fn ending(is_hung_up: bool, is_given_up: bool, is_closed: bool) -> Ending
+    ensures { result ≡ ending_of is_hung_up is_given_up is_closed }
+{
+    if is_closed {
+        Ending::Done
+    } else if is_hung_up {
+        Ending::HungUp
+    } else if is_given_up {
         Ending::GivenUp
     } else {
         Ending::Done

@@ -107,6 +107,7 @@ fn answers_are_lines(rt: HostRuntime) -> Result<(), Fail> {
         (Answer::Refused(Refusal::NoWord), "refused 8 NoWord"),
         (Answer::Refused(Refusal::TooLong), "refused 9 TooLong"),
         (Answer::Refused(Refusal::NoRoute), "refused 10 NoRoute"),
+        (Answer::Refused(Refusal::NoCall), "refused 11 NoCall"),
     ] {
         let line = format!(in rt.alloc(); "{answer}")?;
         assert_eq!(rt; line.as_str(), wanted);

@@ -1,4 +1,6 @@
 //! Lines of a server.
+#[cfg(test)]
+mod hang_up;
 mod peers;
 
 use fax_bits::NoMemory;

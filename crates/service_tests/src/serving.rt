@@ -60,6 +60,39 @@ fn a_leg_hears_its_peer_alone(rt: HostRuntime) -> Result<(), Fail> {
     Ok(())
 }
 
+/// A datagram of number 0 that says DCN and nothing else: 9 octets of a packet, V.21 data with three fields. They are the end
+/// of a signal, 3 octets of a frame, and the end of a frame that is right, and of its signal.
+const GOODBYE: [u8; 14] = [0, 0, 9, 0xC0, 3, 0x18, 0, 2, 0xFF, 0xC8, 0x5F, 0x40, 0, 0];
+
+/// Where a leg's peer is gone, a DCN is received that nobody sent, once, under the number behind the newest that came; what
+/// comes is received behind it.
+#[test]
+fn a_peer_that_is_gone_says_dcn(rt: HostRuntime) -> Result<(), Fail> {
+    let here = socket(&rt)?;
+    let address = here.local_addr()?;
+    let peer = socket(&rt)?;
+    let mut wire = UdpWire::new(LegSocket::new(here)?, LegSocket::new(socket(&rt)?)?);
+    wire.leg(Side::Calling).set_peer(peer.local_addr()?)?;
+    let mut buffer = [0u8; 14];
+    for number in [0x8000, 0xFFFF, 0xFFFE, 0x8000] {
+        let [high, low] = u16::to_be_bytes(number);
+        peer.send_to(&[high, low, 0, 0, 0], address)?;
+        assert!(rt; wire.receive(Side::Calling, &mut buffer) == Ok(Some(5)));
+    }
+    wire.leg(Side::Calling).hang_up();
+    peer.send_to(&[0, 1, 0, 0, 0], address)?;
+    assert!(rt; wire.receive(Side::Calling, &mut buffer) == Ok(Some(14)));
+    assert_eq!(rt; buffer, GOODBYE);
+    assert!(rt; wire.receive(Side::Calling, &mut buffer) == Ok(Some(5)));
+    assert!(rt; wire.receive(Side::Calling, &mut buffer) == Ok(None));
+    assert_eq!(rt; wire.leg(Side::Calling).counts().received, 5);
+    wire.leg(Side::Called).hang_up();
+    assert!(rt; wire.receive(Side::Called, &mut buffer[..13]) == Ok(None));
+    assert!(rt; wire.receive(Side::Called, &mut buffer) == Ok(Some(14)));
+    assert_eq!(rt; buffer, GOODBYE);
+    Ok(())
+}
+
 const CONFIG: &str = "\
 [[lines]]
 name = 'a1'
@@ -95,19 +128,66 @@ refused 5 Stopping
 ok
 ";
 
+/// Serves the lines of a configuration until a client has said these words, and gives what it was told.
+fn told(rt: &HostRuntime, path: &str, config: &str, words: &str) -> Result<String, Fail> {
+    let config = read_config(rt.alloc(), config)?;
+    let listener = UnixListener::bind(rt, path)?;
+    listener.set_nonblocking(true)?;
+    let mut client = UnixStream::connect(rt, path)?;
+    fs::remove_file(rt, path)?;
+    client.write_all(words.as_bytes())?;
+    let clients: Clients<&[u8], Vec<u8>> = Clients::of_socket(rt.alloc(), listener)?;
+    serve_clients(rt, rt.alloc(), &config, clients)?;
+    let mut told = String::new(rt.alloc());
+    client.read_to_string(&mut told)?;
+    Ok(told)
+}
+
 /// A client of the control socket is answered, a line for each word.
 #[test]
 fn words_are_answered(rt: HostRuntime) -> Result<(), Fail> {
-    let config = read_config(rt.alloc(), CONFIG)?;
-    let listener = UnixListener::bind(&rt, "words.sock")?;
-    listener.set_nonblocking(true)?;
-    let mut client = UnixStream::connect(&rt, "words.sock")?;
-    fs::remove_file(&rt, "words.sock")?;
-    client.write_all(WORDS.as_bytes())?;
-    let clients: Clients<&[u8], Vec<u8>> = Clients::of_socket(rt.alloc(), listener)?;
-    serve_clients(&rt, rt.alloc(), &config, clients)?;
-    let mut answers = String::new(rt.alloc());
-    client.read_to_string(&mut answers)?;
-    assert_eq!(rt; answers.as_str(), ANSWERS);
+    let told = told(&rt, "words.sock", CONFIG, WORDS)?;
+    assert_eq!(rt; told.as_str(), ANSWERS);
+    Ok(())
+}
+
+/// What says that callers are gone, and which legs have no call. A stop waits for a call that is on for a minute and longer.
+const HANG_UPS: &str = "\
+hangup a2 calling
+hangup a1 calling
+ring a1
+hangup a1 called
+hangup a1 calling
+events
+stop
+";
+
+const HUNG_UP: &str = "\
+refused 7 NoLine
+refused 11 NoCall
+ok 0
+refused 11 NoCall
+ok
+ok
+ok
+";
+
+/// Behind a hang-up a call ends, though its caller says nothing, and so the stop need not wait for it.
+#[test]
+fn a_call_that_is_hung_up_ends(rt: HostRuntime) -> Result<(), Fail> {
+    let peer = socket(&rt)?;
+    let address = peer.local_addr()?;
+    let config = format!(in rt.alloc();
+        "[[lines]]\nname = 'a1'\ncalling = {{ local = '127.0.0.1:0', peer = '{address}' }}\ncalled = {{ local = '127.0.0.2:0' }}\n"
+    )?;
+    let told = told(&rt, "hung_up.sock", config.as_str(), HANG_UPS)?;
+    let told = told.as_str();
+    assert!(rt; told.starts_with(HUNG_UP), "{told}");
+    let event = told.strip_prefix(HUNG_UP).unwrap_or("");
+    assert!(rt;
+        event.starts_with("{\"event\":\"ended\",\"line\":\"a1\""),
+        "{told}"
+    );
+    assert!(rt; event.contains("\"call\":0,\"how\":\"HungUp\"}"), "{told}");
     Ok(())
 }

@@ -1,0 +1,17 @@
+use Rattle.std.proofs.Common.{ℕ, List, Some, ◌++◌, ◌∙◌, ap, drop}
+use Rattle.fax_serve.specs.declared.hang_up.Peer.TheVariants as peers
+use Rattle.fax_serve.specs.declared.hang_up.PeerCall.{PeerCall}
+use Rattle.fax_serve.specs.HangUps.{goodbye}
+use Rattle.fax_serve.proofs.hang_up.PeerCall.hand_out.Goals as goal
+
+-- the call in which a goodbye of this number was handed out
+abbrev called : ℕ → PeerCall
+called n = record { newest = Some n; peer = peers.Told }
+
+pub returns-clause-handed : goal.returns-clause-handed
+returns-clause-handed c =
+    let number = c.number_behind-number.ensures in
+    λ _. record {
+      octets = ap (λ (front : List ℕ). front ++ drop 14 c.args.buffer.now) (c.copy_from_slice.ensures.after ∙ c.goodbye.ensures ∙ ap goodbye number);
+      call = ap called number;
+    }

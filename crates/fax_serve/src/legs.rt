@@ -1,0 +1,67 @@
+//! What words do with the legs of a line.
+use crate::answers::counts_of;
+use crate::card::Card;
+use crate::leg_socket::LegSocket;
+use crate::sockets::ServedLine;
+use fax_control::{Answer, Leg, Refusal};
+use fax_gateway::Side;
+use std::net::SocketAddr;
+
+/// The side of a line that a leg is.
+fn side_of(leg: Leg) -> Side {
+    match leg {
+        Leg::Calling => Side::Calling,
+        Leg::Called => Side::Called,
+    }
+}
+
+/// The socket of a leg.
+fn socket_of(line: &ServedLine, leg: Leg) -> &LegSocket {
+    line.wire().wire().leg(side_of(leg))
+}
+
+/// Whether the call of a leg is on.
+fn is_on(line: &ServedLine, leg: Leg) -> bool {
+    match leg {
+        Leg::Calling => line.call().is_some(),
+        Leg::Called => line.sending().is_some(),
+    }
+}
+
+/// A leg of a line gets another peer, unless its call is on and has heard from its peer.
+pub(crate) fn peer_answer(card: &Card, line: &ServedLine, leg: Leg, peer: SocketAddr) -> Answer {
+    let received = counts_of(line, side_of(leg)).received;
+    if is_on(line, leg) && card.has_heard(leg, received) {
+        return Answer::Refused(Refusal::InCall);
+    }
+    match socket_of(line, leg).set_peer(peer) {
+        Ok(()) => Answer::Done,
+        Err(_) => Answer::Refused(Refusal::NoRoute),
+    }
+}
+
+/// The peer's call on a leg is gone, where the leg's call is on.
+pub(crate) fn hang_up_answer(line: &ServedLine, leg: Leg) -> Answer {
+    if !is_on(line, leg) {
+        return Answer::Refused(Refusal::NoCall);
+    }
+    socket_of(line, leg).hang_up();
+    Answer::Done
+}
+
+/// Behind a turn: where a call goes on, a peer whose call is gone says so once more; where none does, all is forgotten that was
+/// known of the peer's.
+pub(crate) fn settle_legs(line: &ServedLine) {
+    settle(line, Leg::Calling, false);
+    settle(line, Leg::Called, line.turned().dialled.is_some());
+}
+
+/// The same of a leg, whose call may have begun in the turn.
+fn settle(line: &ServedLine, leg: Leg, begins: bool) {
+    let socket = socket_of(line, leg);
+    if is_on(line, leg) && !begins {
+        socket.go_on();
+    } else {
+        socket.begin_anew();
+    }
+}
