@@ -18,7 +18,7 @@ pub(crate) struct Client<I: Read + Drop, O: Write + Drop> {
 
 impl<I: Read + Drop, O: Write + Drop> Client<I, O> {
     /// A client that said nothing.
-    pub fn new(alloc: Global, stream: Stream<I, O>) -> Self {
+    pub(crate) fn new(alloc: Global, stream: Stream<I, O>) -> Self {
         Client {
             stream,
             inbox: Inbox::new(),
@@ -27,22 +27,22 @@ impl<I: Read + Drop, O: Write + Drop> Client<I, O> {
     }
 
     /// From now on it is told events.
-    pub fn want_events(&mut self) -> Result<(), NoMemory> {
+    pub(crate) fn want_events(&mut self) -> Result<(), NoMemory> {
         self.outbox.want_events()
     }
 
     /// Whether more may come from it.
-    pub fn says_more(&self) -> bool {
+    pub(crate) fn says_more(&self) -> bool {
         self.inbox.is_open()
     }
 
     /// Whether a line may wait that it said.
-    pub fn is_waiting(&self) -> bool {
+    pub(crate) fn is_waiting(&self) -> bool {
         !self.inbox.is_heard() && !self.outbox.is_writing()
     }
 
     /// The descriptor that it is waited for to say something; none where it is not heard now.
-    pub fn heard_from(&self) -> Option<RawFd> {
+    pub(crate) fn heard_from(&self) -> Option<RawFd> {
         if self.inbox.is_open() && self.inbox.is_heard() && !self.outbox.is_writing() {
             Some(self.stream.input())
         } else {
@@ -51,7 +51,7 @@ impl<I: Read + Drop, O: Write + Drop> Client<I, O> {
     }
 
     /// The descriptor that is waited for to take octets; none where none are to be told.
-    pub fn told_over(&mut self) -> Option<RawFd> {
+    pub(crate) fn told_over(&mut self) -> Option<RawFd> {
         self.outbox.go_on();
         if self.outbox.is_writing() {
             Some(self.stream.output())
@@ -61,17 +61,17 @@ impl<I: Read + Drop, O: Write + Drop> Client<I, O> {
     }
 
     /// Reads what it said.
-    pub fn read(&mut self) {
+    pub(crate) fn read(&mut self) {
         self.inbox.read(&mut self.stream);
     }
 
     /// Writes what it takes.
-    pub fn write(&mut self) {
+    pub(crate) fn write(&mut self) {
         self.outbox.write(&mut self.stream);
     }
 
     /// The next line that it said. It is heard no further while a text is being written.
-    pub fn hear(&mut self) -> Option<Heard> {
+    pub(crate) fn hear(&mut self) -> Option<Heard> {
         if self.outbox.is_writing() {
             return None;
         }
@@ -79,27 +79,27 @@ impl<I: Read + Drop, O: Write + Drop> Client<I, O> {
     }
 
     /// It is answered.
-    pub fn answer(&mut self, text: Vec<u8>) {
+    pub(crate) fn answer(&mut self, text: Vec<u8>) {
         self.outbox.put(text);
     }
 
     /// It is told an event, where it wants events.
-    pub fn tell(&mut self, line: &[u8]) {
+    pub(crate) fn tell(&mut self, line: &[u8]) {
         self.outbox.tell(line);
     }
 
     /// Whether it wants events.
-    pub fn tells_events(&self) -> bool {
+    pub(crate) fn tells_events(&self) -> bool {
         self.outbox.tells_events()
     }
 
     /// How many lines of events it lost since this was asked.
-    pub fn take_lost(&mut self) -> u64 {
+    pub(crate) fn take_lost(&mut self) -> u64 {
         self.outbox.take_lost()
     }
 
     /// Whether it is there still: it takes octets, and says more, or is told something.
-    pub fn stays(&self) -> bool {
+    pub(crate) fn stays(&self) -> bool {
         self.outbox.is_open()
             && (self.inbox.is_open()
                 || !self.inbox.is_heard()

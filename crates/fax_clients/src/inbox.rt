@@ -23,7 +23,7 @@ pub(crate) struct Inbox {
 
 impl Inbox {
     /// Nothing has come.
-    pub fn new() -> Self {
+    pub(crate) fn new() -> Self {
         Inbox {
             octets: [0; ROOM],
             start: 0,
@@ -34,18 +34,18 @@ impl Inbox {
     }
 
     /// Whether more may come.
-    pub fn is_open(&self) -> bool {
+    pub(crate) fn is_open(&self) -> bool {
         self.is_open
     }
 
     /// Whether all that was read was heard.
-    pub fn is_heard(&self) -> bool {
+    pub(crate) fn is_heard(&self) -> bool {
         self.start == self.end
     }
 
     /// Reads what has come, where all that was read before was heard. Behind the end of the stream, or a read that failed,
     /// nothing more comes.
-    pub fn read<S: Read>(&mut self, stream: &mut S) {
+    pub(crate) fn read<S: Read>(&mut self, stream: &mut S) {
         if !self.is_open || !self.is_heard() {
             return;
         }
@@ -60,7 +60,7 @@ impl Inbox {
     }
 
     /// The next line of what was read, if one ends there.
-    pub fn hear(&mut self) -> Option<Heard> {
+    pub(crate) fn hear(&mut self) -> Option<Heard> {
         let unheard = part(&self.octets, self.start, self.end);
         let (heard, rest) = self.lines.hear(unheard);
         self.start = self.end.saturating_sub(rest.len());

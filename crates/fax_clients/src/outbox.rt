@@ -24,7 +24,7 @@ pub(crate) struct Outbox {
 
 impl Outbox {
     /// Nothing is to be told, and no events.
-    pub fn new(alloc: Global) -> Self {
+    pub(crate) fn new(alloc: Global) -> Self {
         Outbox {
             alloc,
             text: Vec::new(alloc),
@@ -36,22 +36,22 @@ impl Outbox {
     }
 
     /// Whether the stream takes more.
-    pub fn is_open(&self) -> bool {
+    pub(crate) fn is_open(&self) -> bool {
         self.is_open
     }
 
     /// Whether a text is being written.
-    pub fn is_writing(&self) -> bool {
+    pub(crate) fn is_writing(&self) -> bool {
         self.written < self.text.len()
     }
 
     /// Whether events are told.
-    pub fn tells_events(&self) -> bool {
+    pub(crate) fn tells_events(&self) -> bool {
         self.events.is_some()
     }
 
     /// From now on events are told.
-    pub fn want_events(&mut self) -> Result<(), NoMemory> {
+    pub(crate) fn want_events(&mut self) -> Result<(), NoMemory> {
         if self.events.is_none() {
             self.events = Some(EventQueue::new(self.alloc)?);
         }
@@ -59,13 +59,13 @@ impl Outbox {
     }
 
     /// The text is written next. What was left of the one before is not.
-    pub fn put(&mut self, text: Vec<u8>) {
+    pub(crate) fn put(&mut self, text: Vec<u8>) {
         self.written = 0;
         self.text = text;
     }
 
     /// A line of an event waits behind the others, or is lost.
-    pub fn tell(&mut self, line: &[u8]) {
+    pub(crate) fn tell(&mut self, line: &[u8]) {
         let Some(events) = &mut self.events else {
             return;
         };
@@ -76,7 +76,7 @@ impl Outbox {
     }
 
     /// Where no text is being written, the next line of an event is.
-    pub fn go_on(&mut self) {
+    pub(crate) fn go_on(&mut self) {
         if self.is_writing() {
             return;
         }
@@ -93,7 +93,7 @@ impl Outbox {
     }
 
     /// Writes what the stream takes of the text. A write that failed is the last.
-    pub fn write<S: Write>(&mut self, stream: &mut S) {
+    pub(crate) fn write<S: Write>(&mut self, stream: &mut S) {
         match stream.write(&self.text[self.written..]) {
             Ok(0) => self.is_open = false,
             Ok(count) => self.written += count,
@@ -102,7 +102,7 @@ impl Outbox {
     }
 
     /// How many lines of events were lost since this was asked.
-    pub fn take_lost(&mut self) -> u64 {
+    pub(crate) fn take_lost(&mut self) -> u64 {
         let lost = self.lost;
         self.lost = 0;
         lost
