@@ -1,0 +1,3 @@
+pub mod ClientLemmas
+pub mod InboxLemmas
+pub mod WaitLemmas
