@@ -1,6 +1,6 @@
 //! What a client is still to be told.
-ghost use Rattle.std.specs.Prelude.{◌≡◌, ◌<◌, [], Some, length, is_some, unwrap_or, flat_map, IfOk, MatchBool, OnOk, OnErr};
-ghost use Rattle.fax_events.specs.Queues.{lost_lines, tellings_of};
+ghost use Rattle.std.specs.Prelude.{◌≡◌, ◌<◌, [], Some, length, is_some, unwrap_or, flat_map, string_bytes, IfOk, MatchBool, OnOk, OnErr};
+ghost use Rattle.fax_events.specs.Queues.{Lost, lost_lines, tellings_of};
 ghost use Rattle.fax_clients.specs.Clients.{GoesOn, HasTold, IsWritten, nothing_told, telling_text};
 
 use crate::inbox::is_passing;
@@ -167,6 +167,13 @@ fn lost_text(alloc: Global, lost: u64) -> Result<Vec<u8>, NoMemory>
     if lost == 0 {
         return Ok(Vec::new(alloc));
     }
-    let line = format!(in alloc; "{{\"event\":\"lost\",\"lines\":{lost}}}\n")?;
+    let line = lost_line(alloc, lost)?;
     Ok(line.into_bytes())
+}
+
+/// The line that says that so many lines were lost.
+fn lost_line(alloc: Global, lost: u64) -> Result<String, NoMemory>
+    ensures { IfOk result (λ line. string_bytes line ≡ telling_text (Lost lost)) }
+{
+    Ok(format!(in alloc; "{{\"event\":\"lost\",\"lines\":{lost}}}\n")?)
 }
