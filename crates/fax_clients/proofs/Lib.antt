@@ -1,0 +1,4 @@
+pub mod ClientLemmas
+pub mod InboxLemmas
+pub mod TellingLemmas
+pub mod WaitLemmas

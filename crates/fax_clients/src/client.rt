@@ -1,4 +1,7 @@
 //! A client.
+ghost use Rattle.std.specs.Prelude.{◌≡◌, is_some, IfNone, IfSome, OnOk, OnErr};
+ghost use Rattle.fax_clients.specs.Clients.{HearsLine, HearsNoLine, IsAsked, IsServed, IsTold, answered, counted, silent, wanting};
+
 use crate::inbox::Inbox;
 use crate::outbox::Outbox;
 use crate::stream::Stream;
@@ -6,6 +9,7 @@ use fax_bits::NoMemory;
 use fax_control::Heard;
 use std::alloc::Global;
 use std::io::{Read, Write};
+use std::marker::Model;
 use std::os::fd::RawFd;
 
 /// Who says words and reads answers.
@@ -16,9 +20,20 @@ pub(crate) struct Client<I: Read + Drop, O: Write + Drop> {
     outbox: Outbox,
 }
 
+/// Contracts see what came of it, and what it is told.
+impl<I: Read + Drop, O: Write + Drop> Model for Client<I, O> {
+    ghost use Rattle.fax_clients.specs.Clients.{ClientValue};
+
+    ghost Value = { ClientValue };
+
+    ghost view = { λ c. record { said = c.inbox; told = c.outbox } };
+}
+
 impl<I: Read + Drop, O: Write + Drop> Client<I, O> {
     /// A client that said nothing.
-    pub fn new(alloc: Global, stream: Stream<I, O>) -> Self {
+    pub(crate) fn new(alloc: Global, stream: Stream<I, O>) -> Self
+        ensures { result ≡ silent }
+    {
         Client {
             stream,
             inbox: Inbox::new(),
@@ -27,22 +42,27 @@ impl<I: Read + Drop, O: Write + Drop> Client<I, O> {
     }
 
     /// From now on it is told events.
-    pub fn want_events(&mut self) -> Result<(), NoMemory> {
+    pub(crate) fn want_events(&mut self) -> Result<(), NoMemory>
+        ensures ok { OnOk result (self.new ≡ wanting self.old) }
+        ensures err { OnErr result (self.new ≡ self.old) }
+    {
         self.outbox.want_events()
     }
 
     /// Whether more may come from it.
-    pub fn says_more(&self) -> bool {
+    pub(crate) fn says_more(&self) -> bool
+        ensures { result ≡ self.now.said.more }
+    {
         self.inbox.is_open()
     }
 
     /// Whether a line may wait that it said.
-    pub fn is_waiting(&self) -> bool {
+    pub(crate) fn is_waiting(&self) -> bool {
         !self.inbox.is_heard() && !self.outbox.is_writing()
     }
 
     /// The descriptor that it is waited for to say something; none where it is not heard now.
-    pub fn heard_from(&self) -> Option<RawFd> {
+    pub(crate) fn heard_from(&self) -> Option<RawFd> {
         if self.inbox.is_open() && self.inbox.is_heard() && !self.outbox.is_writing() {
             Some(self.stream.input())
         } else {
@@ -51,7 +71,9 @@ impl<I: Read + Drop, O: Write + Drop> Client<I, O> {
     }
 
     /// The descriptor that is waited for to take octets; none where none are to be told.
-    pub fn told_over(&mut self) -> Option<RawFd> {
+    pub(crate) fn told_over(&mut self) -> Option<RawFd>
+        ensures { IsAsked self.old self.new }
+    {
         self.outbox.go_on();
         if self.outbox.is_writing() {
             Some(self.stream.output())
@@ -60,18 +82,23 @@ impl<I: Read + Drop, O: Write + Drop> Client<I, O> {
         }
     }
 
-    /// Reads what it said.
-    pub fn read(&mut self) {
-        self.inbox.read(&mut self.stream);
-    }
-
-    /// Writes what it takes.
-    pub fn write(&mut self) {
-        self.outbox.write(&mut self.stream);
+    /// Reads what it said, and writes what it takes, where it is ready for that.
+    pub(crate) fn serve(&mut self, says: bool, takes: bool)
+        ensures { IsServed self.old self.new }
+    {
+        if says {
+            self.inbox.read(&mut self.stream);
+        }
+        if takes {
+            self.outbox.write(&mut self.stream);
+        }
     }
 
     /// The next line that it said. It is heard no further while a text is being written.
-    pub fn hear(&mut self) -> Option<Heard> {
+    pub(crate) fn hear(&mut self) -> Option<Heard>
+        ensures none { IfNone result (HearsNoLine self.old self.new) }
+        ensures heard { IfSome result (λ heard. HearsLine heard self.old self.new) }
+    {
         if self.outbox.is_writing() {
             return None;
         }
@@ -79,27 +106,36 @@ impl<I: Read + Drop, O: Write + Drop> Client<I, O> {
     }
 
     /// It is answered.
-    pub fn answer(&mut self, text: Vec<u8>) {
+    pub(crate) fn answer(&mut self, text: Vec<u8>)
+        ensures { self.new ≡ answered text.items self.old }
+    {
         self.outbox.put(text);
     }
 
     /// It is told an event, where it wants events.
-    pub fn tell(&mut self, line: &[u8]) {
+    pub(crate) fn tell(&mut self, line: &[u8])
+        ensures { IsTold line.now self.old self.new }
+    {
         self.outbox.tell(line);
     }
 
     /// Whether it wants events.
-    pub fn tells_events(&self) -> bool {
+    pub(crate) fn tells_events(&self) -> bool
+        ensures { result ≡ is_some self.now.told.events }
+    {
         self.outbox.tells_events()
     }
 
     /// How many lines of events it lost since this was asked.
-    pub fn take_lost(&mut self) -> u64 {
+    pub(crate) fn take_lost(&mut self) -> u64
+        ensures lost { result ≡ self.old.told.lost }
+        ensures counted { self.new ≡ counted self.old }
+    {
         self.outbox.take_lost()
     }
 
     /// Whether it is there still: it takes octets, and says more, or is told something.
-    pub fn stays(&self) -> bool {
+    pub(crate) fn stays(&self) -> bool {
         self.outbox.is_open()
             && (self.inbox.is_open()
                 || !self.inbox.is_heard()

@@ -1,5 +1,7 @@
 //! All clients.
-ghost use Rattle.std.specs.Prelude.{◌≤◌, length};
+ghost use Rattle.std.specs.Prelude.{◌≡◌, ℕ, ◌+◌, ◌≤◌, ◌⊎◌, false, [], ◌∷◌, ◌++◌, length, map, is_some, IfNone, IfOk, IfSome, OnErr, OnOk};
+ghost use Rattle.std.specs.List.{AllZip};
+ghost use Rattle.fax_clients.specs.Clients.{AreLeft, AreServed, AreWaitedFor, Hears, HearsNoLine, IsAsked, IsCounted, IsServed, IsTold, all_said, answered, changed_at, one_says_more, one_wants_events, silent, socket_alone, standard_alone, wanting, with_client};
 
 use crate::client::Client;
 use crate::ready::Ready;
@@ -8,6 +10,7 @@ use fax_bits::NoMemory;
 use fax_control::Heard;
 use std::alloc::Global;
 use std::io::{Read, Write};
+use std::marker::Model;
 use std::os::fd::AsRawFd;
 use std::os::unix::net::UnixListener;
 
@@ -23,6 +26,17 @@ const FINISHING_MS: i32 = 10;
 #[derive(Clone, Copy, PartialEq, Eq, Debug)]
 pub struct Asker(usize);
 
+/// Contracts see its place among the clients.
+impl Model for Asker {
+    ghost use Rattle.std.specs.Prelude.{ℕ};
+
+    ghost Value = { ℕ };
+
+    ghost view = { λ a. a.0 };
+
+    ghost inverse = { λ n. record { 0 = n } };
+}
+
 /// The clients of a control socket, at most 64 at one time; or standard input and output alone.
 #[derive(Drop)]
 pub struct Clients<I: Read + Drop, O: Write + Drop> {
@@ -32,12 +46,25 @@ pub struct Clients<I: Read + Drop, O: Write + Drop> {
     ready: Ready,
     /// How many lines of events were lost by clients that are gone.
     lost: u64,
-    ghost few: { length clients.items ≤ 64 },
+}
+
+/// Contracts see whether there is a control socket, each client, and the count of lost lines.
+impl<I: Read + Drop, O: Write + Drop> Model for Clients<I, O> {
+    ghost use Rattle.std.specs.Prelude.{◌≤◌, is_some, length};
+    ghost use Rattle.fax_clients.specs.Clients.{ClientsValue};
+
+    ghost Value = { ClientsValue };
+
+    ghost view = { λ c. record { has_socket = is_some c.listener; clients = c.clients.items; lost = c.lost } };
+
+    ghost invariant = { λ c. length c.clients.items ≤ 64 };
 }
 
 impl<I: Read + Drop, O: Write + Drop> Clients<I, O> {
     /// Standard input, which says words, and standard output, which has the answers and all events.
-    pub fn standard(alloc: Global, input: I, output: O) -> Result<Self, NoMemory> {
+    pub fn standard(alloc: Global, input: I, output: O) -> Result<Self, NoMemory>
+        ensures { IfOk result (λ clients. clients ≡ standard_alone) }
+    {
         let mut client = Client::new(alloc, Stream::Standard(input, output));
         client.want_events()?;
         let mut clients = Vec::new(alloc);
@@ -52,7 +79,9 @@ impl<I: Read + Drop, O: Write + Drop> Clients<I, O> {
     }
 
     /// The clients of a control socket that does not wait; none yet.
-    pub fn of_socket(alloc: Global, listener: UnixListener) -> Result<Self, NoMemory> {
+    pub fn of_socket(alloc: Global, listener: UnixListener) -> Result<Self, NoMemory>
+        ensures { IfOk result (λ clients. clients ≡ socket_alone) }
+    {
         Ok(Clients {
             alloc,
             listener: Some(listener),
@@ -63,21 +92,33 @@ impl<I: Read + Drop, O: Write + Drop> Clients<I, O> {
     }
 
     /// Whether no words can come any more: standard input has ended.
-    pub fn have_ended(&self) -> bool {
-        self.listener.is_none() && !self.clients.iter().any(|client| client.says_more())
+    pub fn have_ended(&self) -> bool
+        ensures ended { result ≡ all_said self.now }
+        ensures few { length self.now.clients ≤ MOST_CLIENTS }
+    {
+        self.listener.is_none() && !self.one_says_more()
+    }
+
+    /// Whether more may come of a client.
+    fn one_says_more(&self) -> bool
+        ensures { result ≡ one_says_more self.now.clients }
+    {
+        self.clients.iter().any(|client| client.says_more())
     }
 
     /// Waits until a client has said something or takes more, at most so many milliseconds; reads and writes what can be.
-    pub fn wait(&mut self, most_ms: i32) {
+    pub fn wait(&mut self, most_ms: i32)
+        ensures socket { self.new.has_socket ≡ self.old.has_socket }
+        ensures lost { self.old.lost ≤ self.new.lost }
+        ensures clients { AreWaitedFor self.old.clients self.new.clients }
+        // Clients come in by the socket alone.
+        ensures no_more { self.old.has_socket ≡ false → length self.new.clients ≤ length self.old.clients }
+        ensures few { length self.new.clients ≤ MOST_CLIENTS }
+    {
         let door = self.door();
         self.ready.clear();
         self.ready.add_input(door);
-        if ask(&mut self.ready, self.clients.as_mut_slice()) {
-            self.ready.wait(0);
-        } else {
-            self.ready.wait(most_ms);
-        }
-        serve(&self.ready, self.clients.as_mut_slice());
+        wait_for(&mut self.ready, self.clients.as_mut_slice(), most_ms);
         self.forget();
         if self.ready.is_ready(0) {
             self.let_in();
@@ -93,14 +134,25 @@ impl<I: Read + Drop, O: Write + Drop> Clients<I, O> {
     }
 
     /// Clients that are gone are forgotten.
-    fn forget(&mut self) {
+    fn forget(&mut self)
+        ensures socket { self.new.has_socket ≡ self.old.has_socket }
+        ensures lost { self.old.lost ≤ self.new.lost }
+        ensures clients { AreLeft self.old.clients self.new.clients }
+        ensures no_more { length self.new.clients ≤ length self.old.clients }
+    {
         let lost = take_lost(self.clients.as_mut_slice());
         self.lost = self.lost.saturating_add(lost);
         self.clients.retain(|client| client.stays());
     }
 
     /// The next client comes in. Without memory it is let go.
-    fn let_in(&mut self) {
+    fn let_in(&mut self)
+        ensures socket { self.new.has_socket ≡ self.old.has_socket }
+        ensures lost { self.new.lost ≡ self.old.lost }
+        ensures one { (self.new.clients ≡ self.old.clients) ⊎ (self.new.clients ≡ self.old.clients ++ silent ∷ []) }
+        ensures none { self.old.has_socket ≡ false → self.new.clients ≡ self.old.clients }
+        ensures few { length self.new.clients ≤ MOST_CLIENTS }
+    {
         let Some(listener) = &self.listener else {
             return;
         };
@@ -114,37 +166,53 @@ impl<I: Read + Drop, O: Write + Drop> Clients<I, O> {
     }
 
     /// The next line that a client said whose last one was answered, and who it was.
-    pub fn hear(&mut self) -> Option<(Asker, Heard)> {
+    pub fn hear(&mut self) -> Option<(Asker, Heard)>
+        ensures none { IfNone result (AllZip HearsNoLine self.old.clients self.new.clients) }
+        ensures heard { IfSome result (λ said. Hears said.0 said.1 self.old.clients self.new.clients) }
+        ensures told { map (λ client. client.told) self.new.clients ≡ map (λ client. client.told) self.old.clients }
+        ensures socket { self.new.has_socket ≡ self.old.has_socket }
+        ensures lost { self.new.lost ≡ self.old.lost }
+    {
         hear(self.clients.as_mut_slice())
     }
 
     /// A client is answered.
-    pub fn answer(&mut self, asker: Asker, text: Vec<u8>) {
-        if let Some(client) = self.clients.get_mut(asker.0) {
-            client.answer(text);
-        }
+    pub fn answer(&mut self, asker: Asker, text: Vec<u8>)
+        ensures { self.new ≡ with_client (answered text.items) asker self.old }
+    {
+        answer(self.clients.as_mut_slice(), asker.0, text);
     }
 
     /// From now on a client is told events.
-    pub fn want_events(&mut self, asker: Asker) -> Result<(), NoMemory> {
-        match self.clients.get_mut(asker.0) {
-            Some(client) => client.want_events(),
-            None => Ok(()),
-        }
+    pub fn want_events(&mut self, asker: Asker) -> Result<(), NoMemory>
+        ensures ok { OnOk result (self.new ≡ with_client wanting asker self.old) }
+        ensures err { OnErr result (self.new ≡ self.old) }
+    {
+        want_events(self.clients.as_mut_slice(), asker.0)
     }
 
     /// Whether anyone wants events.
-    pub fn tell_events(&self) -> bool {
+    pub fn tell_events(&self) -> bool
+        ensures { result ≡ one_wants_events self.now.clients }
+    {
         self.clients.iter().any(|client| client.tells_events())
     }
 
     /// Each client that wants events is told this line.
-    pub fn tell(&mut self, line: &[u8]) {
+    pub fn tell(&mut self, line: &[u8])
+        ensures told { AllZip (IsTold line.now) self.old.clients self.new.clients }
+        ensures socket { self.new.has_socket ≡ self.old.has_socket }
+        ensures lost { self.new.lost ≡ self.old.lost }
+    {
         tell(self.clients.as_mut_slice(), line);
     }
 
     /// Writes what clients are still to be told, for half a second at most.
-    pub fn finish(&mut self) {
+    pub fn finish(&mut self)
+        ensures socket { self.new.has_socket ≡ self.old.has_socket }
+        ensures lost { self.old.lost ≤ self.new.lost }
+        ensures no_more { self.old.has_socket ≡ false → length self.new.clients ≤ length self.old.clients }
+    {
         for _ in 0..MOST_FINISHING {
             if !are_told(self.clients.as_mut_slice()) {
                 return;
@@ -154,67 +222,110 @@ impl<I: Read + Drop, O: Write + Drop> Clients<I, O> {
     }
 
     /// How many lines of events were lost.
-    pub fn lost(&self) -> u64 {
+    pub fn lost(&self) -> u64
+        ensures { result ≡ self.now.lost }
+    {
         self.lost
     }
 }
 
+/// Waits until one of the clients has said something or takes more, at most so many milliseconds; reads and writes what can
+/// be.
+fn wait_for<I: Read + Drop, O: Write + Drop>(
+    ready: &mut Ready,
+    clients: &mut [Client<I, O>],
+    most_ms: i32,
+)
+    ensures { AreServed clients.old clients.new }
+{
+    let is_waiting = ask(ready, clients);
+    ready.wait(if is_waiting { 0 } else { most_ms });
+    serve(ready, clients);
+}
+
 /// What the clients are waited for. It answers whether a line may be there that one said.
-fn ask<I: Read + Drop, O: Write + Drop>(ready: &mut Ready, clients: &mut [Client<I, O>]) -> bool {
+fn ask<I: Read + Drop, O: Write + Drop>(ready: &mut Ready, clients: &mut [Client<I, O>]) -> bool
+    ensures { AllZip IsAsked clients.old clients.new }
+{
     let mut is_waiting = false;
-    for client in clients {
+    for client in clients.iter_mut() {
         ready.add_input(client.heard_from());
         ready.add_output(client.told_over());
-        is_waiting = is_waiting || client.is_waiting();
+        is_waiting |= client.is_waiting();
     }
     is_waiting
 }
 
 /// Reads and writes what can be, where the clients were waited for one behind the other.
-fn serve<I: Read + Drop, O: Write + Drop>(ready: &Ready, clients: &mut [Client<I, O>]) {
+fn serve<I: Read + Drop, O: Write + Drop>(ready: &Ready, clients: &mut [Client<I, O>])
+    ensures { AllZip IsServed clients.old clients.new }
+{
     let mut i = 1usize;
-    for client in clients {
-        if ready.is_ready(i) {
-            client.read();
-        }
-        if ready.is_ready(i.saturating_add(1)) {
-            client.write();
-        }
+    for client in clients.iter_mut() {
+        client.serve(ready.is_ready(i), ready.is_ready(i.saturating_add(1)));
         i = i.saturating_add(2);
     }
 }
 
 /// How many lines of events the clients lost since this was asked.
-fn take_lost<I: Read + Drop, O: Write + Drop>(clients: &mut [Client<I, O>]) -> u64 {
+fn take_lost<I: Read + Drop, O: Write + Drop>(clients: &mut [Client<I, O>]) -> u64
+    ensures { AllZip IsCounted clients.old clients.new }
+{
     let mut lost = 0u64;
-    for client in clients {
+    for client in clients.iter_mut() {
         lost = lost.saturating_add(client.take_lost());
     }
     lost
 }
 
 /// The next line that one of the clients said, and which one.
-fn hear<I: Read + Drop, O: Write + Drop>(clients: &mut [Client<I, O>]) -> Option<(Asker, Heard)> {
-    let mut i = 0usize;
-    for client in clients {
+fn hear<I: Read + Drop, O: Write + Drop>(clients: &mut [Client<I, O>]) -> Option<(Asker, Heard)>
+    ensures none { IfNone result (AllZip HearsNoLine clients.old clients.new) }
+    ensures heard { IfSome result (λ said. Hears said.0 said.1 clients.old clients.new) }
+{
+    for (i, client) in clients.iter_mut().enumerate() {
         if let Some(heard) = client.hear() {
             return Some((Asker(i), heard));
         }
-        i = i.saturating_add(1);
     }
     None
 }
 
+/// The client at a place is answered, where there is one.
+fn answer<I: Read + Drop, O: Write + Drop>(clients: &mut [Client<I, O>], i: usize, text: Vec<u8>)
+    ensures { clients.new ≡ changed_at (answered text.items) i clients.old }
+{
+    if i < clients.len() {
+        clients[i].answer(text);
+    }
+}
+
+/// From now on the client at a place, where there is one, is told events.
+fn want_events<I: Read + Drop, O: Write + Drop>(
+    clients: &mut [Client<I, O>],
+    i: usize,
+) -> Result<(), NoMemory>
+    ensures ok { OnOk result (clients.new ≡ changed_at wanting i clients.old) }
+    ensures err { OnErr result (clients.new ≡ clients.old) }
+{
+    if i >= clients.len() {
+        return Ok(());
+    }
+    clients[i].want_events()
+}
+
 /// Each of the clients that wants events is told this line.
-fn tell<I: Read + Drop, O: Write + Drop>(clients: &mut [Client<I, O>], line: &[u8]) {
-    for client in clients {
+fn tell<I: Read + Drop, O: Write + Drop>(clients: &mut [Client<I, O>], line: &[u8])
+    ensures { AllZip (IsTold line.now) clients.old clients.new }
+{
+    for client in clients.iter_mut() {
         client.tell(line);
     }
 }
 
 /// Whether one of the clients is still to be told something.
 fn are_told<I: Read + Drop, O: Write + Drop>(clients: &mut [Client<I, O>]) -> bool {
-    for client in clients {
+    for client in clients.iter_mut() {
         if client.told_over().is_some() {
             return true;
         }

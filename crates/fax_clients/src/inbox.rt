@@ -1,8 +1,10 @@
 //! What came from a client and was not heard yet.
-ghost use Rattle.std.specs.Prelude.{◌≤◌, length};
+ghost use Rattle.std.specs.Prelude.{◌≡◌, ◌≤◌, true, [], length, take, drop, IfNone, IfSome};
+ghost use Rattle.fax_clients.specs.Clients.{ComesOn, IsHeard, IsKept, nothing_said};
 
 use fax_control::{ClientLines, Heard};
 use std::io::{ErrorKind, Read};
+use std::marker::Model;
 
 /// How many octets are read at once.
 const ROOM: usize = 512;
@@ -17,13 +19,25 @@ pub(crate) struct Inbox {
     lines: ClientLines,
     /// Whether more may come.
     is_open: bool,
-    ghost ordered: { start ≤ end },
-    ghost within: { end ≤ 512 },
+}
+
+/// Contracts see whether more may come, the octets that were not heard yet, and what has come of a line.
+impl Model for Inbox {
+    ghost use Rattle.std.specs.Prelude.{◌≤◌, take, drop};
+    ghost use Rattle.fax_clients.specs.Clients.{Said};
+
+    ghost Value = { Said };
+
+    ghost view = { λ b. record { more = b.is_open; unheard = drop b.start (take b.end b.octets); begun = b.lines } };
+
+    ghost invariant = { λ b. (b.start ≤ b.end) × (b.end ≤ 512) };
 }
 
 impl Inbox {
     /// Nothing has come.
-    pub fn new() -> Self {
+    pub(crate) fn new() -> Self
+        ensures { result ≡ nothing_said }
+    {
         Inbox {
             octets: [0; ROOM],
             start: 0,
@@ -34,18 +48,24 @@ impl Inbox {
     }
 
     /// Whether more may come.
-    pub fn is_open(&self) -> bool {
+    pub(crate) fn is_open(&self) -> bool
+        ensures { result ≡ self.now.more }
+    {
         self.is_open
     }
 
     /// Whether all that was read was heard.
-    pub fn is_heard(&self) -> bool {
+    pub(crate) fn is_heard(&self) -> bool
+        ensures { result ≡ true → self.now.unheard ≡ [] }
+    {
         self.start == self.end
     }
 
     /// Reads what has come, where all that was read before was heard. Behind the end of the stream, or a read that failed,
     /// nothing more comes.
-    pub fn read<S: Read>(&mut self, stream: &mut S) {
+    pub(crate) fn read<S: Read>(&mut self, stream: &mut S)
+        ensures { ComesOn self.old self.new }
+    {
         if !self.is_open || !self.is_heard() {
             return;
         }
@@ -60,7 +80,10 @@ impl Inbox {
     }
 
     /// The next line of what was read, if one ends there.
-    pub fn hear(&mut self) -> Option<Heard> {
+    pub(crate) fn hear(&mut self) -> Option<Heard>
+        ensures none { IfNone result (IsKept self.old self.new) }
+        ensures heard { IfSome result (λ heard. IsHeard heard self.old self.new) }
+    {
         let unheard = part(&self.octets, self.start, self.end);
         let (heard, rest) = self.lines.hear(unheard);
         self.start = self.end.saturating_sub(rest.len());
@@ -72,6 +95,7 @@ impl Inbox {
 fn part(octets: &[u8], start: usize, end: usize) -> &[u8]
     requires ordered { start ≤ end }
     requires within { end ≤ length octets.now }
+    ensures { result.now ≡ drop start (take end octets.now) }
 {
     &octets[start..end]
 }

@@ -1,11 +1,14 @@
 //! What a client is still to be told.
-ghost use Rattle.std.specs.Prelude.{◌≤◌, length};
+ghost use Rattle.std.specs.Prelude.{◌≡◌, ◌<◌, [], Some, length, is_some, unwrap_or, flat_map, string_bytes, IfOk, MatchBool, OnOk, OnErr};
+ghost use Rattle.fax_events.specs.Queues.{Lost, lost_lines, tellings_of};
+ghost use Rattle.fax_clients.specs.Clients.{GoesOn, HasTold, IsWritten, nothing_told, telling_text};
 
 use crate::inbox::is_passing;
 use fax_bits::NoMemory;
 use fax_events::{Due, EventQueue};
 use std::alloc::Global;
 use std::io::Write;
+use std::marker::Model;
 
 /// The text that is being written, and the lines of events that wait behind it.
 #[derive(Drop)]
@@ -19,12 +22,26 @@ pub(crate) struct Outbox {
     lost: u64,
     /// Whether the stream takes more.
     is_open: bool,
-    ghost within: { written ≤ length text.items },
+}
+
+/// Contracts see what is left of the text, the events as they wait for their reader, and how many were lost.
+impl Model for Outbox {
+    ghost use Rattle.std.specs.Prelude.{◌≤◌, length, drop, option_map};
+    ghost use Rattle.fax_events.specs.Queues.{due_of};
+    ghost use Rattle.fax_clients.specs.Clients.{Told};
+
+    ghost Value = { Told };
+
+    ghost view = { λ b. record { due = drop b.written b.text.items; events = option_map due_of b.events; lost = b.lost } };
+
+    ghost invariant = { λ b. b.written ≤ length b.text.items };
 }
 
 impl Outbox {
     /// Nothing is to be told, and no events.
-    pub fn new(alloc: Global) -> Self {
+    pub(crate) fn new(alloc: Global) -> Self
+        ensures { result ≡ nothing_told }
+    {
         Outbox {
             alloc,
             text: Vec::new(alloc),
@@ -36,22 +53,29 @@ impl Outbox {
     }
 
     /// Whether the stream takes more.
-    pub fn is_open(&self) -> bool {
+    pub(crate) fn is_open(&self) -> bool {
         self.is_open
     }
 
     /// Whether a text is being written.
-    pub fn is_writing(&self) -> bool {
+    pub(crate) fn is_writing(&self) -> bool
+        ensures { MatchBool result (0 < length self.now.due) (self.now.due ≡ []) }
+    {
         self.written < self.text.len()
     }
 
     /// Whether events are told.
-    pub fn tells_events(&self) -> bool {
+    pub(crate) fn tells_events(&self) -> bool
+        ensures { result ≡ is_some self.now.events }
+    {
         self.events.is_some()
     }
 
     /// From now on events are told.
-    pub fn want_events(&mut self) -> Result<(), NoMemory> {
+    pub(crate) fn want_events(&mut self) -> Result<(), NoMemory>
+        ensures ok { OnOk result (self.new ≡ record self.old { events = Some (unwrap_or self.old.events []) }) }
+        ensures err { OnErr result (self.new ≡ self.old) }
+    {
         if self.events.is_none() {
             self.events = Some(EventQueue::new(self.alloc)?);
         }
@@ -59,13 +83,17 @@ impl Outbox {
     }
 
     /// The text is written next. What was left of the one before is not.
-    pub fn put(&mut self, text: Vec<u8>) {
+    pub(crate) fn put(&mut self, text: Vec<u8>)
+        ensures { self.new ≡ record self.old { due = text.items } }
+    {
         self.written = 0;
         self.text = text;
     }
 
     /// A line of an event waits behind the others, or is lost.
-    pub fn tell(&mut self, line: &[u8]) {
+    pub(crate) fn tell(&mut self, line: &[u8])
+        ensures { HasTold line.now self.old self.new }
+    {
         let Some(events) = &mut self.events else {
             return;
         };
@@ -75,8 +103,10 @@ impl Outbox {
         }
     }
 
-    /// Where no text is being written, the next line of an event is.
-    pub fn go_on(&mut self) {
+    /// Where no text is being written, the next line of an event is. Without memory for it it is lost.
+    pub(crate) fn go_on(&mut self)
+        ensures { GoesOn self.old self.new }
+    {
         if self.is_writing() {
             return;
         }
@@ -87,13 +117,17 @@ impl Outbox {
             return;
         };
         self.lost = self.lost.saturating_add(due.lost);
-        if let Ok(text) = text_of(self.alloc, due) {
-            self.put(text);
+        let lines = u64::from(due.line.is_some());
+        match text_of(self.alloc, due) {
+            Ok(text) => self.put(text),
+            Err(_) => self.lost = self.lost.saturating_add(lines),
         }
     }
 
     /// Writes what the stream takes of the text. A write that failed is the last.
-    pub fn write<S: Write>(&mut self, stream: &mut S) {
+    pub(crate) fn write<S: Write>(&mut self, stream: &mut S)
+        ensures { IsWritten self.old self.new }
+    {
         match stream.write(&self.text[self.written..]) {
             Ok(0) => self.is_open = false,
             Ok(count) => self.written += count,
@@ -102,7 +136,10 @@ impl Outbox {
     }
 
     /// How many lines of events were lost since this was asked.
-    pub fn take_lost(&mut self) -> u64 {
+    pub(crate) fn take_lost(&mut self) -> u64
+        ensures lost { result ≡ self.old.lost }
+        ensures counted { self.new ≡ record self.old { lost = 0 } }
+    {
         let lost = self.lost;
         self.lost = 0;
         lost
@@ -110,15 +147,33 @@ impl Outbox {
 }
 
 /// What a reader of events is told: a line that says how many were lost, if any were, and the next one.
-fn text_of(alloc: Global, due: Due) -> Result<Vec<u8>, NoMemory> {
-    let mut text = Vec::new(alloc);
-    if due.lost > 0 {
-        let lost = due.lost;
-        let line = format!(in alloc; "{{\"event\":\"lost\",\"lines\":{lost}}}\n")?;
-        text.extend_from_slice(line.as_bytes())?;
+fn text_of(alloc: Global, due: Due) -> Result<Vec<u8>, NoMemory>
+    ensures { IfOk result (λ text. text.items ≡ flat_map telling_text (tellings_of due)) }
+{
+    let mut text = lost_text(alloc, due.lost)?;
+    match due.line {
+        Some(line) => {
+            text.extend_from_slice(line.as_slice())?;
+            Ok(text)
+        }
+        None => Ok(text),
     }
-    if let Some(line) = due.line {
-        text.extend_from_slice(line.as_slice())?;
+}
+
+/// What a reader of events is told where so many lines were lost: nothing where none were.
+fn lost_text(alloc: Global, lost: u64) -> Result<Vec<u8>, NoMemory>
+    ensures { IfOk result (λ text. text.items ≡ flat_map telling_text (lost_lines lost)) }
+{
+    if lost == 0 {
+        return Ok(Vec::new(alloc));
     }
-    Ok(text)
+    let line = lost_line(alloc, lost)?;
+    Ok(line.into_bytes())
+}
+
+/// The line that says that so many lines were lost.
+fn lost_line(alloc: Global, lost: u64) -> Result<String, NoMemory>
+    ensures { IfOk result (λ line. string_bytes line ≡ telling_text (Lost lost)) }
+{
+    Ok(format!(in alloc; "{{\"event\":\"lost\",\"lines\":{lost}}}\n")?)
 }

@@ -15,24 +15,24 @@ pub(crate) struct Ready {
 
 impl Ready {
     /// Nothing is waited for.
-    pub fn new(alloc: Global) -> Result<Self, AllocError> {
+    pub(crate) fn new(alloc: Global) -> Result<Self, AllocError> {
         Ok(Ready {
             asked: Vec::with_capacity(alloc, MOST)?,
         })
     }
 
     /// Nothing is waited for any more.
-    pub fn clear(&mut self) {
+    pub(crate) fn clear(&mut self) {
         self.asked.clear();
     }
 
     /// Octets that come are waited for, where there is a descriptor.
-    pub fn add_input(&mut self, descriptor: Option<RawFd>) {
+    pub(crate) fn add_input(&mut self, descriptor: Option<RawFd>) {
         self.add(descriptor, POLLIN);
     }
 
     /// Room for octets that go is waited for, where there is a descriptor.
-    pub fn add_output(&mut self, descriptor: Option<RawFd>) {
+    pub(crate) fn add_output(&mut self, descriptor: Option<RawFd>) {
         self.add(descriptor, POLLOUT);
     }
 
@@ -45,14 +45,14 @@ impl Ready {
     }
 
     /// Waits until one of them is ready, at most so many milliseconds.
-    pub fn wait(&mut self, most_ms: i32) {
+    pub(crate) fn wait(&mut self, most_ms: i32) {
         if poll(self.asked.as_mut_slice(), most_ms) <= 0 {
             self.asked.clear();
         }
     }
 
     /// Whether what was added as number i, from 0 on, is ready.
-    pub fn is_ready(&self, i: usize) -> bool {
+    pub(crate) fn is_ready(&self, i: usize) -> bool {
         match self.asked.get(i) {
             Some(asked) => asked.revents != 0,
             None => false,

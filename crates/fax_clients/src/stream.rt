@@ -22,7 +22,7 @@ pub(crate) enum Stream<I: Read + Drop, O: Write + Drop> {
 
 impl<I: Read + Drop, O: Write + Drop> Stream<I, O> {
     /// The descriptor that octets come from.
-    pub fn input(&self) -> RawFd {
+    pub(crate) fn input(&self) -> RawFd {
         match self {
             Stream::Standard(_, _) => STANDARD_INPUT,
             Stream::Socket(socket) => socket.as_raw_fd(),
@@ -30,7 +30,7 @@ impl<I: Read + Drop, O: Write + Drop> Stream<I, O> {
     }
 
     /// The descriptor that octets go to.
-    pub fn output(&self) -> RawFd {
+    pub(crate) fn output(&self) -> RawFd {
         match self {
             Stream::Standard(_, _) => STANDARD_OUTPUT,
             Stream::Socket(socket) => socket.as_raw_fd(),
@@ -38,7 +38,7 @@ impl<I: Read + Drop, O: Write + Drop> Stream<I, O> {
     }
 
     /// How many octets may be written at once without waiting, where the stream is ready.
-    pub fn most_at_once(&self) -> usize {
+    pub(crate) fn most_at_once(&self) -> usize {
         match self {
             Stream::Standard(_, _) => 4096,
             Stream::Socket(_) => usize::MAX,

@@ -2,6 +2,8 @@
 #![tactic(auto)]
 
 #[cfg(test)]
+mod clients;
+#[cfg(test)]
 mod config;
 #[cfg(test)]
 mod control;
