@@ -51,7 +51,7 @@ fn a_leg_hears_its_peer_alone(rt: HostRuntime) -> Result<(), Fail> {
     stranger.send_to(b"late", address)?;
     peer.send_to(b"page", address)?;
     assert!(rt; wire.receive(Side::Calling, &mut buffer) == Ok(Some(4)));
-    assert_eq!(rt; buffer[..4], *b"page");
+    assert_eq!(rt; &buffer[..4], b"page".as_slice());
     assert!(rt; wire.receive(Side::Calling, &mut buffer) == Ok(None));
     assert!(rt; wire.send(Side::Calling, b"MCF") == Ok(()));
     assert_eq!(rt; peer.recv(&mut buffer)?, 3);
