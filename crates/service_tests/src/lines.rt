@@ -116,14 +116,19 @@ fn told_in_a_call(line: &mut PeerLine) -> (Turned, u32) {
 
 /// How much a turn told.
 fn count_of(turned: &Turned) -> u32 {
-    let told = [
+    let mut count = 0u32;
+    for is_told in [
         turned.report.is_some(),
         turned.kept.is_some(),
         turned.ended.is_some(),
         turned.gave_up.is_some(),
         turned.dialled.is_some(),
-    ];
-    told.iter().map(|is_told| u32::from(*is_told)).sum()
+    ] {
+        if is_told {
+            count = count.saturating_add(1);
+        }
+    }
+    count
 }
 
 /// A page, the end of its call, the call of its job and the job's end are told once each.
