@@ -1,8 +1,8 @@
 -- Clients that are waited for.
-use Rattle.std.proofs.Common.{◌≡◌, ℕ, ◌≤◌, ◌<◌, Bool, true, false, List, [], ◌∷◌, ◌++◌, ◌⊎◌, take, drop, length, map, refl, sym, ◌∙◌, ap, subst, inl, inr, append-nil, arith}
+use Rattle.std.proofs.Common.{◌≡◌, ℕ, List, [], ◌∷◌, ◌++◌, ◌⊎◌, take, drop, length, map, refl, sym, ◌∙◌, ap, subst, inl, inr, append-nil, arith}
 use Rattle.std.proofs.lemmas.List.{drop_all, take_all}
-use Rattle.std.specs.List.{AllZip, items_where_true}
-use Rattle.fax_clients.specs.Clients.{AreLeft, AreServed, AreWaitedFor, ClientValue, ComesOn, GoesOn, IsAsked, IsCounted, IsServed, IsWaitedFor, IsWritten, Said, Told, counted, silent}
+use Rattle.std.specs.List.{AllZip}
+use Rattle.fax_clients.specs.Clients.{AreLeft, AreServed, AreWaitedFor, ClientValue, ComesOn, IsAsked, IsCounted, IsServed, IsWaitedFor, IsWritten, Said, Told, counted, silent}
 
 -- one behind another
 zip_then :

@@ -119,7 +119,7 @@ Hears place heard _ _ = ⊥
 
 -- ---- what is read and written
 
--- More may come of a client, where all that came before was heard: what was read is not changed, and no line is begun anew.
+-- What came of a client stays until it was heard, and no line is begun anew; where it says no more, nothing comes.
 pub record ComesOn (old new : Said) : Type 0 where
   pub begun : new.begun ≡ old.begun
   pub waits : 0 < length old.unheard → new ≡ old
@@ -153,7 +153,7 @@ pub record TakesNext (old new : Told) : Type 0 where
       (new ≡ record { due = flat_map telling_text next; events = Some waiting; lost = lost })
       ⊎ (new ≡ record { due = []; events = Some waiting; lost = min (lost + lines_in next) greatest_count })
 
--- It is so where nothing is still to be written, and an event waits; else all stays.
+-- It is so where nothing is still to be written, and an event waits; else nothing changes.
 abbrev pub GoesOn : Told → Told → Type 0
 GoesOn old new = TakesNext old new ⊎ (((0 < length old.due) ⊎ (unwrap_or old.events [] ≡ [])) × (new ≡ old))
 

@@ -1,5 +1,4 @@
 use Rattle.std.proofs.Common.{◌≡◌, ◌≤◌, false, length}
-use Rattle.fax_clients.specs.Clients.{ClientsValue}
 use Rattle.fax_clients.proofs.clients.Clients.finish.Given as goal
 
 abbrev pub invariant-loop : goal.invariant-loop

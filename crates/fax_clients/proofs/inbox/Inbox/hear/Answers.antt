@@ -1,4 +1,4 @@
-use Rattle.std.proofs.Common.{◌≡◌, ◌≤◌, ◌-◌, ◌++◌, ℕ, List, length, take, drop, IfSome, sym, subst, arith}
+use Rattle.std.proofs.Common.{◌≡◌, ◌≤◌, ◌++◌, ℕ, List, length, take, drop, IfSome, sym, subst, arith}
 use Rattle.fax_control.specs.ClientStreams.{EndsALine, fitting, octets_of_heard}
 use Rattle.fax_clients.specs.Clients.{IsHeard, Said}
 use Rattle.fax_clients.proofs.InboxLemmas.{heard_of}
