@@ -83,7 +83,8 @@ impl LossyWire {
     }
 
     fn end_turn(&mut self) {
-        if let Ok(given) = self.far.tick(self.now()) {
+        let now = self.now();
+        if let Ok(given) = self.far.tick(now) {
             if given.calling.is_some() && !self.loses() {
                 self.given = given.calling;
             }
