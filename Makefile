@@ -46,8 +46,9 @@ memory: all
 	tools/refuse-test-memory crates/call_tests/out/call_tests_tests answer::memory::a_call_that_is_refused_memory
 	cd crates/fax_call && $(RT) test > /dev/null
 	tools/refuse-test-memory crates/fax_call/out/fax_call_tests tests::memory::a_call_that_is_refused_memory
-	tools/refuse-test-memory crates/call_tests/out/call_tests_tests gateway::a_page_goes_through_the_gateway
-	tools/refuse-test-memory crates/call_tests/out/call_tests_tests gateway::driving::a_run_that_is_refused_memory
+	cd crates/gateway_tests && $(RT) test > /dev/null
+	tools/refuse-test-memory crates/gateway_tests/out/gateway_tests_tests gateway::a_page_goes_through_the_gateway
+	tools/refuse-test-memory crates/gateway_tests/out/gateway_tests_tests gateway::driving::a_run_that_is_refused_memory
 
 # Checks that the tables of code words are those that tools/code-tables makes of the words of ITU-T T.4. It wants
 # Python 3 and no `rt`.
