@@ -36,8 +36,8 @@ const STEPS: &[Step] = &[
     Step::Follows(&["b 00020cc002800005ffc8c100400040"]),
     Step::Gives(&["b 00030108"]),
     Step::Checks,
-    // the caller begins a signal, so that T2 does not end its call
-    Step::Comes(&[Part::Lines("A 000701060000\nB 000109c002800002ffc821400000\n")]),
+    // the caller says something that is no command, so that T2 does not end its call
+    Step::Comes(&[Part::Lines("A 000709c002800002ffc800400000\nB 000109c002800002ffc821400000\n")]),
     Step::Gives(&["b 002a0108"]),
     Step::Gives(&["b 002b11c201e0000b0014d9a80000001001001001"]),
     Step::Gives(&["b 002c08c201f00002001001"]),
