@@ -29,6 +29,7 @@ enum {
     TURN_MS = 40,
     SPREAD_MS = 4000, /* the calls begin over so long */
     WORD_MS = 500,    /* a word is said so often */
+    SLACK_MS = 400,   /* an answer of a peer comes so much later than in the recorded call: turns may be late */
 };
 
 typedef struct {
@@ -58,14 +59,16 @@ static void read_script(const char *path) {
     FILE *file = fopen(path, "r");
     char *line = NULL;
     size_t room = 0;
-    int at = 0;
+    int at = 0, last = 0, slack = 0;
     if (!file) fail(path);
     while (getline(&line, &room, file) > 0) {
         if (line[0] == 'T') at = atoi(line + 2);
         if ((line[0] != 'A' && line[0] != 'B') || event_count == MOST_EVENTS) continue;
         Event *e = &events[event_count++];
         unsigned octet;
-        e->at = at;
+        if (at - last > TURN_MS) slack += SLACK_MS;
+        last = at;
+        e->at = at + slack;
         e->leg = line[0] == 'B';
         while (e->count < (int)sizeof e->octets && sscanf(line + 2 + 2 * e->count, "%2x", &octet) == 1)
             e->octets[e->count++] = (unsigned char)octet;
