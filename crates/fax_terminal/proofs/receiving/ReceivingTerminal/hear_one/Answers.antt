@@ -1,0 +1,5 @@
+use Rattle.fax_terminal.proofs.ReceivingLemmas.{IsReceiving-heard}
+use Rattle.fax_terminal.proofs.receiving.ReceivingTerminal.hear_one.Goals as goal
+
+pub returns : goal.returns
+returns g c = λ pause told given is. IsReceiving-heard pause told given _ c.args.now _ _ c.in_ok-slots.ensures.heard is
