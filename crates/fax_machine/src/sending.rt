@@ -13,7 +13,7 @@ use fax_pagestore::{Coding, Format};
 use fax_repeat::{RepeatPolicy, RepeatingWire};
 use fax_terminal::{TerminalFault, send_job};
 use std::alloc::Global;
-use std::net::{Net, UdpSocket};
+use std::net::{Net, SocketAddr, UdpSocket};
 use std::rt::{Clock, Files};
 
 /// What is sent, and where to.
@@ -49,7 +49,7 @@ pub fn run_send<'a, H: Net + Clock + Files, E: Eprint>(
     };
     let job = read_job(host, alloc, reading, files)?;
     let peer = address_of(host, options.to)?;
-    let socket = calling_socket(host, options)?;
+    let socket = calling_socket(host, options, peer)?;
     let mut pace = ClockPace::new(host, watch, &socket)?;
     let failures = Failures::new();
     let leg = UdpLeg::new(&socket, peer, &failures);
@@ -76,8 +76,8 @@ pub fn run_send<'a, H: Net + Clock + Files, E: Eprint>(
 fn calling_socket<'a, H: Net>(
     host: &H,
     options: SendOptions<'a>,
+    peer: SocketAddr,
 ) -> Result<UdpSocket, RunFault<'a>> {
-    let peer = address_of(host, options.to)?;
     let socket = match options.on {
         Some(on) => socket_at(host, on, address_of(host, on)?)?,
         None => socket_at(host, options.to, any_address(peer))?,

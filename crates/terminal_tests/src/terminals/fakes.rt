@@ -3,7 +3,7 @@ ghost use Rattle.std.specs.Prelude.{◌≤◌, length};
 
 use fax_gateway::{Side, Wire, WireFault};
 use fax_jobs::Job;
-use fax_pagestore::{PackedRows, Page, RowStore};
+use fax_pagestore::{PackedRows, Page};
 use fax_pbm::{read_pbm, write_pbm};
 use fax_terminal::{KeepFault, Keeper};
 use std::alloc::{AllocError, Global};
@@ -93,9 +93,12 @@ impl Way {
         if let Some((old, new)) = self.changes {
             change(datagram.as_mut_slice(), old, new);
         }
-        match self.datagrams.try_borrow_mut() {
-            Ok(mut datagrams) if datagrams.push(datagram).is_ok() => Ok(()),
-            _ => Err(WireFault),
+        let Ok(mut datagrams) = self.datagrams.try_borrow_mut() else {
+            return Err(WireFault);
+        };
+        match datagrams.push(datagram) {
+            Ok(()) => Ok(()),
+            Err(_) => Err(WireFault),
         }
     }
 
@@ -182,18 +185,21 @@ impl Pictures {
     }
 }
 
-impl<S: RowStore> Keeper<S> for Pictures {
+impl Keeper<PackedRows> for Pictures {
     ghost use Rattle.std.specs.Prelude.{None};
 
     ghost given = { λ _. None };
 
-    fn keep(&mut self, page: &Page<S>) -> Result<(), KeepFault> {
+    fn keep(&mut self, page: &Page<PackedRows>) -> Result<(), KeepFault> {
         if self.kept.len() >= self.most {
             return Err(KeepFault);
         }
-        match write_pbm(self.alloc, page) {
-            Ok(octets) if self.kept.push(octets).is_ok() => Ok(()),
-            _ => Err(KeepFault),
+        let Ok(octets) = write_pbm(self.alloc, page) else {
+            return Err(KeepFault);
+        };
+        match self.kept.push(octets) {
+            Ok(()) => Ok(()),
+            Err(_) => Err(KeepFault),
         }
     }
 }
