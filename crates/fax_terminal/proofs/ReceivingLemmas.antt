@@ -84,6 +84,7 @@ KeepsConfirmed-nothing pause told = record { start = 0; events = []; right = tt;
 -- and in one that is over
 pub KeepsWholeCall-receiving : (pause : ℕ) (told given : Option (List PageValue)) (kept : Kept) → IsReceiving pause told kept given → kept.procedure.state ≡ Idle
     → KeepsWholeCall pause told given
+unfolding KeepsConfirmed-receiving
 KeepsWholeCall-receiving pause told given kept r over = record {
   kept = KeepsConfirmed-receiving pause told given kept r;
   over = sym r.reached.stands.follows.state ∙ over;

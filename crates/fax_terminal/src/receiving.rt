@@ -88,10 +88,10 @@ impl<S: RowStore, W: TimedWire + Drop> ReceivingTerminal<S, W> {
         self.hear(now)?;
         let step = self.answerer.tick(now)?;
         keep_if(keeper, step.confirmed)?;
-        match step.packet {
-            Some(packet) => Ok(self.link.send(packet.as_slice())?),
-            None => Ok(()),
+        if let Some(packet) = step.packet {
+            self.link.send(packet.as_slice())?;
         }
+        Ok(())
     }
 
     /// It hears a datagram.

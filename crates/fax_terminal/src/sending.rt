@@ -104,10 +104,10 @@ impl<W: TimedWire + Drop> SendingTerminal<W> {
     {
         self.link.go_on(now);
         self.hear(now)?;
-        match self.caller.tick(job, now)? {
-            Some(packet) => self.link.send(packet.as_slice()),
-            None => Ok(()),
+        if let Some(packet) = self.caller.tick(job, now)? {
+            self.link.send(packet.as_slice())?;
         }
+        Ok(())
     }
 
     /// How many pages the called machine confirmed so far.

@@ -212,7 +212,7 @@ pub fn picture(alloc: Global, seed: u32) -> Result<Vec<u8>, AllocError> {
         state = state.wrapping_mul(1_664_525).wrapping_add(1_013_904_223);
         // long runs of white, with strokes in them
         let octet = if state >> 29 == 0 {
-            (state >> 16) as u8
+            ((state >> 16) % 256) as u8
         } else {
             0
         };

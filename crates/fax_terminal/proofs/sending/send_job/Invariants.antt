@@ -6,5 +6,5 @@ use Rattle.fax_terminal.proofs.sending.send_job.Given as goal
 abbrev pub invariant-loop : goal.invariant-loop
 invariant-loop g l = record {
   job : IsJobOfCall l.terminal.procedure l.job;
-  call : IsInCall l.settings.preamble_ms l.job l.terminal;
+  call : IsInCall l.fn.settings.preamble_ms l.job l.terminal;
 }

@@ -5,4 +5,4 @@ use Rattle.fax_terminal.proofs.receiving.ReceivingTerminal.hear.Given as goal
 
 -- what came confirms nothing
 abbrev pub invariant-loop : goal.invariant-loop
-invariant-loop g l = (pause : ℕ) (told given : Option (List PageValue)) → IsReceiving pause told l.fn.self.answerer given → IsReceiving pause told l.self.answerer given
+invariant-loop g l = (pause : ℕ) (told given : Option (List PageValue)) → IsReceiving pause told l.fn.self given → IsReceiving pause told l.self given

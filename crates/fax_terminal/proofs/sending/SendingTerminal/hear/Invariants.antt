@@ -7,6 +7,6 @@ use Rattle.fax_terminal.proofs.sending.SendingTerminal.hear.Given as goal
 -- the call is that of the job
 abbrev pub invariant-loop : goal.invariant-loop
 invariant-loop g l = record {
-  job : (job : JobValue) → IsJobOfCall l.fn.self.caller.procedure job → IsJobOfCall l.self.caller.procedure job;
-  call : (pause : ℕ) (job : JobValue) → IsInCall pause job l.fn.self.caller → IsInCall pause job l.self.caller;
+  job : (job : JobValue) → IsJobOfCall l.fn.self.procedure job → IsJobOfCall l.self.procedure job;
+  call : (pause : ℕ) (job : JobValue) → IsInCall pause job l.fn.self → IsInCall pause job l.self;
 }
