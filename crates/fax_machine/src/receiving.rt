@@ -5,7 +5,7 @@ use crate::clock_pace::ClockPace;
 use crate::page_files::{PageFiles, free_call};
 use crate::run_fault::RunFault;
 use crate::sockets::{address_of, socket_at};
-use crate::udp_leg::{Failures, LastCall, UdpLeg, await_call, keep_repeating};
+use crate::udp_leg::{LastCall, Port, UdpLeg, await_call, keep_repeating};
 use crate::watch::Watch;
 use fax_gateway::Settings;
 use fax_repeat::{RepeatPolicy, RepeatingWire};
@@ -39,19 +39,17 @@ pub fn run_receive<'a, H: Net + Clock + Files, E: Eprint>(
     requires { AreAllowed options.settings }
 {
     let here = address_of(host, options.on)?;
-    let socket = socket_at(host, options.on, here)?;
-    let mut pace = ClockPace::new(host, watch, &socket)?;
-    let failures = Failures::new();
+    let port = Port::new(socket_at(host, options.on, here)?);
+    let mut pace = ClockPace::new(host, watch, port.socket())?;
     let mut number = 0;
     let mut last = None;
     let mut buffer = [0; MOST_OCTETS];
     for _ in 0..options.calls {
-        let Some(begun) = await_call(&socket, &mut pace, &mut last, buffer.as_mut_slice()) else {
+        let Some(begun) = await_call(&port, &mut pace, &mut last, buffer.as_mut_slice()) else {
             return Err(RunFault::Time);
         };
         number = free_call(host, alloc, options.prefix, number)?;
-        let leg = UdpLeg::new(&socket, begun.peer, &failures);
-        let wire = RepeatingWire::new(leg, options.repeat);
+        let wire = RepeatingWire::new(UdpLeg::new(&port, begun.peer), options.repeat);
         let mut files = PageFiles::new(host, watch, alloc, options.prefix, number);
         let first = &buffer[..begun.octets];
         match receive_call(alloc, &mut pace, wire, first, &mut files, options.settings) {

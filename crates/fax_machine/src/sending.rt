@@ -5,7 +5,7 @@ use crate::clock_pace::ClockPace;
 use crate::job_files::{Reading, read_job};
 use crate::run_fault::RunFault;
 use crate::sockets::{address_of, any_address, socket_at};
-use crate::udp_leg::{Failures, UdpLeg};
+use crate::udp_leg::{Port, UdpLeg};
 use crate::watch::Watch;
 use fax_gateway::Settings;
 use fax_jobs::{Outcome, Report};
@@ -49,15 +49,13 @@ pub fn run_send<'a, H: Net + Clock + Files, E: Eprint>(
     };
     let job = read_job(host, alloc, reading, files)?;
     let peer = address_of(host, options.to)?;
-    let socket = calling_socket(host, options, peer)?;
-    let mut pace = ClockPace::new(host, watch, &socket)?;
-    let failures = Failures::new();
-    let leg = UdpLeg::new(&socket, peer, &failures);
-    let wire = RepeatingWire::new(leg, options.repeat);
+    let port = Port::new(calling_socket(host, options, peer)?);
+    let mut pace = ClockPace::new(host, watch, port.socket())?;
+    let wire = RepeatingWire::new(UdpLeg::new(&port, peer), options.repeat);
     match send_job(alloc, &mut pace, wire, &job, options.settings) {
         Ok(sent) => {
             if sent.outcome != Outcome::Delivered {
-                failures.tell(watch, options.to);
+                port.tell(watch, options.to);
             }
             Ok(Report {
                 call: job.call(),

@@ -23,21 +23,29 @@ const IDLE_MS: i32 = 1_000;
 /// The most datagrams of others that a receive passes over.
 const MOST_FOREIGN: u8 = 64;
 
-/// What failed at the sockets of a run.
+/// The socket of a run, which does not wait, and what failed at it.
 #[derive(Drop)]
-pub(crate) struct Failures {
+pub(crate) struct Port {
+    socket: UdpSocket,
+    /// How many sends and receives failed.
     count: Cell<u64>,
     /// What the last failure was.
     last: Cell<Option<ErrorKind>>,
 }
 
-impl Failures {
-    /// Nothing failed.
-    pub fn new() -> Self {
-        Failures {
+impl Port {
+    /// Nothing failed at this socket.
+    pub fn new(socket: UdpSocket) -> Self {
+        Port {
+            socket,
             count: Cell::new(0),
             last: Cell::new(None),
         }
+    }
+
+    /// The socket.
+    pub fn socket(&self) -> &UdpSocket {
+        &self.socket
     }
 
     /// One more send or receive failed.
@@ -57,25 +65,23 @@ impl Failures {
     }
 }
 
-/// A leg over a socket that does not wait, with one peer. What others send is dropped.
+/// A leg over a socket, with one peer. What others send is dropped.
 #[derive(Drop)]
 pub(crate) struct UdpLeg<'a> {
-    socket: &'a UdpSocket,
+    port: &'a Port,
     peer: SocketAddr,
-    told: &'a Failures,
     /// How many receives and sends failed.
     failures: u64,
 }
 
 impl<'a> UdpLeg<'a> {
-    /// A leg over this socket, to this peer, whose failures are told there.
-    pub fn new(socket: &'a UdpSocket, peer: SocketAddr, told: &'a Failures) -> Self
+    /// A leg over this socket, to this peer.
+    pub fn new(port: &'a Port, peer: SocketAddr) -> Self
         ensures { result.failures ≡ 0 }
     {
         UdpLeg {
-            socket,
+            port,
             peer,
-            told,
             failures: 0,
         }
     }
@@ -84,7 +90,7 @@ impl<'a> UdpLeg<'a> {
     fn fail(&mut self, error: &io::Error) -> WireFault
         ensures { self.new.failures ≡ min (self.old.failures + 1) greatest_count }
     {
-        self.told.add(error);
+        self.port.add(error);
         self.failures = self.failures.saturating_add(1);
         WireFault
     }
@@ -98,7 +104,7 @@ impl Wire for UdpLeg<'_> {
 
     fn receive(&mut self, _side: Side, buffer: &mut [u8]) -> Result<Option<usize>, WireFault> {
         for _ in 0..MOST_FOREIGN {
-            match self.socket.recv_from(buffer) {
+            match self.port.socket.recv_from(buffer) {
                 Ok((count, from)) if from == self.peer => return Ok(Some(count)),
                 Ok(_) => {}
                 Err(error) if error.kind() == ErrorKind::WouldBlock => return Ok(None),
@@ -109,7 +115,7 @@ impl Wire for UdpLeg<'_> {
     }
 
     fn send(&mut self, _side: Side, octets: &[u8]) -> Result<(), WireFault> {
-        match self.socket.send_to(octets, self.peer) {
+        match self.port.socket.send_to(octets, self.peer) {
             Ok(_) => Ok(()),
             Err(error) => Err(self.fail(&error)),
         }
@@ -134,7 +140,7 @@ pub(crate) struct LastCall<W: TimedWire + Drop> {
 /// buffer. Within 3 s behind the last call a datagram of the same peer begins another call only if it is numbered as the first
 /// of one. `None`: there is no time any more.
 pub(crate) fn await_call<W: TimedWire + Drop, H: Clock, E: Eprint>(
-    socket: &UdpSocket,
+    port: &Port,
     pace: &mut ClockPace<'_, H, E>,
     last: &mut Option<LastCall<W>>,
     buffer: &mut [u8],
@@ -147,7 +153,7 @@ pub(crate) fn await_call<W: TimedWire + Drop, H: Clock, E: Eprint>(
         if let Some(last) = last {
             last.wire.go_on(now);
         }
-        let Ok((octets, peer)) = socket.recv_from(buffer) else {
+        let Ok((octets, peer)) = port.socket.recv_from(buffer) else {
             continue;
         };
         if now >= settled || !is_peer_of(last, peer) || is_numbered_first(&buffer[..octets]) {

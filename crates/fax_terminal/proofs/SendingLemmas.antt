@@ -1,16 +1,15 @@
 -- The call of a terminal that calls, step by step.
-use Rattle.std.proofs.Common.{◌≡◌, ℕ, List, [], ◌∷◌, ◌++◌, reverse, Option, None, Some, refl, sym, ◌∙◌, ap, subst}
+use Rattle.std.proofs.Common.{◌≡◌, ℕ, List, [], ◌∷◌, ◌++◌, reverse, Option, Some, refl, sym, ◌∙◌, ap, subst}
 use Rattle.fax_ifp.specs.Elements.{Slot}
 use Rattle.fax_ifp.specs.Pieces.{Piece}
 use Rattle.fax_jobs.specs.Jobs.{JobValue}
-use Rattle.fax_jobs.specs.declared.outcome.Outcome.{Outcome}
 use Rattle.fax_call.specs.declared.state.State.TheVariants.{Idle}
 use Rattle.fax_call.specs.Table.{Counts}
 use Rattle.fax_call.specs.Writings.{Writing, IsWriting}
 use Rattle.fax_call.specs.Calls.{Calling, CallEvent, Comes, Ticks, new_calling, started, came_all, after_events, ticked}
 use Rattle.fax_call.specs.Reached.{Kept, IsReached, Hears, IsGiven}
 use Rattle.fax_terminal.specs.declared.sending.Sent.{Sent}
-use Rattle.fax_terminal.specs.Calls.{core_behind, IsInCall, HasTicked, TellsBehind, TellsCall}
+use Rattle.fax_terminal.specs.Calls.{core_behind, IsInCall, HasTicked, TellsCall}
 
 -- the events of these pieces, behind others
 comes : List Piece → ℕ → List CallEvent → List CallEvent
