@@ -21,8 +21,8 @@ pub struct Way {
     loses: u32,
     /// How many datagrams were sent.
     sends: Cell<u32>,
-    /// Where these octets stand in a datagram, others come in their place.
-    changes: Option<(&'static [u8], &'static [u8])>,
+    /// Where these octets stand in a datagram, another comes in place of the last of them.
+    changes: Option<(&'static [u8], u8)>,
     /// Whether the last DCS that was sent asks for the two-dimensional coding.
     two_d: Cell<Option<bool>>,
 }
@@ -40,14 +40,14 @@ impl Way {
         }
     }
 
-    /// A way that loses nothing, and puts octets in the place of as many others.
-    pub fn changing(alloc: Global, old: &'static [u8], new: &'static [u8]) -> Self {
+    /// A way that loses nothing, and where these octets stand puts another in place of the last of them.
+    pub fn changing(alloc: Global, octets: &'static [u8], last: u8) -> Self {
         Way {
             alloc,
             datagrams: RefCell::new(Vec::new(alloc)),
             loses: 0,
             sends: Cell::new(0),
-            changes: Some((old, new)),
+            changes: Some((octets, last)),
             two_d: Cell::new(None),
         }
     }
@@ -87,12 +87,13 @@ impl Way {
         if self.loses_next() {
             return Ok(());
         }
-        let Ok(mut datagram) = octets.to_vec(self.alloc) else {
+        let datagram = match self.changes {
+            Some((old, last)) => changed(self.alloc, octets, old, last),
+            None => octets.to_vec(self.alloc),
+        };
+        let Ok(datagram) = datagram else {
             return Err(WireFault);
         };
-        if let Some((old, new)) = self.changes {
-            change(datagram.as_mut_slice(), old, new);
-        }
         let Ok(mut datagrams) = self.datagrams.try_borrow_mut() else {
             return Err(WireFault);
         };
@@ -112,19 +113,14 @@ impl Way {
     }
 }
 
-/// Puts octets in the place of as many others, wherever those stand.
-fn change(octets: &mut [u8], old: &[u8], new: &[u8]) {
-    for start in 0..octets.len() {
-        if octets[start..].starts_with(old) {
-            replace(&mut octets[start..], new);
-        }
+/// These octets, with another in place of the last one of some, wherever those stand.
+fn changed(alloc: Global, octets: &[u8], old: &[u8], last: u8) -> Result<Vec<u8>, AllocError> {
+    let mut changed = Vec::new(alloc);
+    for i in 0..octets.len() {
+        let is_old = octets[..i + 1].ends_with(old);
+        changed.push(if is_old { last } else { octets[i] })?;
     }
-}
-
-/// Puts octets at the front of others.
-fn replace(octets: &mut [u8], new: &[u8]) {
-    let count = new.len().min(octets.len());
-    octets[..count].copy_from_slice(&new[..count]);
+    Ok(changed)
 }
 
 /// A leg between two ways.

@@ -106,13 +106,14 @@ fn call_over(
     })
 }
 
-/// Where the DIS has no two-dimensional coding (ITU-T T.30, bit 16 of its field), in a packet of it.
+/// The front of our DIS, up to bits 9 to 16 of its field.
 const WITH_TWO_D: &[u8] = &[0xff, 0xc8, 0x01, 0x00, 0x77];
 
-const WITHOUT_TWO_D: &[u8] = &[0xff, 0xc8, 0x01, 0x00, 0x76];
+/// These bits without the two-dimensional coding (ITU-T T.30, bit 16).
+const WITHOUT_TWO_D: u8 = 0x76;
 
-/// Where it does not receive (bit 10).
-const NO_RECEIVER: &[u8] = &[0xff, 0xc8, 0x01, 0x00, 0x37];
+/// These bits where the machine does not receive (bit 10).
+const NO_RECEIVER: u8 = 0x37;
 
 /// Pages come as they were sent: one and two of them, in MR, and in MH where the called machine has no more, and though each
 /// fifth datagram is lost in both directions.
@@ -149,8 +150,7 @@ fn pages_are_delivered(rt: HostRuntime) -> Result<(), Fail> {
     Ok(())
 }
 
-/// Whether a way has no octets of this kind is told by what came over it: with a DIS that lacks the two-dimensional coding, the
-/// DCS asks for none (bit 16 of its field).
+/// Where the DIS lacks the two-dimensional coding, the DCS asks for none (bit 16 of its field).
 #[test]
 fn a_coding_that_the_called_machine_has(rt: HostRuntime) -> Result<(), Fail> {
     let alloc = rt.alloc();
