@@ -78,9 +78,6 @@ HasTurned-ticked pause told given behind now old new step ticks grew r =
 pub KeepsConfirmed-receiving : (pause : ℕ) (told given : Option (List PageValue)) (kept : Kept) → IsReceiving pause told kept given → KeepsConfirmed pause told given
 KeepsConfirmed-receiving pause told given kept r = record { start = r.start; events = r.events; right = r.right; grows = r.grows }
 
-pub KeepsConfirmed-nothing : (pause : ℕ) (told : Option (List PageValue)) → KeepsConfirmed pause told told
-KeepsConfirmed-nothing pause told = record { start = 0; events = []; right = tt; grows = grows_none told }
-
 -- and in one that is over
 pub KeepsWholeCall-receiving : (pause : ℕ) (told given : Option (List PageValue)) (kept : Kept) → IsReceiving pause told kept given → kept.procedure.state ≡ Idle
     → KeepsWholeCall pause told given

@@ -1,15 +1,12 @@
 -- The call of a terminal that calls, step by step.
-use Rattle.std.proofs.Common.{◌≡◌, ℕ, List, [], ◌∷◌, ◌++◌, reverse, Option, Some, refl, sym, ◌∙◌, ap, subst}
+use Rattle.std.proofs.Common.{◌≡◌, ℕ, List, [], ◌∷◌, ◌++◌, reverse, Option, refl, sym, subst}
 use Rattle.fax_ifp.specs.Elements.{Slot}
 use Rattle.fax_ifp.specs.Pieces.{Piece}
 use Rattle.fax_jobs.specs.Jobs.{JobValue}
-use Rattle.fax_call.specs.declared.state.State.TheVariants.{Idle}
-use Rattle.fax_call.specs.Table.{Counts}
 use Rattle.fax_call.specs.Writings.{Writing, IsWriting}
 use Rattle.fax_call.specs.Calls.{Calling, CallEvent, Comes, Ticks, new_calling, started, came_all, after_events, ticked}
 use Rattle.fax_call.specs.Reached.{Kept, IsReached, Hears, IsGiven}
-use Rattle.fax_terminal.specs.declared.sending.Sent.{Sent}
-use Rattle.fax_terminal.specs.Calls.{core_behind, IsInCall, HasTicked, TellsCall}
+use Rattle.fax_terminal.specs.Calls.{core_behind, IsInCall, HasTicked}
 
 -- the events of these pieces, behind others
 comes : List Piece → ℕ → List CallEvent → List CallEvent
@@ -59,18 +56,4 @@ IsInCall-ticked pause job now kept t = record {
   behind = λ writes is.
       let (start, heard, events, reached) = t.behind writes is in
       (start, heard, Ticks now ∷ events, reached);
-}
-
--- what is told
-pub TellsCall-told : (pause : ℕ) (job : JobValue) (kept : Kept) (sent : Sent) → IsInCall pause job kept → kept.procedure.state ≡ Idle
-    → kept.procedure.outcome ≡ Some sent.outcome → kept.procedure.counts.delivered ≡ sent.delivered → TellsCall pause job sent
-TellsCall-told pause job kept sent call over outcome delivered = record {
-  behind = λ writes is.
-      let (start, heard, events, reached) = call.behind writes is in
-      let f = reached.follows in
-      let counted : kept.procedure.counts.delivered ≡ (core_behind writes pause job start events).counts.delivered = ap (λ (c : Counts). c.delivered) f.counts in (
-        start,
-        events,
-        record { over = sym f.state ∙ over; outcome = sym f.outcome ∙ outcome; delivered = sym counted ∙ delivered },
-      );
 }
