@@ -1,5 +1,5 @@
 //! Legs over UDP sockets.
-ghost use Rattle.std.specs.Prelude.{◌≡◌, ◌+◌, ◌≤◌, min, length, IfSome};
+ghost use Rattle.std.specs.Prelude.{◌≡◌, ◌+◌, ◌≤◌, min, length, IfOk, IfSome};
 ghost use Rattle.fax_gateway.specs.Wires.{greatest_count};
 
 use crate::clock_pace::ClockPace;
@@ -86,6 +86,22 @@ impl<'a> UdpLeg<'a> {
         }
     }
 
+    /// Receives a datagram of the peer into the front of the buffer, and says how many octets it has. `None`: nothing of it has
+    /// come.
+    fn receive_of_peer(&self, buffer: &mut [u8]) -> io::Result<Option<usize>>
+        ensures { IfOk result (λ came. IfSome came (λ count. count ≤ length buffer.new)) }
+    {
+        for _ in 0..MOST_FOREIGN {
+            match self.port.socket.recv_from(buffer) {
+                Ok((count, from)) if from == self.peer => return Ok(Some(count)),
+                Ok(_) => {}
+                Err(error) if error.kind() == ErrorKind::WouldBlock => return Ok(None),
+                Err(error) => return Err(error),
+            }
+        }
+        Ok(None)
+    }
+
     /// One more call failed.
     fn fail(&mut self, error: &io::Error) -> WireFault
         ensures { self.new.failures ≡ min (self.old.failures + 1) greatest_count }
@@ -103,15 +119,10 @@ impl Wire for UdpLeg<'_> {
     ghost known = { λ leg. record { failures = leg.failures; received = None; sent = None } };
 
     fn receive(&mut self, _side: Side, buffer: &mut [u8]) -> Result<Option<usize>, WireFault> {
-        for _ in 0..MOST_FOREIGN {
-            match self.port.socket.recv_from(buffer) {
-                Ok((count, from)) if from == self.peer => return Ok(Some(count)),
-                Ok(_) => {}
-                Err(error) if error.kind() == ErrorKind::WouldBlock => return Ok(None),
-                Err(error) => return Err(self.fail(&error)),
-            }
+        match self.receive_of_peer(buffer) {
+            Ok(came) => Ok(came),
+            Err(error) => Err(self.fail(&error)),
         }
-        Ok(None)
     }
 
     fn send(&mut self, _side: Side, octets: &[u8]) -> Result<(), WireFault> {
