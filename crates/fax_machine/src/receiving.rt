@@ -40,16 +40,29 @@ pub fn run_receive<'a, H: Net + Clock + Files, E: Eprint>(
 {
     let here = address_of(host, options.on)?;
     let port = Port::new(socket_at(host, options.on, here)?);
+    answer_calls(host, watch, alloc, options, &port)
+}
+
+/// Answers calls at this port.
+fn answer_calls<'a, H: Clock + Files, E: Eprint>(
+    host: &'a H,
+    watch: &'a Watch<'a, E>,
+    alloc: Global,
+    options: ReceiveOptions<'a>,
+    port: &Port,
+) -> Result<(), RunFault<'a>>
+    requires { AreAllowed options.settings }
+{
     let mut pace = ClockPace::new(host, watch, port.socket())?;
     let mut number = 0;
     let mut last = None;
     let mut buffer = [0; MOST_OCTETS];
     for _ in 0..options.calls {
-        let Some(begun) = await_call(&port, &mut pace, &mut last, buffer.as_mut_slice()) else {
+        let Some(begun) = await_call(port, &mut pace, &mut last, buffer.as_mut_slice()) else {
             return Err(RunFault::Time);
         };
         number = free_call(host, alloc, options.prefix, number)?;
-        let wire = RepeatingWire::new(UdpLeg::new(&port, begun.peer), options.repeat);
+        let wire = RepeatingWire::new(UdpLeg::new(port, begun.peer), options.repeat);
         let mut files = PageFiles::new(host, watch, alloc, options.prefix, number);
         let first = &buffer[..begun.octets];
         match receive_call(alloc, &mut pace, wire, first, &mut files, options.settings) {
