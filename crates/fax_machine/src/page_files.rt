@@ -1,4 +1,6 @@
 //! Pages that are kept in files.
+ghost use Rattle.std.specs.Prelude.{◌≡◌};
+
 use crate::watch::Watch;
 use fax_pagestore::{PackedRows, Page};
 use fax_pbm::write_pbm;
