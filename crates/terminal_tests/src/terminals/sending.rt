@@ -6,7 +6,7 @@ use fax_jobs::Outcome;
 use fax_pagestore::PackedRows;
 use fax_repeat::{RepeatPolicy, RepeatingWire};
 use fax_terminal::{Pace, ReceivingTerminal, Sent, TerminalFault, send_job};
-use std::alloc::Global;
+use std::alloc::{AllocError, Global};
 use std::test::Fail;
 
 /// Each wait takes so many milliseconds.
@@ -65,6 +65,15 @@ impl Pace for CalledPace<'_> {
     }
 }
 
+/// So many pictures, which differ.
+fn pictures_of(alloc: Global, count: u32) -> Result<Vec<Vec<u8>>, AllocError> {
+    let mut pictures = Vec::new(alloc);
+    for seed in 0..count {
+        pictures.push(picture(alloc, seed)?)?;
+    }
+    Ok(pictures)
+}
+
 /// What came of a call.
 #[derive(Drop)]
 struct Ended {
@@ -120,11 +129,8 @@ const NO_RECEIVER: u8 = 0x37;
 #[test]
 fn pages_are_delivered(rt: HostRuntime) -> Result<(), Fail> {
     let alloc = rt.alloc();
-    let mut pictures = Vec::new(alloc);
-    for seed in 1..3u32 {
-        pictures.push(picture(alloc, seed)?)?;
-    }
-    for count in 1..3usize {
+    for count in 1..3u32 {
+        let pictures = pictures_of(alloc, count)?;
         for (there, back) in [
             (Way::new(alloc, 0), Way::new(alloc, 0)),
             (
@@ -133,18 +139,14 @@ fn pages_are_delivered(rt: HostRuntime) -> Result<(), Fail> {
             ),
             (Way::new(alloc, 5), Way::new(alloc, 5)),
         ] {
-            let sending = &pictures.as_slice()[..count];
-            let ended = call_over(alloc, sending, &there, &back, 600_000)?;
+            let ended = call_over(alloc, pictures.as_slice(), &there, &back, 600_000)?;
             let wanted = Sent {
                 outcome: Outcome::Delivered,
-                delivered: count as u32,
+                delivered: count,
             };
             assert!(rt; ended.sent == Ok(wanted), "at {count}");
-            assert!(rt; ended.kept.as_slice() == sending, "at {count}");
-            assert!(rt;
-                ended.told.last().copied() == Some(count as u32),
-                "at {count}"
-            );
+            assert!(rt; ended.kept == pictures, "at {count}");
+            assert!(rt; ended.told.last().copied() == Some(count), "at {count}");
         }
     }
     Ok(())
@@ -154,8 +156,7 @@ fn pages_are_delivered(rt: HostRuntime) -> Result<(), Fail> {
 #[test]
 fn a_coding_that_the_called_machine_has(rt: HostRuntime) -> Result<(), Fail> {
     let alloc = rt.alloc();
-    let mut pictures = Vec::new(alloc);
-    pictures.push(picture(alloc, 3)?)?;
+    let pictures = pictures_of(alloc, 1)?;
     for (back, two_d) in [
         (Way::new(alloc, 0), true),
         (Way::changing(alloc, WITH_TWO_D, WITHOUT_TWO_D), false),
@@ -172,8 +173,7 @@ fn a_coding_that_the_called_machine_has(rt: HostRuntime) -> Result<(), Fail> {
 #[test]
 fn nobody_answers(rt: HostRuntime) -> Result<(), Fail> {
     let alloc = rt.alloc();
-    let mut pictures = Vec::new(alloc);
-    pictures.push(picture(alloc, 4)?)?;
+    let pictures = pictures_of(alloc, 1)?;
     let there = Way::new(alloc, 0);
     // all that the called machine sends is lost
     let back = Way::new(alloc, 1);
@@ -197,8 +197,7 @@ fn nobody_answers(rt: HostRuntime) -> Result<(), Fail> {
 #[test]
 fn a_called_machine_refuses(rt: HostRuntime) -> Result<(), Fail> {
     let alloc = rt.alloc();
-    let mut pictures = Vec::new(alloc);
-    pictures.push(picture(alloc, 5)?)?;
+    let pictures = pictures_of(alloc, 1)?;
     let there = Way::new(alloc, 0);
     let back = Way::changing(alloc, WITH_TWO_D, NO_RECEIVER);
     let ended = call_over(alloc, pictures.as_slice(), &there, &back, 600_000)?;
@@ -215,8 +214,7 @@ fn a_called_machine_refuses(rt: HostRuntime) -> Result<(), Fail> {
 #[test]
 fn no_time_is_left(rt: HostRuntime) -> Result<(), Fail> {
     let alloc = rt.alloc();
-    let mut pictures = Vec::new(alloc);
-    pictures.push(picture(alloc, 6)?)?;
+    let pictures = pictures_of(alloc, 1)?;
     let (there, back) = (Way::new(alloc, 0), Way::new(alloc, 0));
     let ended = call_over(alloc, pictures.as_slice(), &there, &back, 1_000)?;
     assert!(rt; ended.sent == Err(TerminalFault::Clock));
