@@ -1,16 +1,20 @@
 //! The command line.
 use crate::capture_line::{Machines, capture_command, machines_of};
+use crate::terminal_line::{
+    receive_command, receive_options_of, send_command, send_files_of, send_options_of,
+};
 use clap::builder::ValueParser;
 use clap::{Arg, ArgAction, ArgMatches, Command, Error};
 use fax_command::{Output, PageOptions};
 use fax_gateway::Settings;
+use fax_machine::{ReceiveOptions, SendOptions};
 use fax_pagestore::{Coding, Format};
 use fax_runcodes::Width;
 use std::alloc::{AllocError, Global};
 use std::convert::AsStr;
 
 /// What is asked for.
-#[derive(Clone, Copy, PartialEq, Eq, Debug)]
+#[derive(Debug, Drop)]
 pub enum Request<'a> {
     /// The rows of a page, or the page of rows.
     Page(PageOptions),
@@ -22,6 +26,10 @@ pub enum Request<'a> {
     Loop(Settings),
     /// A server of the lines that the configuration at this path has.
     Serve(&'a str),
+    /// A call of a machine, and the files whose pages are sent.
+    Send(SendOptions<'a>, Vec<&'a str>),
+    /// Calls that are answered.
+    Receive(ReceiveOptions<'a>),
 }
 
 /// What the words of a command line ask for, of which the first is the program's name. An `Err` is the
@@ -40,6 +48,12 @@ pub fn request_of<'a, S: AsStr>(alloc: Global, words: &'a [S]) -> Result<Request
     if let Some(given) = matches.subcommand_matches("serve") {
         return Ok(Request::Serve(given.get_str("config").unwrap_or("")));
     }
+    if let Some(given) = matches.subcommand_matches("send") {
+        return Ok(Request::Send(send_options_of(given), send_files_of(alloc, given)?));
+    }
+    if let Some(given) = matches.subcommand_matches("receive") {
+        return Ok(Request::Receive(receive_options_of(given)));
+    }
     match matches.subcommand_matches("trace") {
         Some(given) => Ok(Request::Trace(settings_of(given))),
         None => Ok(Request::Trace(Settings::default())),
@@ -48,27 +62,36 @@ pub fn request_of<'a, S: AsStr>(alloc: Global, words: &'a [S]) -> Result<Request
 
 /// The options that were given to `faxgate page`, and the defaults of those that were not.
 fn options_of(page: &ArgMatches<'_>) -> PageOptions {
-    let format = Format {
-        width: match page.get_one::<u16>("width") {
-            Some(2432) => Width::W2432,
-            Some(2048) => Width::W2048,
-            _ => Width::W1728,
-        },
-        fine: page.get_flag("fine"),
-    };
     PageOptions {
-        format,
-        coding: match page.get_str("coding") {
-            Some("mr") => Coding::Mr,
-            _ => Coding::Mh,
-        },
+        format: format_of(page),
+        coding: coding_of(page),
         least_bits: page.get_one::<u32>("least").unwrap_or(0),
         output: output_of(page),
     }
 }
 
+/// The format of pages that was given, and the defaults of what was not.
+pub fn format_of(given: &ArgMatches<'_>) -> Format {
+    Format {
+        width: match given.get_one::<u16>("width") {
+            Some(2432) => Width::W2432,
+            Some(2048) => Width::W2048,
+            _ => Width::W1728,
+        },
+        fine: given.get_flag("fine"),
+    }
+}
+
+/// The coding of pages that was given, or the default.
+pub fn coding_of(given: &ArgMatches<'_>) -> Coding {
+    match given.get_str("coding") {
+        Some("mr") => Coding::Mr,
+        _ => Coding::Mh,
+    }
+}
+
 /// The settings of the gateway that were given, and the defaults of those that were not.
-fn settings_of(given: &ArgMatches<'_>) -> Settings {
+pub fn settings_of(given: &ArgMatches<'_>) -> Settings {
     let usual = Settings::default();
     Settings {
         redundancy: given
@@ -108,14 +131,16 @@ fn faxgate_command<'a>(alloc: Global) -> Result<Command<'a>, AllocError> {
         .bin_name("faxgate")?
         .version(VERSION)
         .about(
-            "Serves the lines of a fax gateway, reads and writes its pages, plays what came to one, from a capture too, and sends a page through one",
+            "Serves the lines of a fax gateway, reads and writes its pages, plays what came to one, from a capture too, sends a page through one, and sends and receives pages as a machine does",
         )
         .subcommand_required(true)
         .subcommand(page_command(alloc)?)?
         .subcommand(trace_command(alloc)?)?
         .subcommand(capture_command(alloc)?)?
         .subcommand(loop_command(alloc)?)?
-        .subcommand(serve_command(alloc)?)
+        .subcommand(serve_command(alloc)?)?
+        .subcommand(send_command(alloc)?)?
+        .subcommand(receive_command(alloc)?)
 }
 
 /// The command line of `faxgate trace`.
@@ -155,8 +180,28 @@ fn serve_command<'a>(alloc: Global) -> Result<Command<'a>, AllocError> {
         .arg(config)
 }
 
+/// The option of the width.
+pub fn width_option<'a>(alloc: Global) -> Arg<'a> {
+    Arg::new(alloc, "width")
+        .long("width")
+        .value_name("ELEMENTS")
+        .value_parser(ValueParser::Names(&["1728", "2048", "2432"]))
+        .default_value("1728")
+        .help("The elements of each row")
+}
+
+/// The option of the coding.
+pub fn coding_option<'a>(alloc: Global) -> Arg<'a> {
+    Arg::new(alloc, "coding")
+        .long("coding")
+        .value_name("CODING")
+        .value_parser(ValueParser::Names(&["mh", "mr"]))
+        .default_value("mh")
+        .help("One-dimensional lines (mh), or two-dimensional ones among them (mr)")
+}
+
 /// The option of the redundancy.
-fn redundancy_option<'a>(alloc: Global) -> Arg<'a> {
+pub fn redundancy_option<'a>(alloc: Global) -> Arg<'a> {
     Arg::new(alloc, "redundancy")
         .long("redundancy")
         .value_name("PACKETS")
@@ -166,7 +211,7 @@ fn redundancy_option<'a>(alloc: Global) -> Arg<'a> {
 }
 
 /// The option of the pause behind a preamble.
-fn preamble_option<'a>(alloc: Global) -> Arg<'a> {
+pub fn preamble_option<'a>(alloc: Global) -> Arg<'a> {
     Arg::new(alloc, "preamble")
         .long("preamble")
         .value_name("MS")
@@ -182,18 +227,6 @@ fn preamble_option<'a>(alloc: Global) -> Arg<'a> {
 
 /// The command line of `faxgate page`.
 fn page_command<'a>(alloc: Global) -> Result<Command<'a>, AllocError> {
-    let width = Arg::new(alloc, "width")
-        .long("width")
-        .value_name("ELEMENTS")
-        .value_parser(ValueParser::Names(&["1728", "2048", "2432"]))
-        .default_value("1728")
-        .help("The elements of each row");
-    let coding = Arg::new(alloc, "coding")
-        .long("coding")
-        .value_name("CODING")
-        .value_parser(ValueParser::Names(&["mh", "mr"]))
-        .default_value("mh")
-        .help("One-dimensional lines (mh), or two-dimensional ones among them (mr)");
     let fine = Arg::new(alloc, "fine")
         .long("fine")
         .action(ArgAction::SetTrue)
@@ -219,8 +252,8 @@ fn page_command<'a>(alloc: Global) -> Result<Command<'a>, AllocError> {
         .about(
             "Read the octets of a page as hex text, and print each row as a line of run lengths, white first",
         )
-        .arg(width)?
-        .arg(coding)?
+        .arg(width_option(alloc))?
+        .arg(coding_option(alloc))?
         .arg(fine)?
         .arg(least)?
         .arg(back)?

@@ -1,6 +1,7 @@
 //! `faxgate page` prints the rows of a page (ITU-T T.4), or the page of rows; `faxgate trace` prints what a gateway
 //! answers to a script of what came to it; `faxgate capture` prints the script of a captured call; `faxgate loop` sends a
-//! page through a gateway, over sockets of this host; `faxgate serve` serves the lines of a configuration.
+//! page through a gateway, over sockets of this host; `faxgate serve` serves the lines of a configuration; `faxgate send`
+//! and `faxgate receive` send and receive pages as a machine does.
 #![tactic(auto)]
 
 ghost use Rattle.fax_gateway.specs.Setups.{AreAllowed};
@@ -8,6 +9,8 @@ ghost use Rattle.fax_gateway.specs.Setups.{AreAllowed};
 mod capture_line;
 mod command_line;
 mod serving;
+mod terminal_line;
+mod terminals;
 #[cfg(test)]
 mod tests;
 
@@ -17,12 +20,14 @@ use fax_capture::run_capture;
 use fax_command::{Status, StdSink, StdSource, run_page};
 use fax_gateway::Settings;
 use fax_loop::run_loop;
+use fax_machine::{ReceiveOptions, SendOptions};
 use fax_trace::run_trace;
 use serving::serve_file;
 use std::net::Net;
 use std::process::ExitCode;
 use std::rt::{Clock, Env, Files};
 use std::{env, io};
+use terminals::{receive, send};
 
 fn main(rt: HostRuntime) -> ExitCode {
     ExitCode::from(run_words(&rt, &rt))
@@ -67,6 +72,25 @@ fn run_words<R: Print + Eprint + Input + Env + AllocGlobal, N: Net + Files + Clo
             allowed(settings),
         ),
         Request::Serve(path) => serve_file(rt, system, path).code(),
+        Request::Send(options, files) => send(
+            rt,
+            system,
+            SendOptions {
+                settings: allowed(options.settings),
+                ..options
+            },
+            files.as_slice(),
+        )
+        .code(),
+        Request::Receive(options) => receive(
+            rt,
+            system,
+            ReceiveOptions {
+                settings: allowed(options.settings),
+                ..options
+            },
+        )
+        .code(),
     }
 }
 

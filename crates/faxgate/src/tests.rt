@@ -133,10 +133,12 @@ const ANSWERS: &[(&[&str], &str, u8, &str)] = &[
     (&["faxgate", "capture", "-h"], "", 0, CAPTURE_HELP),
     (&["faxgate", "help", "loop"], "", 0, LOOP_HELP),
     (&["faxgate", "serve", "--help"], "", 0, SERVE_HELP),
+    (&["faxgate", "send", "--help"], "", 0, SEND_HELP),
+    (&["faxgate", "receive", "--help"], "", 0, RECEIVE_HELP),
 ];
 
 const HELP: &str = "\
-Serves the lines of a fax gateway, reads and writes its pages, plays what came to one, from a capture too, and sends a page through one
+Serves the lines of a fax gateway, reads and writes its pages, plays what came to one, from a capture too, sends a page through one, and sends and receives pages as a machine does
 
 Usage: faxgate <COMMAND>
 
@@ -146,6 +148,8 @@ Commands:
   capture  Read a capture made at a gateway (pcap or pcapng), and print the script of its call for faxgate trace: the ring, the datagrams of both machines at their ticks, and ticks until 40 s behind the last
   loop     Send a page from one machine through a gateway to another, over UDP on this host: read its octets as hex text, and print how the job ended and the rows that were confirmed
   serve    Serve the lines of a configuration in real time, over UDP. Words come on the control socket, or on standard input: ring LINE [TAG], peer LINE calling|called ADDRESS, report LINE, status, metrics, events, stop. Prints what happens as lines of JSON where there is no control socket
+  send     Call a T.38 machine over UDP and send it the page in each file, as a machine does, and print how the call ended: job, call, width, resolution, pages, pages delivered, outcome
+  receive  Answer calls of T.38 machines over UDP, one after another, as a machine does, and write each page that is confirmed as a picture (PBM), into a file that was not there
   help     Print this message or the help of the given subcommand(s)
 
 Options:
@@ -213,6 +217,55 @@ Options:
   -h, --help           Print help
 ";
 
+const SEND_HELP: &str = "\
+Call a T.38 machine over UDP and send it the page in each file, as a machine does, and print how the call ended: job, call, width, resolution, pages, pages delivered, outcome
+
+Usage: faxgate send [OPTIONS] --to <ADDRESS> <FILE>...
+
+Arguments:
+  <FILE>...  A page: a picture (PBM) of 1728, 2048 or 2432 elements a row, or the octets of a page as hex text, of that width and coding
+
+Options:
+      --to <ADDRESS>          The machine that is called, as 192.0.2.10:6000
+      --on <ADDRESS>          The address from which it is called [default: any]
+      --width <ELEMENTS>      The elements of each row [default: 1728] [possible values: 1728, 2048, 2432]
+      --coding <CODING>       One-dimensional lines (mh), or two-dimensional ones among them (mr) [default: mh] [possible values: mh, mr]
+      --fine                  The fine resolution, of pictures too
+      --redundancy <PACKETS>  How many of the packets before its own each datagram has, from 0 to 8 [default: 3]
+      --preamble <MS>         How long the packet behind a preamble waits, from 40 to 2000 milliseconds: 1000 where a machine stands behind a media gateway [default: 40]
+      --repeat <POLICY>       How often the last datagram is sent again while no newer one is: six times within 1.3 s (full), once (last), or never (none) [default: full] [possible values: full, last, none]
+  -h, --help                  Print help
+
+Statuses:
+  0  all pages were delivered
+  1  a file has no page, or there are more than 999
+  2  the command line was refused
+  3  memory was wanted and refused
+  4  a file could not be read, an address or a socket failed, or the output
+  5  the call ended, and not all pages were delivered
+";
+
+const RECEIVE_HELP: &str = "\
+Answer calls of T.38 machines over UDP, one after another, as a machine does, and write each page that is confirmed as a picture (PBM), into a file that was not there
+
+Usage: faxgate receive [OPTIONS] --on <ADDRESS>
+
+Options:
+      --on <ADDRESS>          The address at which calls come, as 0.0.0.0:6000
+      --pages <PREFIX>        How the names of pictures begin: PREFIX-CALL-PAGE.pbm, calls from 0 on, pages from 1 on [default: page]
+      --calls <N>             How many calls are answered [default: all]
+      --redundancy <PACKETS>  How many of the packets before its own each datagram has, from 0 to 8 [default: 3]
+      --preamble <MS>         How long the packet behind a preamble waits, from 40 to 2000 milliseconds: 1000 where a machine stands behind a media gateway [default: 40]
+      --repeat <POLICY>       How often the last datagram is sent again while no newer one is: six times within 1.3 s (full), once (last), or never (none) [default: full] [possible values: full, last, none]
+  -h, --help                  Print help
+
+Statuses:
+  0  so many calls were answered, whatever they brought
+  2  the command line was refused
+  3  memory was wanted and refused
+  4  an address or a socket failed, or a page could not be written: it was not confirmed
+";
+
 const LOOP_HELP: &str = "\
 Send a page from one machine through a gateway to another, over UDP on this host: read its octets as hex text, and print how the job ended and the rows that were confirmed
 
@@ -229,7 +282,7 @@ const REFUSALS: &[(&[&str], &str)] = &[
     (
         &["faxgate"],
         "error: 'faxgate' requires a subcommand but one was not provided
-  [subcommands: page, trace, capture, loop, serve, help]
+  [subcommands: page, trace, capture, loop, serve, send, receive, help]
 
 Usage: faxgate <COMMAND>
 ",

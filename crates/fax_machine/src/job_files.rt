@@ -1,0 +1,94 @@
+//! The pages in files, as a job.
+use crate::run_fault::RunFault;
+use fax_command::{
+    InputError, InputFault, Output, PageOptions, StdSource, page_of_hex, read_input,
+};
+use fax_jobs::Job;
+use fax_pagestore::{Coding, Format, PackedRows, Page};
+use fax_pbm::{PbmFault, read_pbm};
+use std::alloc::Global;
+use std::fs;
+use std::rt::Files;
+
+/// The most pages of a job.
+const MOST_PAGES: u32 = 999;
+
+/// How pages in files are read.
+#[derive(Clone, Copy, Debug)]
+pub(crate) struct Reading {
+    /// The width and the resolution of pages in hex text. Of a picture the resolution alone is taken.
+    pub format: Format,
+    /// How the pages in hex text are coded.
+    pub coding: Coding,
+}
+
+/// The job of the pages in these files, in their order.
+pub(crate) fn read_job<'a, H: Files>(
+    host: &H,
+    alloc: Global,
+    reading: Reading,
+    files: &[&'a str],
+) -> Result<Job<PackedRows>, RunFault<'a>> {
+    let Some((first, others)) = files.split_first() else {
+        return Err(RunFault::PageCount);
+    };
+    let page = read_file(host, alloc, reading, first)?;
+    let Ok(mut job) = Job::of_page(alloc, 0, page) else {
+        return Err(RunFault::NoMemory);
+    };
+    for file in others {
+        if job.page_count() >= MOST_PAGES {
+            return Err(RunFault::PageCount);
+        }
+        let page = read_file(host, alloc, reading, file)?;
+        if job.add_page(page).is_err() {
+            return Err(RunFault::NoMemory);
+        }
+    }
+    Ok(job)
+}
+
+/// The page in a file.
+fn read_file<'a, H: Files>(
+    host: &H,
+    alloc: Global,
+    reading: Reading,
+    path: &'a str,
+) -> Result<Page<PackedRows>, RunFault<'a>> {
+    let file = match fs::open(host, path) {
+        Ok(file) => file,
+        Err(error) => return Err(RunFault::File(path, error)),
+    };
+    match read_input(alloc, &mut StdSource::new(file)) {
+        Ok(octets) => page_in(alloc, reading, path, octets),
+        Err(InputError::NoMemory) => Err(RunFault::NoMemory),
+        Err(error) => Err(RunFault::Unread(path, error)),
+    }
+}
+
+/// The page that octets of a file mean: a P4 picture, or hex text.
+fn page_in<'a>(
+    alloc: Global,
+    reading: Reading,
+    path: &'a str,
+    octets: Vec<u8>,
+) -> Result<Page<PackedRows>, RunFault<'a>> {
+    if octets.as_slice().starts_with(b"P4") {
+        return match read_pbm(alloc, octets.as_slice(), reading.format.fine) {
+            Ok(page) => Ok(page),
+            Err(PbmFault::NoMemory) => Err(RunFault::NoMemory),
+            Err(fault) => Err(RunFault::Picture(path, fault)),
+        };
+    }
+    let options = PageOptions {
+        format: reading.format,
+        coding: reading.coding,
+        least_bits: 0,
+        output: Output::Runs,
+    };
+    match page_of_hex(alloc, octets, options) {
+        Ok(page) => Ok(page),
+        Err(InputFault::NoMemory) => Err(RunFault::NoMemory),
+        Err(fault) => Err(RunFault::Text(path, fault)),
+    }
+}

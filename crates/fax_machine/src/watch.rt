@@ -1,0 +1,32 @@
+//! Who watches a terminal on the standard error.
+use libc::{STDERR_FILENO, isatty};
+use std::fmt::Display;
+
+/// Who watches a terminal on the standard error. Nothing depends on what is told.
+#[derive(Drop)]
+pub struct Watch<'a, E: Eprint> {
+    stderr: &'a E,
+    is_watched: bool,
+}
+
+impl<'a, E: Eprint> Watch<'a, E> {
+    /// Progress is told where the standard error is a screen.
+    pub fn new(stderr: &'a E) -> Self {
+        Watch {
+            stderr,
+            is_watched: isatty(STDERR_FILENO) == 1,
+        }
+    }
+
+    /// Tells how far a call is, to a screen alone.
+    pub(crate) fn tell_progress(&self, words: &str, number: u32) {
+        if self.is_watched {
+            let _ = self.stderr.eprintln(format_args!("{words} {number}"));
+        }
+    }
+
+    /// Tells what went wrong, whoever watches.
+    pub(crate) fn tell_trouble<D: Display + Drop>(&self, trouble: D) {
+        let _ = self.stderr.eprintln(format_args!("faxgate: {trouble}"));
+    }
+}

@@ -1,0 +1,2 @@
+pub mod ReceivingLemmas
+pub mod SendingLemmas

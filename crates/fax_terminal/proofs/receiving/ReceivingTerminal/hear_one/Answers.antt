@@ -1,0 +1,9 @@
+use Rattle.std.proofs.Common.{sym, subst}
+use Rattle.fax_answer.specs.Reached.{Kept}
+use Rattle.fax_terminal.specs.Calls.{IsReceiving}
+use Rattle.fax_terminal.proofs.ReceivingLemmas.{IsReceiving-heard}
+use Rattle.fax_terminal.proofs.receiving.ReceivingTerminal.hear_one.Goals as goal
+
+pub returns : goal.returns
+returns g c = λ pause told given is.
+    IsReceiving-heard pause told given _ c.args.now _ _ c.in_ok-slots.ensures.heard (subst (λ (k : Kept). IsReceiving pause told k given) (sym c.self.view_is) is)

@@ -1,0 +1,23 @@
+use Rattle.fax_terminal.proofs.ReceivingLemmas.{KeepsConfirmed-receiving, KeepsWholeCall-receiving}
+use Rattle.fax_terminal.proofs.receiving.receive_call.Goals as goal
+
+pub loop-init : goal.loop-init
+loop-init g c = c.in_ok-hear_one.ensures _ _ _ (c.in_ok-terminal.ensures _)
+
+pub returns-in_default-wait-clause-kept : goal.returns-in_default-wait-clause-kept
+returns-in_default-wait-clause-kept g c = KeepsConfirmed-receiving _ _ _ _ c.loop.invariant
+
+pub returns-in_err-turn-clause-kept : goal.returns-in_err-turn-clause-kept
+returns-in_err-turn-clause-kept g c = KeepsConfirmed-receiving _ _ _ _ (c.in_err-turn.ensures.call _ _ c.loop.invariant)
+
+pub returns-then-is_over-clause-kept : goal.returns-then-is_over-clause-kept
+returns-then-is_over-clause-kept g c = KeepsConfirmed-receiving _ _ _ _ (c.in_ok-turn.ensures.call _ _ c.loop.invariant)
+
+pub returns-then-is_over-clause-whole : goal.returns-then-is_over-clause-whole
+returns-then-is_over-clause-whole g c = KeepsWholeCall-receiving _ _ _ _ (c.in_ok-turn.ensures.call _ _ c.loop.invariant) (c.is_over.ensures.0 c.if-is_over.true)
+
+pub loop-preserved : goal.loop-preserved
+loop-preserved g c = c.in_ok-turn.ensures.call _ _ c.loop.invariant
+
+pub returns-clause-kept : goal.returns-clause-kept
+returns-clause-kept g c = KeepsConfirmed-receiving _ _ _ _ c.loop.invariant

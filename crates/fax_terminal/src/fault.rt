@@ -1,0 +1,29 @@
+//! Why a terminal goes no further.
+use crate::keeper::KeepFault;
+use fax_bits::NoMemory;
+use thiserror::Error;
+
+/// Why a terminal goes no further in a call.
+#[derive(Clone, Copy, PartialEq, Eq, Debug, Error)]
+pub enum TerminalFault {
+    #[error("no memory")]
+    NoMemory,
+    /// There is no time any more.
+    #[error("no clock")]
+    Clock,
+    /// A page that was to be confirmed was not kept.
+    #[error("a page was not kept")]
+    Keeping,
+}
+
+impl From<NoMemory> for TerminalFault {
+    fn from(_: NoMemory) -> Self {
+        TerminalFault::NoMemory
+    }
+}
+
+impl From<KeepFault> for TerminalFault {
+    fn from(_: KeepFault) -> Self {
+        TerminalFault::Keeping
+    }
+}

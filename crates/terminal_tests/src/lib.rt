@@ -1,0 +1,7 @@
+//! Tests of terminals, and of the pictures that they send and keep.
+#![tactic(auto)]
+
+#[cfg(test)]
+mod pictures;
+#[cfg(test)]
+mod terminals;
