@@ -359,6 +359,22 @@ Usage: faxgate trace [OPTIONS]
 ",
     ),
     (
+        &["faxgate", "send", "--to", "192.0.2.10:6000"],
+        "error: the following required arguments were not provided:
+  <FILE>...
+
+Usage: faxgate send --to <ADDRESS> <FILE>...
+",
+    ),
+    (
+        &["faxgate", "receive", "--calls", "1"],
+        "error: the following required arguments were not provided:
+  --on <ADDRESS>
+
+Usage: faxgate receive --on <ADDRESS> --calls <N>
+",
+    ),
+    (
         &["faxgate", "loop", "--redundancy", "9"],
         "error: invalid value '9' for '--redundancy <PACKETS>': 9 is not in 0..=8
 ",
@@ -425,6 +441,32 @@ fn what_is_told_of_a_configuration(rt: HostRuntime) -> Result<(), Fail> {
         assert_eq!(rt; told.as_slice(), wanted.as_bytes(), "at {config}");
     }
     fs::remove_file(&rt, "refused.toml")?;
+    let desk = Desk::new(rt.alloc(), &words, b"");
+    assert_eq!(rt; run_words(&desk, &rt), 4);
+    Ok(())
+}
+
+/// Files that hold no page, and what is told behind the name of the file.
+const NO_PAGES: &[(&str, &str)] = &[
+    ("P4\n1729 1\n", "a width that no page has"),
+    ("P4\n1728 2\n ", "a picture that is cut"),
+    ("page", "neither a picture nor hex text"),
+    ("ff", "no picture, and no page: no EOL"),
+];
+
+#[test]
+fn what_is_told_of_a_file(rt: HostRuntime) -> Result<(), Fail> {
+    let words = ["faxgate", "send", "--to", "127.0.0.1:9", "no-page"];
+    for (octets, wanted) in NO_PAGES {
+        fs::write(&rt, "no-page", *octets)?;
+        let desk = Desk::new(rt.alloc(), &words, b"");
+        assert_eq!(rt; run_words(&desk, &rt), 1, "at {octets}");
+        let (printed, told) = desk.into_texts();
+        assert!(rt; printed.is_empty(), "at {octets}");
+        let wanted = format!(in rt.alloc(); "faxgate: no-page: {wanted}\n")?;
+        assert_eq!(rt; told.as_slice(), wanted.as_bytes(), "at {octets}");
+    }
+    fs::remove_file(&rt, "no-page")?;
     let desk = Desk::new(rt.alloc(), &words, b"");
     assert_eq!(rt; run_words(&desk, &rt), 4);
     Ok(())
