@@ -2,7 +2,7 @@
 RT ?= rt
 PROGRAM = crates/faxgate/out/faxgate
 
-.PHONY: all demo test wrong-bodies format memory bench load interop serve-interop tables check-docs
+.PHONY: all demo test wrong-bodies format memory bench interop serve-interop tables check-docs
 
 # Proves and builds the program, and says where it lies.
 all:
@@ -77,15 +77,6 @@ bench: all bench/example bench/bench
 	bench/gateway $(PROGRAM) bench/pages/text-1728.mr
 	cd crates/codec_tests && $(RT) test > /dev/null
 	FAX_PAGE=bench/pages/text-1728.mr crates/codec_tests/out/codec_tests_tests pagestore::speed::times_pieces
-
-# Many lines of `faxgate serve` at once, in real time: see docs/PERFORMANCE.md. It wants a C compiler and Python 3, and more
-# than 8,000 open files (`ulimit -n`).
-bench/load: bench/load.c
-	$(CC) -O2 -Wall -Wextra -o $@ bench/load.c -lpthread
-
-load: all bench/load
-	bench/gateway $(PROGRAM) bench/pages/text-1728.mr --call > bench/call.trace
-	for lines in 100 1000 2000; do bench/load $(PROGRAM) bench/call.trace $$lines || exit 1; done
 
 # Calls between two T.38 terminals of spandsp through the gateway: see docs/INTEROP.md. It wants a C compiler, libspandsp-dev
 # and libtiff-dev, and some minutes.
