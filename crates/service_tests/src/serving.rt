@@ -21,8 +21,8 @@ fn turns_are_due_each_millisecond(rt: HostRuntime) {
         (8, 5, 0),
         (1004, 1000, 0),
         (1005, 1000, 0),
-        (2007, 1001, 1),
-        (2008, 0, 1),
+        (1007, 1001, 1),
+        (1008, 0, 1),
     ] {
         assert_eq!(rt; schedule.begin(now), late, "at {now}");
         assert_eq!(rt; schedule.left(now), left, "at {now}");
