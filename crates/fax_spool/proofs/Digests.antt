@@ -23,3 +23,10 @@ sealed_parts octets kept is =
     ap (λ (l : List ℕ). take 32 l) is
     ∙ take_at (sha256 kept) kept 32 (length-sha256 kept)
     ∙ sym (ap (λ (l : List ℕ). sha256 l) (ap (λ (l : List ℕ). drop 32 l) is ∙ drop_at (sha256 kept) kept 32 (length-sha256 kept)))
+
+-- a seal is that of one record alone
+pub seals_are_one : (a b : List ℕ) → sealed a ≡ sealed b → a ≡ b
+seals_are_one a b same =
+    sym (drop_at (sha256 a) a 32 (length-sha256 a))
+    ∙ ap (λ (l : List ℕ). drop 32 l) same
+    ∙ drop_at (sha256 b) b 32 (length-sha256 b)

@@ -4,3 +4,6 @@ mod Recovery
 mod Numbers
 mod Shorts
 mod Digests
+mod SpoolSteps
+mod Loops
+mod Shares

@@ -3,3 +3,6 @@ pub mod Settled
 pub mod Found
 pub mod Seals
 pub mod RecordOctets
+pub mod KeptRecords
+pub mod Waits
+pub mod Spools

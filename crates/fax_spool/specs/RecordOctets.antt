@@ -19,10 +19,11 @@ pub record PageValue : Type 0 where
   pub tag : List ℕ
   pub text : List ℕ
 
--- a job that ended: in which life, its report, and the name of its line
+-- a job that ended: in which life, its report, which page of the call was its first, and the name of its line
 pub record EndedValue : Type 0 where
   pub life : ℕ
   pub call : ℕ
+  pub first : ℕ
   pub pages : ℕ
   pub delivered : ℕ
   pub format : Format
@@ -52,4 +53,8 @@ abbrev pub ended_octets : EndedValue → List ℕ
 ended_octets e =
     2 ∷ to_be_bytes w32 e.life ++ to_be_bytes w32 e.call ++ to_be_bytes w32 e.pages ++ to_be_bytes w32 e.delivered
     ++ width_octet e.format.width ∷ flag_octet e.format.fine ∷ outcome_number e.outcome
-    ∷ short_octets e.line
+    ∷ to_be_bytes w32 e.first ++ short_octets e.line
+
+-- the number of an epoch
+abbrev pub epoch_octets : ℕ → List ℕ
+epoch_octets number = 3 ∷ to_be_bytes w32 number

@@ -3,12 +3,20 @@
 #![tactic(auto)]
 
 mod file;
+mod kept_record;
+pub mod laws;
+mod page_name;
 mod record;
 mod sealing;
+mod spool;
+mod waiting;
 
 pub use file::{Found, RecordFile, recover};
+pub use kept_record::{KeptRecord, read_kept_record};
 pub use record::{
     EndedRecord, PageRecord, read_ended_record, read_page_record, write_ended_record,
     write_page_record,
 };
 pub use sealing::{seal, unseal};
+pub use spool::Spool;
+pub use waiting::{first_epoch, read_kept_records, waiting_pages};

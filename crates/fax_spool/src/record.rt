@@ -46,6 +46,24 @@ impl<'a> Model for PageRecord<'a> {
     ghost view = { λ p. record { life = p.life; call = p.call; number = p.number; format = p.format; closes = p.closes; line = p.line.now; tag = p.tag.now; text = p.text.now } };
 }
 
+impl<'a> PageRecord<'a> {
+    /// The same record once more, of the same octets.
+    pub fn copy(&self) -> PageRecord<'a>
+        ensures { result ≡ self.now }
+    {
+        PageRecord {
+            life: self.life,
+            call: self.call,
+            number: self.number,
+            format: self.format,
+            closes: self.closes,
+            line: self.line,
+            tag: self.tag,
+            text: self.text,
+        }
+    }
+}
+
 /// A job that ended.
 #[derive(Drop)]
 pub struct EndedRecord<'a> {
@@ -53,6 +71,8 @@ pub struct EndedRecord<'a> {
     pub life: u32,
     /// The number of the call that they came in.
     pub call: u32,
+    /// Which page of the call its first page is, counted from 1.
+    pub first: u32,
     /// How many pages it had.
     pub pages: u32,
     /// How many of them the called machine confirmed.
@@ -70,7 +90,7 @@ impl<'a> Model for EndedRecord<'a> {
 
     ghost Value = { EndedValue };
 
-    ghost view = { λ e. record { life = e.life; call = e.call; pages = e.pages; delivered = e.delivered; format = e.format; outcome = e.outcome; line = e.line.now } };
+    ghost view = { λ e. record { life = e.life; call = e.call; first = e.first; pages = e.pages; delivered = e.delivered; format = e.format; outcome = e.outcome; line = e.line.now } };
 }
 
 /// The octets of a page's record.
@@ -97,7 +117,7 @@ pub fn write_ended_record(alloc: Global, ended: &EndedRecord<'_>) -> Result<Vec<
     requires line { length ended.now.line < 256 }
     ensures octets { IfOk result (λ octets. octets.items ≡ ended_octets ended.now) }
 {
-    let mut octets = Vec::with_capacity(alloc, ended.line.len() + 21)?;
+    let mut octets = Vec::with_capacity(alloc, ended.line.len() + 25)?;
     octets.push(ENDED)?;
     octets.extend_from_slice(&ended.life.to_be_bytes())?;
     octets.extend_from_slice(&ended.call.to_be_bytes())?;
@@ -105,6 +125,7 @@ pub fn write_ended_record(alloc: Global, ended: &EndedRecord<'_>) -> Result<Vec<
     octets.extend_from_slice(&ended.delivered.to_be_bytes())?;
     push_format(&mut octets, ended.format)?;
     octets.push(ended.outcome.number())?;
+    octets.extend_from_slice(&ended.first.to_be_bytes())?;
     push_short(&mut octets, ended.line)?;
     Ok(octets)
 }
@@ -181,10 +202,11 @@ pub fn read_ended_record(octets: &[u8]) -> Option<EndedRecord<'_>>
         ] => {
             let format = format_of(*width, *fine)?;
             let outcome = outcome_of(*outcome)?;
-            let line = read_last_short(rest)?;
+            let (first, line) = read_first_and_line(rest)?;
             Some(EndedRecord {
                 life: number_of(*l0, *l1, *l2, *l3),
                 call: number_of(*c0, *c1, *c2, *c3),
+                first,
                 pages: number_of(*p0, *p1, *p2, *p3),
                 delivered: number_of(*d0, *d1, *d2, *d3),
                 format,
@@ -247,6 +269,19 @@ fn read_texts(octets: &[u8]) -> Option<(&[u8], &[u8], &[u8])>
     Some((line, tag, text))
 }
 
+/// A number and a name, with nothing behind them.
+fn read_first_and_line(octets: &[u8]) -> Option<(u32, &[u8])>
+    ensures { MatchOption result ((first : ℕ) (name : List ℕ) → octets.now ≢ to_be_bytes w32 first ++ short_octets name) (λ p. octets.now ≡ to_be_bytes w32 p.0 ++ short_octets p.1.now) }
+{
+    match octets {
+        [f0, f1, f2, f3, rest @ ..] => {
+            let line = read_last_short(rest)?;
+            Some((number_of(*f0, *f1, *f2, *f3), line))
+        }
+        _ => None,
+    }
+}
+
 /// A name behind its length, with nothing behind it.
 fn read_last_short(octets: &[u8]) -> Option<&[u8]>
     ensures { MatchOption result ((name : List ℕ) → octets.now ≢ short_octets name) (λ name. octets.now ≡ short_octets name.now) }
@@ -260,7 +295,7 @@ fn read_last_short(octets: &[u8]) -> Option<&[u8]>
 
 /// A number of four octets, the high one first.
 #[tactic(auto, using(crate::proofs::Numbers::bytes_back))]
-fn number_of(first: u8, second: u8, third: u8, fourth: u8) -> u32
+pub(crate) fn number_of(first: u8, second: u8, third: u8, fourth: u8) -> u32
     ensures { to_be_bytes w32 result ≡ first ∷ second ∷ third ∷ fourth ∷ [] }
 {
     u32::from_be_bytes([first, second, third, fourth])

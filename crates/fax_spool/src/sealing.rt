@@ -10,13 +10,13 @@ use std::alloc::{AllocError, Global};
 const DIGEST_OCTETS: usize = 32;
 
 /// A record behind its digest of 32 octets.
-pub fn seal(alloc: Global, record: &[u8]) -> Result<Vec<u8>, AllocError>
-    ensures sealed { IfOk result (λ octets. octets.items ≡ sealed record.now) }
+pub fn seal(alloc: Global, kept: &[u8]) -> Result<Vec<u8>, AllocError>
+    ensures sealed { IfOk result (λ octets. octets.items ≡ sealed kept.now) }
 {
-    let digest = Sha256::digest(record);
+    let digest = Sha256::digest(kept);
     let mut octets = Vec::with_capacity(alloc, DIGEST_OCTETS)?;
     octets.extend_from_slice(&digest)?;
-    octets.extend_from_slice(record)?;
+    octets.extend_from_slice(kept)?;
     Ok(octets)
 }
 
@@ -28,11 +28,11 @@ pub fn unseal(octets: &[u8]) -> Option<&[u8]>
     if octets.len() < DIGEST_OCTETS {
         return None;
     }
-    let (digest, record) = octets.split_at(DIGEST_OCTETS);
-    if !is_digest_of(digest, record) {
+    let (digest, kept) = octets.split_at(DIGEST_OCTETS);
+    if !is_digest_of(digest, kept) {
         return None;
     }
-    Some(record)
+    Some(kept)
 }
 
 /// Whether octets are the digest of others.

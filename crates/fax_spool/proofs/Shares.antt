@@ -1,0 +1,35 @@
+-- What waits by the records of two files.
+use Rattle.std.proofs.Common.{◌≡◌, Bool, true, false, not, cond, List, [], ◌∷◌, ◌++◌, refl, sym, ◌∙◌, ap, append_assoc}
+use Rattle.std.proofs.lemmas.List.{append-nil}
+use Rattle.std.specs.List.{filter}
+use Rattle.fax_spool.specs.RecordOctets.{PageValue, EndedValue}
+use Rattle.fax_spool.specs.Waits.{name_of, ends, without, left_of, after, left_behind, waiting_behind, waiting}
+use Rattle.fax_spool.specs.declared.kept_record.KeptRecord.{KeptRecord}
+use Rattle.fax_spool.specs.declared.kept_record.KeptRecord.TheVariants.{Page, Ended, Epoch, Damaged}
+
+without-append : (e : EndedValue) (a b : List PageValue) → without e (a ++ b) ≡ without e a ++ without e b
+without-append e [] b = refl
+without-append e (p ∷ a) b =
+    elim (ends e (name_of p)) as (λ t. cond (not t) (p ∷ without e (a ++ b)) (without e (a ++ b)) ≡ cond (not t) (p ∷ without e a) (without e a) ++ without e b) [
+      | true ↦ without-append e a b
+      | false ↦ ap (λ (l : List PageValue). p ∷ l) (without-append e a b)
+    ]
+
+after-append : (a b : List PageValue) (r : KeptRecord) → after (a ++ b) r ≡ left_of a r ++ after b r
+after-append a b (Page page) = append_assoc a b (page ∷ [])
+after-append a b (Ended ended) = without-append ended a b
+after-append a b (Epoch number) = refl
+after-append a b Damaged = refl
+
+splits : (a b : List PageValue) (records : List KeptRecord) → waiting_behind (a ++ b) records ≡ left_behind a records ++ waiting_behind b records
+splits a b [] = refl
+splits a b (r ∷ records) =
+    ap (λ (l : List PageValue). waiting_behind l records) (after-append a b r) ∙ splits (left_of a r) (after b r) records
+
+follows : (pages : List PageValue) (olds news : List KeptRecord) → waiting_behind pages (olds ++ news) ≡ waiting_behind (waiting_behind pages olds) news
+follows pages [] news = refl
+follows pages (r ∷ olds) news = follows (after pages r) olds news
+
+pub shares : (olds news : List KeptRecord) → waiting (olds ++ news) ≡ left_behind (waiting olds) news ++ waiting news
+shares olds news =
+    follows [] olds news ∙ ap (λ (l : List PageValue). waiting_behind l news) (sym (append-nil (waiting olds))) ∙ splits (waiting olds) [] news

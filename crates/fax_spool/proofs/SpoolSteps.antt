@@ -1,0 +1,198 @@
+-- What the calls of a spool make of its records.
+use Rattle.std.proofs.Common.{◌≡◌, ◌⊎◌, inl, inr, ℕ, ◌+◌, ◌<◌, ◌≤◌, Bool, true, false, not, cond, List, [], ◌∷◌, ◌++◌, length, map, max, refl, sym, ◌∙◌, ap, subst, arith}
+use Rattle.std.specs.List.{filter}
+use Rattle.fax_spool.specs.Records.{blocks, Stands}
+use Rattle.fax_spool.specs.Settled.{IsSettled}
+use Rattle.fax_spool.specs.RecordOctets.{PageValue, EndedValue}
+use Rattle.fax_spool.specs.KeptRecords.{IsReadAs, AreReadAs}
+use Rattle.fax_spool.specs.Waits.{PageName, name_of, ends, without, left_of, after, left_behind, waiting_behind, waiting}
+use Rattle.fax_spool.specs.Spools.{epoch_of, greatest_behind, greatest_epoch, Tells, MayLeaveBoth, Keeps, NoneIsLeft, TellBoth}
+use Rattle.fax_spool.specs.declared.file.RecordFile.{RecordFile}
+use Rattle.fax_spool.specs.declared.spool.Spool.{Spool}
+use Rattle.fax_spool.specs.declared.kept_record.KeptRecord.{KeptRecord}
+use Rattle.fax_spool.specs.declared.kept_record.KeptRecord.TheVariants.{Page, Ended, Epoch, Damaged}
+use Rattle.fax_spool.proofs.Steps.{rests, none_open}
+
+pub read_push : (items : List (List ℕ)) (records : List KeptRecord) (item : List ℕ) (r : KeptRecord) → AreReadAs items records → IsReadAs item r → AreReadAs (items ++ item ∷ []) (records ++ r ∷ [])
+read_push [] [] item r are is = (is, tt)
+read_push [] (q ∷ records) item r are is = absurd are
+read_push (i ∷ items) [] item r are is = absurd are
+read_push (i ∷ items) (q ∷ records) item r are is = (are.0, read_push items records item r are.1 is)
+
+pub read_none : (records : List KeptRecord) → AreReadAs [] records → records ≡ []
+read_none [] are = refl
+read_none (r ∷ records) are = absurd are
+
+pub left_push : (pages : List PageValue) (records : List KeptRecord) (r : KeptRecord) → left_behind pages (records ++ r ∷ []) ≡ left_of (left_behind pages records) r
+left_push pages [] r = refl
+left_push pages (q ∷ records) r = left_push (left_of pages q) records r
+
+pub waiting_push : (pages : List PageValue) (records : List KeptRecord) (r : KeptRecord) → waiting_behind pages (records ++ r ∷ []) ≡ after (waiting_behind pages records) r
+waiting_push pages [] r = refl
+waiting_push pages (q ∷ records) r = waiting_push (after pages q) records r
+
+none_left_of : (r : KeptRecord) → left_of [] r ≡ []
+none_left_of (Page page) = refl
+none_left_of (Ended ended) = refl
+none_left_of (Epoch number) = refl
+none_left_of Damaged = refl
+
+pub none_left : (records : List KeptRecord) → left_behind [] records ≡ []
+none_left [] = refl
+none_left (r ∷ records) = ap (λ (l : List PageValue). left_behind l records) (none_left_of r) ∙ none_left records
+
+names_without : (e : EndedValue) (pages : List PageValue) → map name_of (without e pages) ≡ filter (λ (n : PageName). not (ends e n)) (map name_of pages)
+names_without e [] = refl
+names_without e (p ∷ pages) =
+    elim (ends e (name_of p)) as (λ b. map name_of (cond (not b) (p ∷ without e pages) (without e pages)) ≡ cond (not b) (name_of p ∷ filter (λ (n : PageName). not (ends e n)) (map name_of pages)) (filter (λ (n : PageName). not (ends e n)) (map name_of pages))) [
+      | true ↦ names_without e pages
+      | false ↦ ap (λ (l : List PageName). name_of p ∷ l) (names_without e pages)
+    ]
+
+-- the names of those that wait still, where a job ended
+pub names_left : (e : EndedValue) (names : List PageName) (pages : List PageValue) → names ≡ map name_of pages → filter (λ (n : PageName). not (ends e n)) names ≡ map name_of (without e pages)
+names_left e names pages are = ap (λ (l : List PageName). filter (λ (n : PageName). not (ends e n)) l) are ∙ sym (names_without e pages)
+
+pub no_names : (pages : List PageValue) → map name_of pages ≡ [] → pages ≡ []
+no_names [] none = refl
+no_names (p ∷ pages) none = cc none
+
+epoch_push : (records : List KeptRecord) (r : KeptRecord) (most : ℕ) → epoch_of records ≤ most → epoch_of (r ∷ []) ≤ most → epoch_of (records ++ r ∷ []) ≤ most
+epoch_push [] r most was is = is
+epoch_push (Page page ∷ records) r most was is = was
+epoch_push (Ended ended ∷ records) r most was is = was
+epoch_push (Epoch number ∷ records) r most was is = was
+epoch_push (Damaged ∷ records) r most was is = was
+
+grows : (most : ℕ) (records : List KeptRecord) → most ≤ greatest_behind most records
+grows most [] = omega arith
+grows most (Page page ∷ records) = grows most records
+grows most (Ended ended ∷ records) = grows most records
+grows most (Epoch number ∷ records) = omega (arith, grows (max most number) records)
+grows most (Damaged ∷ records) = grows most records
+
+first_within : (records : List KeptRecord) → epoch_of records ≤ greatest_epoch records
+first_within [] = omega arith
+first_within (Page page ∷ records) = omega arith
+first_within (Ended ended ∷ records) = omega arith
+first_within (Epoch number ∷ records) = omega (arith, grows (max 0 number) records)
+first_within (Damaged ∷ records) = omega arith
+
+-- two files that were recovered
+pub begun : {D : Type 0} (seen : D → List ℕ) (may_leave : D → List ℕ → Type 0) (is_usable : D → Bool) (spool : Spool D) (olds news : List KeptRecord) (older_items newer_items : List (List ℕ))
+    → IsSettled seen may_leave is_usable spool.older.disk spool.older.end older_items → AreReadAs older_items olds
+    → IsSettled seen may_leave is_usable spool.newer.disk spool.newer.end newer_items → AreReadAs newer_items news
+    → spool.older_pages.items ≡ map name_of (left_behind (waiting olds) news) → spool.newer_pages.items ≡ map name_of (waiting news)
+    → greatest_epoch news ≤ spool.epoch → Keeps seen may_leave is_usable spool olds news
+begun seen may_leave is_usable spool olds news older_items newer_items older olds_read newer news_read older_names newer_names most = record {
+  older_items = older_items;
+  newer_items = newer_items;
+  older = older;
+  newer = newer;
+  older_read = olds_read;
+  newer_read = news_read;
+  older_waits = older_names;
+  newer_waits = newer_names;
+  epoch = omega (arith, most, first_within news);
+}
+
+module _ {D : Type 0} (seen : D → List ℕ) (may_leave : D → List ℕ → Type 0) (is_usable : D → Bool) (old new : Spool D) (olds news : List KeptRecord) (k : Keeps seen may_leave is_usable old olds news) where
+  older_tells : (c : List ℕ) → may_leave old.older.disk c → Tells c olds
+  older_tells c left = record { items = k.older_items; stands = rests _ _ _ _ _ _ k.older c left; read = k.older_read }
+
+  newer_tells : (c : List ℕ) → may_leave old.newer.disk c → Tells c news
+  newer_tells c left = record { items = k.newer_items; stands = rests _ _ _ _ _ _ k.newer c left; read = k.newer_read }
+
+  -- a call that does nothing to the files
+  pub at_rest : (older newer : List ℕ) → MayLeaveBoth may_leave old older newer → TellBoth older newer olds news
+  at_rest older newer left = (older_tells older left.0, newer_tells newer left.1)
+
+  -- one more record
+  pub keeps_more : (item : List ℕ) (r : KeptRecord) → IsReadAs item r → new.older ≡ old.older
+      → IsSettled seen may_leave is_usable new.newer.disk new.newer.end (k.newer_items ++ item ∷ [])
+      → new.older_pages.items ≡ map name_of (left_of (left_behind (waiting olds) news) r)
+      → new.newer_pages.items ≡ map name_of (after (waiting news) r)
+      → old.epoch ≤ new.epoch → epoch_of (r ∷ []) ≤ new.epoch → Keeps seen may_leave is_usable new olds (news ++ r ∷ [])
+  keeps_more item r is same settled older newer grows epoch = record {
+    older_items = k.older_items;
+    newer_items = k.newer_items ++ item ∷ [];
+    older = subst (λ (f : RecordFile D). IsSettled seen may_leave is_usable f.disk f.end k.older_items) (sym same) k.older;
+    newer = settled;
+    older_read = k.older_read;
+    newer_read = read_push k.newer_items news item r k.newer_read is;
+    older_waits = older ∙ sym (ap (λ (l : List PageValue). map name_of l) (left_push (waiting olds) news r));
+    newer_waits = newer ∙ sym (ap (λ (l : List PageValue). map name_of l) (waiting_push [] news r));
+    epoch = epoch_push news r new.epoch (omega (arith, k.epoch, grows)) epoch;
+  }
+
+  pub leaves_more : (item : List ℕ) (r : KeptRecord) → IsReadAs item r → new.older ≡ old.older
+      → ((rs : List (List ℕ)) → IsSettled seen may_leave is_usable old.newer.disk old.newer.end rs → (c : List ℕ) → may_leave new.newer.disk c → Stands c rs ⊎ Stands c (rs ++ item ∷ []))
+      → (older newer : List ℕ) → MayLeaveBoth may_leave new older newer → TellBoth older newer olds news ⊎ TellBoth older newer olds (news ++ r ∷ [])
+  leaves_more item r is same crash older newer left =
+      let first : Tells older olds = older_tells older (subst (λ (f : RecordFile D). may_leave f.disk older) same left.0) in
+      elim (crash k.newer_items k.newer newer left.1) [
+        | inl stands ↦ inl (first, record { items = k.newer_items; stands = stands; read = k.newer_read })
+        | inr stands ↦ inr (first, record { items = k.newer_items ++ item ∷ []; stands = stands; read = read_push k.newer_items news item r k.newer_read is })
+      ]
+
+  -- no page of the older file waits
+  pub none_waits : old.older_pages.items ≡ [] → NoneIsLeft olds news
+  none_waits none = no_names (left_behind (waiting olds) news) (sym k.older_waits ∙ none)
+
+  pub keeps_cleared : IsSettled seen may_leave is_usable new.older.disk new.older.end [] → new.newer ≡ old.newer → new.older_pages.items ≡ [] → new.newer_pages.items ≡ old.newer_pages.items → new.epoch ≡ old.epoch
+      → Keeps seen may_leave is_usable new [] news
+  keeps_cleared settled same none names epoch = record {
+    older_items = [];
+    newer_items = k.newer_items;
+    older = settled;
+    newer = subst (λ (f : RecordFile D). IsSettled seen may_leave is_usable f.disk f.end k.newer_items) (sym same) k.newer;
+    older_read = tt;
+    newer_read = k.newer_read;
+    older_waits = none ∙ sym (ap (λ (l : List PageValue). map name_of l) (none_left news));
+    newer_waits = names ∙ k.newer_waits;
+    epoch = omega (arith, k.epoch, epoch);
+  }
+
+  pub leaves_cleared : old.older_pages.items ≡ [] → new.newer ≡ old.newer
+      → ((rs : List (List ℕ)) → IsSettled seen may_leave is_usable old.older.disk old.older.end rs → (c : List ℕ) → may_leave new.older.disk c → Stands c rs ⊎ Stands c [])
+      → (older newer : List ℕ) → MayLeaveBoth may_leave new older newer → TellBoth older newer olds news ⊎ (NoneIsLeft olds news × TellBoth older newer [] news)
+  leaves_cleared none same crash older newer left =
+      let second : Tells newer news = newer_tells newer (subst (λ (f : RecordFile D). may_leave f.disk newer) same left.1) in
+      elim (crash k.older_items k.older older left.0) [
+        | inl stands ↦ inl (record { items = k.older_items; stands = stands; read = k.older_read }, second)
+        | inr stands ↦ inr (none_waits none, (record { items = []; stands = stands; read = tt }, second))
+      ]
+
+  -- the older file is empty
+  none_there : old.older.end ≡ 0 → k.older_items ≡ []
+  none_there empty = none_open k.older_items (sym k.older.place ∙ empty)
+
+  pub none_told : old.older.end ≡ 0 → olds ≡ []
+  none_told empty = read_none olds (subst (λ (l : List (List ℕ)). AreReadAs l olds) (none_there empty) k.older_read)
+
+  -- the older file is the newer one now, with the record of an epoch
+  pub keeps_changed : old.older.end ≡ 0 → (item : List ℕ) (number : ℕ) → IsReadAs item (Epoch number) → new.older ≡ old.newer
+      → ((rs : List (List ℕ)) → IsSettled seen may_leave is_usable old.older.disk old.older.end rs → IsSettled seen may_leave is_usable new.newer.disk new.newer.end (rs ++ item ∷ []))
+      → new.older_pages.items ≡ old.newer_pages.items → new.newer_pages.items ≡ old.older_pages.items → number ≤ new.epoch
+      → Keeps seen may_leave is_usable new news (Epoch number ∷ [])
+  keeps_changed empty item number is same settled older newer epoch = record {
+    older_items = k.newer_items;
+    newer_items = item ∷ [];
+    older = subst (λ (f : RecordFile D). IsSettled seen may_leave is_usable f.disk f.end k.newer_items) (sym same) k.newer;
+    newer = subst (λ (l : List (List ℕ)). IsSettled seen may_leave is_usable new.newer.disk new.newer.end (l ++ item ∷ [])) (none_there empty) (settled k.older_items k.older);
+    older_read = k.newer_read;
+    newer_read = (is, tt);
+    older_waits = older ∙ k.newer_waits;
+    newer_waits = newer ∙ k.older_waits ∙ ap (λ (l : List KeptRecord). map name_of (left_behind (waiting l) news)) (none_told empty) ∙ ap (λ (l : List PageValue). map name_of l) (none_left news);
+    epoch = epoch;
+  }
+
+  pub leaves_changed : old.older.end ≡ 0 → (item : List ℕ) (number : ℕ) → IsReadAs item (Epoch number) → new.older ≡ old.newer
+      → ((rs : List (List ℕ)) → IsSettled seen may_leave is_usable old.older.disk old.older.end rs → (c : List ℕ) → may_leave new.newer.disk c → Stands c rs ⊎ Stands c (rs ++ item ∷ []))
+      → (older newer : List ℕ) → MayLeaveBoth may_leave new older newer → TellBoth older newer news [] ⊎ TellBoth older newer news (Epoch number ∷ [])
+  leaves_changed empty item number is same crash older newer left =
+      let first : Tells older news = newer_tells older (subst (λ (f : RecordFile D). may_leave f.disk older) same left.0) in
+      elim (crash k.older_items k.older newer left.1) [
+        | inl stands ↦ inl (first, record { items = []; stands = subst (λ (l : List (List ℕ)). Stands newer l) (none_there empty) stands; read = tt })
+        | inr stands ↦ inr (first, record { items = item ∷ []; stands = subst (λ (l : List (List ℕ)). Stands newer (l ++ item ∷ [])) (none_there empty) stands; read = (is, tt) })
+      ]

@@ -1,0 +1,33 @@
+-- What a sealed record of a spool says. (This project's profile.)
+use Rattle.std.specs.Prelude.{◌≡◌, ◌≢◌, ℕ, List, [], ◌∷◌, ◌+◌, Bool, ◌&&◌, nat_eq, nat_le, nat_lt, bytes_eq}
+use Rattle.fax_spool.specs.RecordOctets.{PageValue, EndedValue, page_octets, ended_octets, epoch_octets}
+use Rattle.fax_spool.specs.Seals.{sealed}
+use Rattle.fax_spool.specs.declared.kept_record.KeptRecord.{KeptRecord}
+use Rattle.fax_spool.specs.declared.kept_record.KeptRecord.TheVariants.{Page, Ended, Epoch, Damaged}
+
+abbrev pub kept_page : PageValue → List ℕ
+kept_page page = sealed (page_octets page)
+
+abbrev pub kept_ended : EndedValue → List ℕ
+kept_ended ended = sealed (ended_octets ended)
+
+abbrev pub kept_epoch : ℕ → List ℕ
+kept_epoch number = sealed (epoch_octets number)
+
+-- octets of none of the three kinds
+pub record IsDamaged (octets : List ℕ) : Type 0 where
+  pub no_page : (page : PageValue) → octets ≢ kept_page page
+  pub no_end : (ended : EndedValue) → octets ≢ kept_ended ended
+  pub no_epoch : (number : ℕ) → octets ≢ kept_epoch number
+
+abbrev pub IsReadAs : List ℕ → KeptRecord → Type 0
+IsReadAs octets (Page page) = octets ≡ kept_page page
+IsReadAs octets (Ended ended) = octets ≡ kept_ended ended
+IsReadAs octets (Epoch number) = octets ≡ kept_epoch number
+IsReadAs octets Damaged = IsDamaged octets
+
+-- each of these octets, one after another, is read as the record at its place
+abbrev pub AreReadAs : List (List ℕ) → List KeptRecord → Type 0
+AreReadAs [] [] = Unit {0}
+AreReadAs (octets ∷ items) (record_of ∷ records) = IsReadAs octets record_of × AreReadAs items records
+AreReadAs items records = ⊥

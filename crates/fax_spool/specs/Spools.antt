@@ -1,0 +1,69 @@
+-- A spool between two calls, and what a crash may leave of it. (This project's profile.)
+use Rattle.std.specs.Prelude.{◌≡◌, ◌≤◌, ℕ, max, Bool, List, [], ◌∷◌, map}
+use Rattle.fax_spool.specs.Records.{Stands}
+use Rattle.fax_spool.specs.Settled.{IsSettled}
+use Rattle.fax_spool.specs.KeptRecords.{AreReadAs}
+use Rattle.fax_spool.specs.Waits.{name_of, waiting, left_behind}
+use Rattle.fax_spool.specs.declared.kept_record.KeptRecord.{KeptRecord}
+use Rattle.fax_spool.specs.declared.kept_record.KeptRecord.TheVariants.{Page, Ended, Epoch, Damaged}
+use Rattle.fax_spool.specs.declared.file.RecordFile.{RecordFile}
+use Rattle.fax_spool.specs.declared.spool.Spool.{Spool}
+
+-- the epoch whose record stands first, 0 where none does
+abbrev pub epoch_of : List KeptRecord → ℕ
+epoch_of [] = 0
+epoch_of (Epoch number ∷ records) = number
+epoch_of (Page page ∷ records) = 0
+epoch_of (Ended ended ∷ records) = 0
+epoch_of (Damaged ∷ records) = 0
+
+-- a file stands for these records
+pub record Tells (file : List ℕ) (records : List KeptRecord) : Type 0 where
+  pub items : List (List ℕ)
+  pub stands : Stands file items
+  pub read : AreReadAs items records
+
+-- What a crash may leave: any of what it may leave of one file, with any of what it may leave of the other.
+abbrev pub MayLeaveBoth : {D : Type 0} → (D → List ℕ → Type 0) → Spool D → List ℕ → List ℕ → Type 0
+MayLeaveBoth may_leave spool older newer = may_leave spool.older.disk older × may_leave spool.newer.disk newer
+
+-- A SPOOL KEEPS RECORDS: its older file those before the newer one's. Both files are settled, and it knows the pages that wait.
+pub record Keeps {D : Type 0} (seen : D → List ℕ) (may_leave : D → List ℕ → Type 0) (is_usable : D → Bool) (spool : Spool D) (olds news : List KeptRecord) : Type 0 where
+  pub older_items : List (List ℕ)
+  pub newer_items : List (List ℕ)
+  pub older : IsSettled seen may_leave is_usable spool.older.disk spool.older.end older_items
+  pub newer : IsSettled seen may_leave is_usable spool.newer.disk spool.newer.end newer_items
+  pub older_read : AreReadAs older_items olds
+  pub newer_read : AreReadAs newer_items news
+  pub older_waits : spool.older_pages.items ≡ map name_of (left_behind (waiting olds) news)
+  pub newer_waits : spool.newer_pages.items ≡ map name_of (waiting news)
+  pub epoch : epoch_of news ≤ spool.epoch
+
+-- no page of the first records waits behind the others
+abbrev pub NoneIsLeft : List KeptRecord → List KeptRecord → Type 0
+NoneIsLeft olds news = left_behind (waiting olds) news ≡ []
+
+abbrev pub TellBoth : List ℕ → List ℕ → List KeptRecord → List KeptRecord → Type 0
+TellBoth older newer olds news = Tells older olds × Tells newer news
+
+-- the greatest number of an epoch so far
+abbrev pub epoch_now : {D : Type 0} → Spool D → ℕ
+epoch_now spool = spool.epoch
+
+-- the greatest number of an epoch in these records, or the one before them
+abbrev pub raised : ℕ → KeptRecord → ℕ
+raised most (Epoch number) = max most number
+raised most (Page page) = most
+raised most (Ended ended) = most
+raised most Damaged = most
+
+abbrev pub greatest_behind : ℕ → List KeptRecord → ℕ
+greatest_behind most [] = most
+greatest_behind most (r ∷ records) = greatest_behind (raised most r) records
+
+abbrev pub greatest_epoch : List KeptRecord → ℕ
+greatest_epoch records = greatest_behind 0 records
+
+-- its files, the older one first
+abbrev pub files_of : {D : Type 0} → Spool D → RecordFile D × RecordFile D
+files_of spool = (spool.older, spool.newer)

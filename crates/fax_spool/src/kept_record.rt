@@ -1,0 +1,84 @@
+//! What a sealed record of a spool says, whichever it is.
+ghost use Rattle.std.specs.Prelude.{◌≡◌, ◌≢◌, ◌<◌, ℕ, List, length, IfOk, MatchOption};
+ghost use Rattle.fax_spool.specs.RecordOctets.{PageValue, EndedValue, epoch_octets};
+ghost use Rattle.fax_spool.specs.KeptRecords.{IsReadAs, kept_page, kept_ended, kept_epoch};
+
+use crate::record::{
+    number_of, read_ended_record, read_page_record, write_ended_record, write_page_record,
+};
+use crate::{EndedRecord, PageRecord, seal, unseal};
+use std::alloc::{AllocError, Global};
+
+/// The first octet of the record of an epoch.
+const EPOCH: u8 = 3;
+
+/// What a sealed record says.
+#[derive(Drop)]
+pub enum KeptRecord<'a> {
+    /// A page was confirmed.
+    Page(PageRecord<'a>),
+    /// A job ended.
+    Ended(EndedRecord<'a>),
+    /// The epoch of this number began: a process started, or the other file was taken into use.
+    Epoch(u32),
+    /// It is none of these, or its digest is another.
+    Damaged,
+}
+
+/// What a sealed record says.
+pub fn read_kept_record(octets: &[u8]) -> KeptRecord<'_>
+    ensures { IsReadAs octets.now result }
+{
+    let Some(kept) = unseal(octets) else {
+        return KeptRecord::Damaged;
+    };
+    if let Some(page) = read_page_record(kept) {
+        return KeptRecord::Page(page);
+    }
+    if let Some(ended) = read_ended_record(kept) {
+        return KeptRecord::Ended(ended);
+    }
+    match read_epoch(kept) {
+        Some(number) => KeptRecord::Epoch(number),
+        None => KeptRecord::Damaged,
+    }
+}
+
+/// A page's record, sealed.
+pub(crate) fn seal_page(alloc: Global, page: &PageRecord<'_>) -> Result<Vec<u8>, AllocError>
+    requires line { length page.now.line < 256 }
+    requires tag { length page.now.tag < 256 }
+    ensures { IfOk result (λ octets. octets.items ≡ kept_page page.now) }
+{
+    let kept = write_page_record(alloc, page)?;
+    seal(alloc, kept.as_slice())
+}
+
+/// The record of a job that ended, sealed.
+pub(crate) fn seal_ended(alloc: Global, ended: &EndedRecord<'_>) -> Result<Vec<u8>, AllocError>
+    requires line { length ended.now.line < 256 }
+    ensures { IfOk result (λ octets. octets.items ≡ kept_ended ended.now) }
+{
+    let kept = write_ended_record(alloc, ended)?;
+    seal(alloc, kept.as_slice())
+}
+
+/// The record of an epoch, sealed.
+pub(crate) fn seal_epoch(alloc: Global, number: u32) -> Result<Vec<u8>, AllocError>
+    ensures { IfOk result (λ octets. octets.items ≡ kept_epoch number) }
+{
+    let mut kept = Vec::with_capacity(alloc, 5)?;
+    kept.push(EPOCH)?;
+    kept.extend_from_slice(&number.to_be_bytes())?;
+    seal(alloc, kept.as_slice())
+}
+
+/// The number of the epoch whose record octets are; `None` where they are none.
+fn read_epoch(octets: &[u8]) -> Option<u32>
+    ensures { MatchOption result ((number : ℕ) → octets.now ≢ epoch_octets number) (λ number. octets.now ≡ epoch_octets number) }
+{
+    match octets {
+        [EPOCH, n0, n1, n2, n3] => Some(number_of(*n0, *n1, *n2, *n3)),
+        _ => None,
+    }
+}

@@ -1,0 +1,14 @@
+//! Laws of spools: functions that do nothing, each of whose contracts is a theorem.
+ghost use Rattle.fax_spool.specs.Waits.{SharesWhatWaits};
+ghost use Rattle.fax_spool.specs.Records.{StandsForOneList};
+
+/// A file stands for one list of records.
+pub fn files_stand_for_one_list()
+    ensures { StandsForOneList }
+{}
+
+/// What waits by the records of both files is what is left of the older one's pages behind the newer one's records, and then what
+/// waits by these. So where nothing is left of the older one's pages, its records say nothing that those of the newer one do not.
+pub fn files_share_what_waits()
+    ensures { SharesWhatWaits }
+{}

@@ -1,0 +1,60 @@
+//! Which page of all a page is.
+ghost use Rattle.std.specs.Prelude.{◌≡◌, IfOk};
+ghost use Rattle.fax_spool.specs.Waits.{PageName as PageNameValue, name_of, ends};
+
+use crate::{EndedRecord, PageRecord};
+use std::alloc::{AllocError, Global};
+use std::marker::Model;
+
+/// Which page of all a page is: in which life and call of which line it came, and as which page of the call.
+#[derive(Drop)]
+pub(crate) struct PageName {
+    life: u32,
+    call: u32,
+    number: u32,
+    line: Vec<u8>,
+}
+
+impl Model for PageName {
+    ghost use Rattle.fax_spool.specs.Waits.{PageName as PageNameValue};
+
+    ghost Value = { PageNameValue };
+
+    ghost view = { λ p. record { life = p.life; call = p.call; number = p.number; line = p.line.items } };
+}
+
+impl PageName {
+    /// The name of a page.
+    pub(crate) fn of_page(alloc: Global, page: &PageRecord<'_>) -> Result<PageName, AllocError>
+        ensures { IfOk result (λ name. name ≡ name_of page.now) }
+    {
+        Ok(PageName {
+            life: page.life,
+            call: page.call,
+            number: page.number,
+            line: page.line.to_vec(alloc)?,
+        })
+    }
+
+    /// Whether the job that ended had this page.
+    pub(crate) fn is_ended_by(&self, ended: &EndedRecord<'_>) -> bool
+        ensures { result ≡ ends ended.now self.now }
+    {
+        ended.life == self.life
+            && ended.call == self.call
+            && ended.line == self.line.as_slice()
+            && ended.first <= self.number
+            && u64::from(self.number) < u64::from(ended.first) + u64::from(ended.pages)
+    }
+}
+
+/// Whether the job that ended had this page.
+pub(crate) fn had(ended: &EndedRecord<'_>, page: &PageRecord<'_>) -> bool
+    ensures { result ≡ ends ended.now (name_of page.now) }
+{
+    ended.life == page.life
+        && ended.call == page.call
+        && ended.line == page.line
+        && ended.first <= page.number
+        && u64::from(page.number) < u64::from(ended.first) + u64::from(ended.pages)
+}

@@ -1,0 +1,216 @@
+//! A spool: the records of confirmed pages and of jobs that ended, in two files in turn.
+ghost use Rattle.std.specs.Prelude.{◌≡◌, ◌⊎◌, ◌<◌, ◌≤◌, ◌^◌, ◌++◌, [], ◌∷◌, true, false, List, ℕ, length, not, IfOk, OnOk, OnErr, IsErr};
+ghost use Rattle.std.specs.List.{filter};
+ghost use Rattle.std.specs.Bool.{MatchBool};
+ghost use Rattle.fax_spool.specs.Records.{Stands};
+ghost use Rattle.fax_spool.specs.Settled.{IsSettled};
+ghost use Rattle.fax_spool.specs.KeptRecords.{AreReadAs};
+ghost use Rattle.fax_spool.specs.Waits.{ends};
+ghost use Rattle.fax_spool.specs.Spools.{Keeps, NoneIsLeft, MayLeaveBoth, TellBoth, epoch_now, epoch_of, files_of, greatest_epoch};
+ghost use Rattle.fax_spool.specs.declared.kept_record.KeptRecord.{KeptRecord as KeptShown};
+
+use crate::kept_record::{seal_ended, seal_epoch, seal_page};
+use crate::page_name::PageName;
+use crate::waiting::{drop_ended, names_of, newest_epoch};
+use crate::{EndedRecord, KeptRecord, PageRecord, RecordFile, waiting_pages};
+use sqlite_disk::Disk;
+use std::alloc::Global;
+use std::{io, mem};
+
+/// The most octets of a record.
+const MOST_OCTETS: usize = 0xffff_ffff;
+
+/// Records of confirmed pages and of jobs that ended, in two files in turn: what is new is put into the newer one, and the older
+/// one is cleared once no page in it waits. `begin` makes one of two files that were recovered.
+///
+/// At an `Err` of the disk it is on the disk or not, and the spool refuses everything from then on, until another is begun.
+#[derive(Drop)]
+pub struct Spool<D: Disk> {
+    older: RecordFile<D>,
+    newer: RecordFile<D>,
+    /// The pages of the older file that wait.
+    older_pages: Vec<PageName>,
+    /// The pages of the newer file that wait.
+    newer_pages: Vec<PageName>,
+    /// The greatest number of an epoch so far.
+    epoch: u32,
+    /// A call of the disk has failed.
+    refuses: bool,
+}
+
+impl<D: Disk + Drop> Spool<D> {
+    /// Begins a life over two files that were recovered, where what they say is this, and the records of `older` were put before
+    /// those of `newer`. Its epoch, which is the life's number, is greater than each before it.
+    pub fn begin(
+        alloc: Global,
+        older: RecordFile<D>,
+        newer: RecordFile<D>,
+        olds: &[KeptRecord<'_>],
+        news: &[KeptRecord<'_>],
+    ) -> io::Result<Self>
+        ensures begun { IfOk result (λ spool. (older_items newer_items : List (List ℕ))
+            → IsSettled D.seen D.may_leave D.is_usable older.disk older.end older_items → AreReadAs older_items olds.now
+            → IsSettled D.seen D.may_leave D.is_usable newer.disk newer.end newer_items → AreReadAs newer_items news.now
+            → Keeps D.seen D.may_leave D.is_usable spool olds.now (news.now ++ KeptRecord.Epoch (epoch_now spool) ∷ [])) }
+        ensures older_epochs { IfOk result (λ spool. greatest_epoch olds.now < epoch_now spool) }
+        ensures newer_epochs { IfOk result (λ spool. greatest_epoch news.now < epoch_now spool) }
+    {
+        let greatest = newest_epoch(olds).max(newest_epoch(news));
+        if greatest == u32::MAX {
+            return Err(io::ErrorKind::StorageFull.into());
+        }
+        let epoch = greatest + 1;
+        let mut pages = waiting_pages(alloc, olds)?;
+        drop_ended(&mut pages, news);
+        let older_pages = names_of(alloc, pages.as_slice())?;
+        let pages = waiting_pages(alloc, news)?;
+        let newer_pages = names_of(alloc, pages.as_slice())?;
+        let octets = seal_epoch(alloc, epoch)?;
+        let mut newer = newer;
+        let mut refuses = false;
+        append(&mut newer, &mut refuses, alloc, octets.as_slice())?;
+        Ok(Spool {
+            older,
+            newer,
+            older_pages,
+            newer_pages,
+            epoch,
+            refuses,
+        })
+    }
+}
+
+impl<D: Disk> Spool<D> {
+    /// The number of its epoch.
+    pub fn epoch(&self) -> u32
+        ensures { result ≡ epoch_now self.now }
+    {
+        self.epoch
+    }
+
+    /// Its files, the older one first: a disk may be recovered and a spool begun anew, where a call has failed.
+    pub fn into_files(self) -> (RecordFile<D>, RecordFile<D>)
+        ensures { result ≡ files_of self }
+    {
+        let Spool {
+            older,
+            newer,
+            older_pages: _,
+            newer_pages: _,
+            epoch: _,
+            refuses: _,
+        } = self;
+        (older, newer)
+    }
+
+    /// A page was confirmed. At `Ok` its record is on the disk, behind those before it, and each later crash leaves it.
+    pub fn put(&mut self, alloc: Global, page: &PageRecord<'_>) -> io::Result<()>
+        requires line { length page.now.line < 256 }
+        requires tag { length page.now.tag < 256 }
+        ensures acknowledged { OnOk result ((olds news : List KeptShown) → Keeps D.seen D.may_leave D.is_usable self.old olds news
+            → Keeps D.seen D.may_leave D.is_usable self.new olds (news ++ KeptRecord.Page page.now ∷ [])) }
+        // Whenever the machine stops, the files tell the records from before, with the new one or without.
+        ensures crash { (olds news : List KeptShown) → Keeps D.seen D.may_leave D.is_usable self.old olds news
+            → (older newer : List ℕ) → MayLeaveBoth D.may_leave self.new older newer
+            → TellBoth older newer olds news ⊎ TellBoth older newer olds (news ++ KeptRecord.Page page.now ∷ []) }
+    {
+        let name = PageName::of_page(alloc, page)?;
+        let octets = seal_page(alloc, page)?;
+        self.newer_pages.reserve(1)?;
+        append(&mut self.newer, &mut self.refuses, alloc, octets.as_slice())?;
+        self.newer_pages.push_reserved(name);
+        Ok(())
+    }
+
+    /// A job ended. At `Ok` its record is on the disk, and its pages wait no more.
+    pub fn end(&mut self, alloc: Global, ended: &EndedRecord<'_>) -> io::Result<()>
+        requires line { length ended.now.line < 256 }
+        ensures acknowledged { OnOk result ((olds news : List KeptShown) → Keeps D.seen D.may_leave D.is_usable self.old olds news
+            → Keeps D.seen D.may_leave D.is_usable self.new olds (news ++ KeptRecord.Ended ended.now ∷ [])) }
+        // Whenever the machine stops, the files tell the records from before, with the new one or without.
+        ensures crash { (olds news : List KeptShown) → Keeps D.seen D.may_leave D.is_usable self.old olds news
+            → (older newer : List ℕ) → MayLeaveBoth D.may_leave self.new older newer
+            → TellBoth older newer olds news ⊎ TellBoth older newer olds (news ++ KeptRecord.Ended ended.now ∷ []) }
+    {
+        let octets = seal_ended(alloc, ended)?;
+        append(&mut self.newer, &mut self.refuses, alloc, octets.as_slice())?;
+        forget_ended(&mut self.older_pages, ended);
+        forget_ended(&mut self.newer_pages, ended);
+        Ok(())
+    }
+
+    /// Drops the records of the older file where none of its pages waits, and answers whether it did.
+    pub fn clear(&mut self) -> io::Result<bool>
+        ensures cleared { IfOk result (λ was. (olds news : List KeptShown) → Keeps D.seen D.may_leave D.is_usable self.old olds news
+            → MatchBool was (NoneIsLeft olds news × Keeps D.seen D.may_leave D.is_usable self.new [] news) (Keeps D.seen D.may_leave D.is_usable self.new olds news)) }
+        // Whenever the machine stops, the files tell all records, or those of the newer one where no other page waits.
+        ensures crash { (olds news : List KeptShown) → Keeps D.seen D.may_leave D.is_usable self.old olds news
+            → (older newer : List ℕ) → MayLeaveBoth D.may_leave self.new older newer
+            → TellBoth older newer olds news ⊎ (NoneIsLeft olds news × TellBoth older newer [] news) }
+    {
+        if !self.older_pages.is_empty() {
+            return Ok(false);
+        }
+        if self.refuses || !self.older.disk.may_be_used() {
+            return Err(io::ErrorKind::Other.into());
+        }
+        self.refuses = true;
+        self.older.clear()?;
+        self.refuses = false;
+        Ok(true)
+    }
+
+    /// Takes the other file into use where it is empty, and answers whether it did. A new epoch begins.
+    pub fn change(&mut self, alloc: Global) -> io::Result<bool>
+        ensures changed { IfOk result (λ was. (olds news : List KeptShown) → Keeps D.seen D.may_leave D.is_usable self.old olds news
+            → MatchBool was ((olds ≡ []) × (epoch_of news < epoch_now self.new) × Keeps D.seen D.may_leave D.is_usable self.new news (KeptRecord.Epoch (epoch_now self.new) ∷ [])) (Keeps D.seen D.may_leave D.is_usable self.new olds news)) }
+        // Whenever the machine stops, the files tell the records from before, with the epoch's or without.
+        ensures crash { (olds news : List KeptShown) → Keeps D.seen D.may_leave D.is_usable self.old olds news
+            → (older newer : List ℕ) → MayLeaveBoth D.may_leave self.new older newer
+            → TellBoth older newer olds news ⊎ TellBoth older newer news [] ⊎ TellBoth older newer news (KeptRecord.Epoch (epoch_now self.new) ∷ []) }
+    {
+        if self.older.end != 0 {
+            return Ok(false);
+        }
+        if self.refuses || self.epoch == u32::MAX {
+            return Err(io::ErrorKind::Other.into());
+        }
+        let octets = seal_epoch(alloc, self.epoch + 1)?;
+        self.epoch += 1;
+        mem::swap(&mut self.older, &mut self.newer);
+        mem::swap(&mut self.older_pages, &mut self.newer_pages);
+        append(&mut self.newer, &mut self.refuses, alloc, octets.as_slice())?;
+        Ok(true)
+    }
+}
+
+/// Adds a record to a file, unless a call of the disk has failed; if this one fails, that is noted.
+fn append<D: Disk>(
+    file: &mut RecordFile<D>,
+    refuses: &mut bool,
+    alloc: Global,
+    item: &[u8],
+) -> io::Result<()>
+    ensures acknowledged { OnOk result ((rs : List (List ℕ)) → IsSettled D.seen D.may_leave D.is_usable file.old.disk file.old.end rs
+        → IsSettled D.seen D.may_leave D.is_usable file.new.disk file.new.end (rs ++ item.now ∷ [])) }
+    ensures crash { (rs : List (List ℕ)) → IsSettled D.seen D.may_leave D.is_usable file.old.disk file.old.end rs
+        → (c : List ℕ) → D.may_leave file.new.disk c → Stands c rs ⊎ Stands c (rs ++ item.now ∷ []) }
+{
+    if *refuses || item.len() > MOST_OCTETS {
+        return Err(io::ErrorKind::Other.into());
+    }
+    *refuses = true;
+    if !file.disk.may_be_used() {
+        return Err(io::ErrorKind::Other.into());
+    }
+    file.put(alloc, item)?;
+    *refuses = false;
+    Ok(())
+}
+
+/// Drops the names of the pages of a job that ended.
+fn forget_ended(pages: &mut Vec<PageName>, ended: &EndedRecord<'_>)
+    ensures { pages.new.items ≡ filter (λ page. not (ends ended.now page)) pages.old.items }
+{
+    pages.retain(|page| !page.is_ended_by(ended));
+}
