@@ -13,12 +13,13 @@ use Rattle.fax_answer.specs.declared.command.Order.TheVariants as orders
 use Rattle.fax_answer.specs.declared.state.State.{State}
 use Rattle.fax_answer.specs.declared.state.State.TheVariants.{Idle, Identify, Listen, Train, Page, Again, Closing}
 use Rattle.fax_answer.specs.Orders.{order_of}
-use Rattle.fax_answer.specs.History.{Entry, Decision, PassesOver, GivesMcf, GivesRtn, since_answer, images, gap, last_image, repeated, answered_dcs}
+use Rattle.fax_answer.specs.History.{Entry, Decision, PassesOver, Trains, HangsUp, GivesCfr, GivesFtt, GivesMcf, GivesRtn, since_answer, images, gap, last_image, repeat_with, repeated, trained_dcs, dcs_with, answered_dcs}
 use Rattle.fax_answer.specs.Table.{Reading, Question, judged, is_one_image, is_quiet, same_command, is_repeat, on_command, on_command_again, on_order, decision, order_asks, asked_of}
 use Rattle.fax_answer.specs.Replies.{is_waiting}
 use Rattle.fax_answer.specs.Calls.{Answering, rung, CallEvent, Comes, Ticks, after_events}
 use Rattle.fax_answer.specs.Confirmation.{IsRight, IfAsked, AreRead}
 use Rattle.fax_answer.specs.Judging.{MeansNone, IsAnswered, RefusesNoPage, JudgesExactly}
+use Rattle.fax_answer.specs.EachCommand.{JudgesEachCommand}
 use Rattle.fax_pagestore.proofs.PageLaws.{pages_dont_fail}
 use Rattle.fax_runcodes.specs.Rows.{IsWidth}
 use Rattle.fax_runcodes.specs.declared.Width.{Width}
@@ -170,3 +171,96 @@ judges_exactly core start events before command d dcs right a page h =
         subst (λ (t : Bool). IfAsked (if t then Some (record { octets = last_image before; dcs = dcs }) else None) p.read) h p.right in
         subst (Judged dcs before command) (sym (p.answer ∙ q)) (judged_exactly dcs before command p.read r)
     by (inr p) = absurd (page p.0)
+
+-- A PAGE IS ACCEPTED, or a command answered again, in Page and in Again alone
+abbrev IsListening : State → Type 0
+IsListening state = ((dcs : Dcs) × (state ≡ Page dcs)) ⊎ (state ≡ Again)
+
+mcf_at_order : (read : Reading) (state : State) (before : List Entry) (order : Order) (command : Command) (page : Option PageValue) → on_order read state before order ≡ GivesMcf command page → IsListening state
+mcf_at_order read Idle before order command page h = cc
+mcf_at_order read Closing before order command page h = cc
+mcf_at_order read Identify before (orders.Train d) command page h = cc
+mcf_at_order read Identify before (orders.Judge c) command page h = cc
+mcf_at_order read Identify before orders.Disconnect command page h = cc
+mcf_at_order read Identify before orders.Nothing command page h = cc
+mcf_at_order read Listen before (orders.Train d) command page h = cc
+mcf_at_order read Listen before (orders.Judge c) command page h = cc
+mcf_at_order read Listen before orders.Disconnect command page h = cc
+mcf_at_order read Listen before orders.Nothing command page h = cc
+mcf_at_order read (Train dcs) before (orders.Train d) command page h = cc
+mcf_at_order read (Train dcs) before (orders.Judge c) command page h = cc
+mcf_at_order read (Train dcs) before orders.Disconnect command page h = cc
+mcf_at_order read (Train dcs) before orders.Nothing command page h = cc
+mcf_at_order read (Page dcs) before order command page h = inl (dcs, refl)
+mcf_at_order read Again before order command page h = inr refl
+
+check_gives : (b : Bool) (dcs : Dcs) (command : Command) (page : Option PageValue) → (if b then GivesCfr dcs else GivesFtt) ≡ GivesMcf command page → ⊥
+check_gives true dcs command page h = cc
+check_gives false dcs command page h = cc
+
+mcf_at : (read : Reading) (state : State) (waits : Bool) (before : List Entry) (piece : pieces.Piece) (command : Command) (page : Option PageValue) → decision read state waits before piece ≡ GivesMcf command page → IsListening state
+mcf_at read state true before (pieces.Frame octets) command page h = cc
+mcf_at read state false before (pieces.Frame octets) command page h = mcf_at_order read state before (order_of octets) command page h
+mcf_at read (Train dcs) waits before (pieces.End whole) command page h = absurd (check_gives _ dcs command page h)
+mcf_at read (Page dcs) waits before (pieces.End whole) command page h = inl (dcs, refl)
+mcf_at read Again waits before (pieces.End whole) command page h = inr refl
+mcf_at read Idle waits before (pieces.End whole) command page h = cc
+mcf_at read Identify waits before (pieces.End whole) command page h = cc
+mcf_at read Listen waits before (pieces.End whole) command page h = cc
+mcf_at read Closing waits before (pieces.End whole) command page h = cc
+mcf_at read state waits before (pieces.Start k) command page h = cc
+mcf_at read state waits before (pieces.Octets o) command page h = cc
+mcf_at read state waits before pieces.Gap command page h = cc
+
+-- so behind an MCF there was a CFR
+abbrev HasDcs : List Entry → Type 0
+HasDcs before = (dcs : Dcs) × (answered_dcs before ≡ Some dcs)
+
+dcs_listens : (e : Entry) (before : List Entry) → (i : IsDecided e before) → ((c : Command) → repeated before ≡ Some c → HasDcs before) → IsListening i.state → HasDcs before
+dcs_listens e before i again (inl p) = (p.0, subst (λ (x : State). KnowsDcs x before) p.1 i.knows)
+dcs_listens e before i again (inr p) = again Eom (subst (λ (x : State). KnowsDcs x before) p i.knows)
+
+dcs_kept : (e : Entry) (before : List Entry) (d : Decision) → dcs_with d (trained_dcs before) (answered_dcs before) ≡ answered_dcs before → e.decision ≡ d → HasDcs before → HasDcs (e ∷ before)
+dcs_kept e before d k q p = (p.0, ap (λ (x : Decision). dcs_with x (trained_dcs before) (answered_dcs before)) q ∙ k ∙ p.1)
+
+dcs_behind : (e : Entry) (before : List Entry) (command : Command) → (i : IsDecided e before) → ((c : Command) → repeated before ≡ Some c → HasDcs before) →
+    (d : Decision) → e.decision ≡ d → repeat_with e.decision (repeated before) ≡ Some command → HasDcs (e ∷ before)
+dcs_behind e before command i again (GivesMcf c page) q r =
+    dcs_kept e before (GivesMcf c page) refl q (dcs_listens e before i again (mcf_at i.read i.state i.waits before e.piece c page (sym i.decided ∙ q)))
+dcs_behind e before command i again (GivesCfr dcs) q r = let n : None ≡ Some command = sym (ap (λ (x : Decision). repeat_with x (repeated before)) q) ∙ r in cc
+dcs_behind e before command i again PassesOver q r = dcs_kept e before PassesOver refl q (again command (sym (ap (λ (x : Decision). repeat_with x (repeated before)) q) ∙ r))
+dcs_behind e before command i again (Trains dcs) q r = dcs_kept e before (Trains dcs) refl q (again command (sym (ap (λ (x : Decision). repeat_with x (repeated before)) q) ∙ r))
+dcs_behind e before command i again HangsUp q r = dcs_kept e before HangsUp refl q (again command (sym (ap (λ (x : Decision). repeat_with x (repeated before)) q) ∙ r))
+dcs_behind e before command i again GivesFtt q r = dcs_kept e before GivesFtt refl q (again command (sym (ap (λ (x : Decision). repeat_with x (repeated before)) q) ∙ r))
+dcs_behind e before command i again GivesRtn q r = dcs_kept e before GivesRtn refl q (again command (sym (ap (λ (x : Decision). repeat_with x (repeated before)) q) ∙ r))
+
+has_dcs : (before : List Entry) (command : Command) → AllDecided before → repeated before ≡ Some command → HasDcs before
+unfolding AllDecided
+has_dcs [] command all h = cc
+has_dcs (e ∷ before) command all h =
+    let again : (c : Command) → repeated before ≡ Some c → HasDcs before = λ c r. has_dcs before c all.1 r in
+    dcs_behind e before command all.0 again e.decision refl h
+
+decided_before : (later : List Entry) (e : Entry) (before : List Entry) → AllDecided (later ++ e ∷ before) → AllDecided before
+unfolding AllDecided
+decided_before [] e before a = a.1
+decided_before (x ∷ later) e before a = decided_before later e before a.1
+
+pub judges_each_command : JudgesEachCommand
+judges_each_command core start events later before octets d command right split order n =
+    let history : List Entry = (after_events (rung core start) events).history in
+    let all : AllDecided history = all_decided core start events right in
+    let e : Entry = record { piece = pieces.Frame octets; decision = d } in
+    let i : IsDecided e before = decided_at later e before (subst AllDecided split all) in
+    let h : HasDcs before = under i (decided_before later e before (subst AllDecided split all)) (by_frame i.read i.state i.waits before octets command order (λ q. n (i.decided ∙ q)) i.right) in
+    let a : IsAnswered history before command d h.0 = record { later = later; octets = octets; split = split; order = order; not_passed = n; dcs_is = h.1 } in
+    record {
+      dcs = h.0;
+      answered = a;
+      refuses = λ some none. refuses_no_page core start events before command d h.0 right a some none;
+      exact = λ page one. judges_exactly core start events before command d h.0 right a page one;
+    }
+  where
+    under : (i : IsDecided (record { piece = pieces.Frame octets; decision = d }) before) → AllDecided before → InEither i.read i.state before command (decision i.read i.state i.waits before (pieces.Frame octets)) → HasDcs before
+    under i all (inl p) = (p.dcs, subst (λ (x : State). KnowsDcs x before) p.is_page i.knows)
+    under i all (inr p) = has_dcs before Eom all (subst (λ (x : State). KnowsDcs x before) p.0 i.knows)

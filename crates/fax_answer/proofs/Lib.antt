@@ -1,6 +1,7 @@
 mod AnswerLemmas
 pub mod Confirmations
 pub mod EachMcf
+pub mod EachRtn
 mod Examples
 mod FollowingLemmas
 mod HearingLemmas
@@ -17,3 +18,4 @@ pub mod Rests
 mod SlotsLemmas
 pub mod Accepted
 pub mod Rising
+pub mod DueLemmas

@@ -8,9 +8,12 @@ pub mod Calls
 pub mod Confirmation
 pub mod Images
 pub mod Judging
+pub mod EachCommand
+pub mod EachRtn
 pub mod Kept
 pub mod Reached
 pub mod Shown
 pub mod Readings
 pub mod Sent
 pub mod InPage
+pub mod Due

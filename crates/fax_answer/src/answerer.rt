@@ -2,6 +2,7 @@
 ghost use Rattle.std.specs.Prelude.{◌≡◌, ◌≤◌, List, [], None, IsSome, IfSome, IfOk, OnOk, OnErr, length, if◌then◌else◌};
 ghost use Rattle.fax_ifp.specs.Elements.{Slot as SlotShown};
 ghost use Rattle.fax_answer.specs.Calls.{Answering, new_answering, rung, ticked};
+ghost use Rattle.fax_answer.specs.Due.{due_at};
 ghost use Rattle.fax_answer.specs.Reached.{IsReached};
 ghost use Rattle.fax_answer.specs.Shown.{IsStep};
 
@@ -73,6 +74,14 @@ impl<S: RowStore> Answerer<S> {
         ensures { result ≡ self.now.procedure.state }
     {
         self.procedure.state
+    }
+
+    /// The first moment at which a tick may give something or change the call: an earlier tick does nothing. `None`: none
+    /// does until something comes.
+    pub fn next_due(&self) -> Option<u64>
+        ensures { (heard : List SlotShown) (core : Answering) → IsReached heard core self.now → result ≡ due_at core }
+    {
+        self.procedure.next_due()
     }
 
     /// Reserves memory, where none is reserved: after an `Ok` the next tick takes none. An `Err` changes nothing.

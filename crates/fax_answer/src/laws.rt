@@ -1,6 +1,9 @@
 //! Laws of the answering side: functions that do nothing, each of whose contracts is a theorem. Each is told of every
 //! call: from any core that is rung, through any pieces and ticks, where each image that is asked about was read rightly.
 ghost use Rattle.fax_answer.specs.Confirmation.{GivesConfirmations, EachMcfAnswers};
+ghost use Rattle.fax_answer.specs.Due.{ActsFrom, RestsBefore};
+ghost use Rattle.fax_answer.specs.EachCommand.{JudgesEachCommand};
+ghost use Rattle.fax_answer.specs.EachRtn.{EachRtnRefuses};
 ghost use Rattle.fax_answer.specs.InPage.{BeginsInPage};
 ghost use Rattle.fax_answer.specs.Judging.{RefusesNoPage, JudgesExactly};
 ghost use Rattle.fax_answer.specs.Readings.{ReadingsJoin, CallsAreRead, CallsGoOn};
@@ -28,6 +31,18 @@ pub fn refuses_what_means_no_page()
 /// it means.
 pub fn judges_exactly()
     ensures { JudgesExactly }
+{}
+
+/// Each command that is answered has the DCS that a CFR answered, and is judged by what the image before it means under that
+/// DCS: by RTN where it means no page, and one image with nothing behind it by RTN exactly there, and else by MCF.
+pub fn judges_each_command()
+    ensures { JudgesEachCommand }
+{}
+
+/// Each tick that gives the RTN frame refuses the last command, which was judged as each is: where one image had nothing behind
+/// it, the image means no page.
+pub fn each_rtn_refuses()
+    ensures { EachRtnRefuses }
 {}
 
 /// One reading serves all pieces of a datagram.
@@ -60,4 +75,14 @@ pub fn confirms_what_it_accepted()
 /// is of the format and the coding of the DCS that this CFR answered.
 pub fn begins_in_page()
     ensures { BeginsInPage }
+{}
+
+/// A tick before the moment that is due gives nothing and changes nothing.
+pub fn rests_before_it_is_due()
+    ensures { RestsBefore }
+{}
+
+/// A tick at the moment that is due, or later, gives a packet or changes the call.
+pub fn acts_from_when_it_is_due()
+    ensures { ActsFrom }
 {}

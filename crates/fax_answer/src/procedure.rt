@@ -7,6 +7,7 @@ ghost use Rattle.fax_answer.specs.History.{Decision as Decided, since_answer};
 ghost use Rattle.fax_answer.specs.Table.{state_after};
 ghost use Rattle.fax_answer.specs.Replies.{ConfirmedPage, reply_to};
 ghost use Rattle.fax_answer.specs.Calls.{Answering, new_answering, rung, decided, timers_after, is_heard, timed, says_goodbye, identifies_anew, state_when_given, timers_when_given, is_closing};
+ghost use Rattle.fax_answer.specs.Due.{due_at, timer_of};
 ghost use Rattle.fax_answer.specs.Kept.{pending_reply, verdict_of};
 ghost use Rattle.fax_answer.specs.Pending.{waiting_of};
 ghost use Rattle.fax_answer.specs.Following.{readers_wanted, Follows, CanDecide, confirmed_behind, GivesNext, gives_now, gives_up, repeats_dis, begins_again};
@@ -18,7 +19,7 @@ use crate::timers::Timers;
 use crate::{Command, State};
 use fax_frames::Plain;
 use fax_ifp::Piece;
-use fax_timers::{Pace, T1_MS, T2_MS, T4_MS};
+use fax_timers::{Pace, T1_MS, T2_MS, T4_MS, earlier};
 
 /// The procedure of a call.
 #[derive(Clone, Copy)]
@@ -187,6 +188,32 @@ impl Procedure {
         ensures waits { IsTrue result → self.now.pending ≢ Pending.Nothing }
     {
         self.is_waiting() && self.pace.allows(now)
+    }
+
+    /// The first moment at which a tick may do something: where packets wait, that from which on the pace lets one through;
+    /// else that of the timer that acts first.
+    pub fn next_due(&self) -> Option<u64>
+        ensures { (core : Answering) (confirmed : Option ConfirmedPage) → Follows core confirmed self.now → result ≡ due_at core }
+    {
+        if self.is_waiting() {
+            self.pace.allowed_from()
+        } else {
+            self.timer()
+        }
+    }
+
+    /// The moment of the timer that acts first: T1 or T4 in Identify, T2 in Listen, Train, Page and Again.
+    fn timer(&self) -> Option<u64>
+        ensures { result ≡ timer_of self.now.state self.now.timers }
+    {
+        match self.state {
+            State::Idle | State::Closing => None,
+            State::Identify => earlier(self.timers.t1.moment(), self.timers.t4.moment()),
+            State::Listen | State::Train(_) | State::Page(_) | State::Again => self
+                .timers
+                .t2
+                .moment(),
+        }
     }
 
     /// The next packet is given. It answers whether the call has ended with it.

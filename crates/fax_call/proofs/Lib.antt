@@ -30,3 +30,4 @@ pub mod GivingUp
 pub mod Lacking
 pub mod Texts
 pub mod Told
+pub mod DueLemmas

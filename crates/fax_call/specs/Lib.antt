@@ -12,3 +12,4 @@ pub mod Writings
 pub mod Given
 pub mod GivenSignals
 pub mod GivingUp
+pub mod Due

@@ -10,6 +10,7 @@ ghost use Rattle.fax_call.specs.Replies.{written};
 ghost use Rattle.fax_frames.specs.declared.dcs.Dcs.{Dcs as DcsShown};
 ghost use Rattle.fax_frames.specs.declared.writing.Plain.{Plain as PlainShown};
 ghost use Rattle.fax_pagestore.specs.Writers.{HasMore};
+ghost use Rattle.fax_call.specs.Due.{due_at};
 ghost use Rattle.fax_call.specs.Reached.{IsReached, IsGiven};
 
 use crate::State;
@@ -113,6 +114,14 @@ impl Caller {
         ensures { result ≡ self.now.procedure.counts.delivered }
     {
         self.procedure.counts.delivered
+    }
+
+    /// The first moment at which a tick may give something or change the call: an earlier tick does nothing. `None`: none
+    /// does until something comes.
+    pub fn next_due(&self) -> Option<u64>
+        ensures { (writes : Writing) (job : JobValue) (heard : List SlotShown) (core : Calling) → IsReached writes job heard core self.now → result ≡ due_at core }
+    {
+        self.procedure.next_due()
     }
 
     /// Time goes on: where no packet waits a timer that is due acts, and then at most one packet is given, where one waits

@@ -1,6 +1,7 @@
 //! Laws of the calling side: functions that do nothing, each of whose contracts is a theorem. Each is told of every call
 //! over one unchanged job, whatever the called machine answers.
 ghost use Rattle.fax_call.specs.Delivery.{TellsWhatWasAnswered};
+ghost use Rattle.fax_call.specs.Due.{ActsFrom, RestsBefore};
 ghost use Rattle.fax_call.specs.Emission.{EmitsThePages};
 ghost use Rattle.fax_call.specs.Given.{GivesClosedPackets, GivesOneKind, TellsOneKind};
 ghost use Rattle.fax_call.specs.GivenSignals.{GivesChecksAndPages};
@@ -74,4 +75,14 @@ pub fn tells_one_kind()
 /// last before it.
 pub fn gives_checks_and_pages()
     ensures { GivesChecksAndPages }
+{}
+
+/// A tick before the moment that is due gives nothing and changes nothing.
+pub fn rests_before_it_is_due()
+    ensures { RestsBefore }
+{}
+
+/// A tick at the moment that is due, or later, gives a packet or changes the call.
+pub fn acts_from_when_it_is_due()
+    ensures { ActsFrom }
 {}

@@ -7,6 +7,7 @@ ghost use Rattle.fax_call.specs.Writings.{Writing};
 ghost use Rattle.fax_call.specs.Replies.{turn_behind};
 ghost use Rattle.fax_call.specs.Calls.{formats_of};
 ghost use Rattle.fax_call.specs.Calls.{Calling, new_calling, started, moved, timed, came, came_all, state_when_given, outcome_when_given, t4_when_given};
+ghost use Rattle.fax_call.specs.Due.{due_at, timer_of};
 ghost use Rattle.fax_call.specs.Kept.{move_shown, pending_of, FitsMove};
 ghost use Rattle.fax_call.specs.Following.{IsFit, Follows, HasText, IsJobOfCall, command_kept, with_turn, given_by, gives_now};
 ghost use Rattle.fax_ifp.specs.Shown.{piece_of, pieces_shown};
@@ -227,6 +228,31 @@ impl Procedure {
         ensures waits { IsTrue result → self.now.pending ≢ Pending.Nothing }
     {
         self.is_waiting() && self.pace.allows(now)
+    }
+
+    /// The first moment at which a tick may do something: where packets wait, that from which on the pace lets one through;
+    /// else that of the timer that acts.
+    pub fn next_due(&self) -> Option<u64>
+        requires { IsFit self.now }
+        ensures { (writes : Writing) (job : JobValue) (core : Calling) (writer : WriterValue) → Follows writes job core writer self.now
+            → result ≡ due_at core }
+    {
+        if self.is_waiting() {
+            self.pace.allowed_from()
+        } else {
+            self.timer()
+        }
+    }
+
+    /// The moment of the timer that acts: T1 in Await DIS, T4 in Await CFR and Await MCF.
+    fn timer(&self) -> Option<u64>
+        ensures { result ≡ timer_of self.now.state self.now.t1 self.now.t4 }
+    {
+        match self.state {
+            State::Idle | State::Closing(_) => None,
+            State::AwaitDis => self.t1.moment(),
+            State::AwaitCfr(..) | State::AwaitMcf(..) => self.t4.moment(),
+        }
     }
 
     /// The timers act where no packet waits: T1 in Await DIS, T4 in Await CFR and Await MCF.

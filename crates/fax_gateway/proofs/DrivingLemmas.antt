@@ -23,7 +23,7 @@ use Rattle.fax_gateway.specs.CallingLegs.{calling_leg, decided_calling}
 use Rattle.fax_gateway.specs.CalledLegs.{decided_called}
 use Rattle.fax_gateway.specs.Sides.{sides}
 use Rattle.fax_gateway.specs.Reached.{HearsFrom, IsReachedBy}
-use Rattle.fax_gateway.specs.Wires.{Known, Came, Grows, greatest_count, failures_after, receipt_of}
+use Rattle.fax_gateway.specs.Wires.{Known, Came, Nothing, Failed, Grows, buffer_octets, greatest_count, failures_after, receipt_of}
 use Rattle.fax_gateway.specs.Driving.{Entry, AreWanting, IsWanting, Accepts, BringsNone, moment_of, AreReceives, AreRounds, HasFailed, IsRing, IsRingIf, IsRound, IsTick, IsTurn, RefusesRing, Tells, log_of, is_refused_ring, RefusesDatagram, RefusesTick, ReceivesNothing, FailsToReceive, Sends, DriverValue, Carries, Happens, HasMade, Steps, Comes, IsHanded, IsSent, counted, events, events_in, failed_in_a_row, most_failed, receipts, receipts_in, sent, sent_in, is_failed_receive, is_failed_send, is_refused_event}
 
 pub grows_more : {A : Type 0} (older newer : List A) (a b c : Option (List A)) → Grows older a b → Grows newer b c → Grows (newer ++ older) a c
@@ -121,10 +121,10 @@ carries_unseen e a r s f n = record {
 -- a receive, by what it answered
 pub carries_datagram :
     (at : Side) (buffer octets : List ℕ) (count : ℕ) (e : Entry) (a b : Known) (r : Result (Option ℕ) WireFault)
-    → r ≡ Ok (Some count) → octets ≡ take count buffer → (accepted : Bool) → IsHanded accepted at octets e
+    → r ≡ Ok (Some count) → length buffer ≡ buffer_octets → octets ≡ take count buffer → (accepted : Bool) → IsHanded accepted at octets e
     → b.failures ≡ failures_after a.failures r → Grows (receipt_of at buffer r ∷ []) a.received b.received → Grows [] a.sent b.sent → Carries (e ∷ []) a b
-carries_datagram at buffer octets count e a b r is same accepted h failures received sent_on = record {
-  received = grows_as (receipt_of at buffer r ∷ []) (receipts (e ∷ [])) a.received b.received (ap (λ x. receipt_of at buffer x ∷ []) is ∙ ap (λ o. Came at o ∷ []) (sym same) ∙ ap (λ l. l ++ []) (sym h.receipt)) received;
+carries_datagram at buffer octets count e a b r is room same accepted h failures received sent_on = record {
+  received = grows_as (receipt_of at buffer r ∷ []) (receipts (e ∷ [])) a.received b.received (ap (λ x. receipt_of at buffer x ∷ []) is ∙ ap (λ n. Came at n (take count buffer) ∷ []) room ∙ ap (λ o. Came at buffer_octets o ∷ []) (sym same) ∙ ap (λ l. l ++ []) (sym h.receipt)) received;
   sent = grows_as [] (sent (e ∷ [])) a.sent b.sent (ap (λ l. l ++ []) (sym h.none_sent)) sent_on;
   failures = λ _.
       let x = count_none is_failed_receive e [] h.received in
@@ -134,10 +134,10 @@ carries_datagram at buffer octets count e a b r is same accepted h failures rece
 }
 
 pub carries_nothing :
-    (at : Side) (buffer : List ℕ) (a b : Known) (r : Result (Option ℕ) WireFault) → r ≡ Ok None
+    (at : Side) (buffer : List ℕ) (a b : Known) (r : Result (Option ℕ) WireFault) → r ≡ Ok None → length buffer ≡ buffer_octets
     → b.failures ≡ failures_after a.failures r → Grows (receipt_of at buffer r ∷ []) a.received b.received → Grows [] a.sent b.sent → Carries (ReceivesNothing at ∷ []) a b
-carries_nothing at buffer a b r is failures received sent = record {
-  received = subst (λ (x : Result (Option ℕ) WireFault). Grows (receipt_of at buffer x ∷ []) a.received b.received) is received;
+carries_nothing at buffer a b r is room failures received sent = record {
+  received = grows_as (receipt_of at buffer r ∷ []) (receipts (ReceivesNothing at ∷ [])) a.received b.received (ap (λ x. receipt_of at buffer x ∷ []) is ∙ ap (λ n. Nothing at n ∷ []) room) received;
   sent = sent;
   failures = λ _. let z = failures ∙ ap (failures_after a.failures) is in omega arith;
 }
@@ -146,10 +146,10 @@ pub rises_by_one : (g a b : ℕ) → b ≡ min (a + 1) g → b < g → b ≡ a +
 rises_by_one g a b = omega arith
 
 pub carries_failure :
-    (at : Side) (buffer : List ℕ) (a b : Known) (r : Result (Option ℕ) WireFault) (fault : WireFault) → r ≡ Err fault
+    (at : Side) (buffer : List ℕ) (a b : Known) (r : Result (Option ℕ) WireFault) (fault : WireFault) → r ≡ Err fault → length buffer ≡ buffer_octets
     → b.failures ≡ failures_after a.failures r → Grows (receipt_of at buffer r ∷ []) a.received b.received → Grows [] a.sent b.sent → Carries (FailsToReceive at ∷ []) a b
-carries_failure at buffer a b r fault is failures received sent = record {
-  received = subst (λ (x : Result (Option ℕ) WireFault). Grows (receipt_of at buffer x ∷ []) a.received b.received) is received;
+carries_failure at buffer a b r fault is room failures received sent = record {
+  received = grows_as (receipt_of at buffer r ∷ []) (receipts (FailsToReceive at ∷ [])) a.received b.received (ap (λ x. receipt_of at buffer x ∷ []) is ∙ ap (λ n. Failed at n ∷ []) room) received;
   sent = sent;
   failures = λ low. rises_by_one greatest_count a.failures b.failures (failures ∙ ap (failures_after a.failures) is) low;
 }

@@ -117,7 +117,7 @@ begins_none setup P writes job before now marks = by (pace_allows before.pace.la
     by true = subst (EachEmission P marks) (sym (tone_back setup)) (tt, tt)
     by false = tt
 
-free_none : (setup : Setup) (P : List Mark → Emission → Type 0) (writes : Writing) (leg : Option CalledLeg) (o : Option JobValue) (now : ℕ) (marks : List Mark) → is_free leg ≡ true →
+pub free_none : (setup : Setup) (P : List Mark → Emission → Type 0) (writes : Writing) (leg : Option CalledLeg) (o : Option JobValue) (now : ℕ) (marks : List Mark) → is_free leg ≡ true →
     EachEmission P marks (elements_told (told_called setup writes (leg_of o (core_left setup writes leg) now leg) now))
 free_none setup P writes leg (Some job) now marks f = begins_none setup P writes job (core_left setup writes leg) now marks
 free_none setup P writes None None now marks f = tt

@@ -11,9 +11,11 @@ mod Held
 mod HonestCall
 mod IdleLegs
 mod InCalls
+mod KeptApart
 mod LegsRead
 mod McfAnswers
 mod OfTheirCalls
+mod OwnConfirmed
 mod Replied
 mod Reporting
 mod ServedAlone
@@ -27,3 +29,4 @@ mod Chained
 mod Relayed
 pub mod SentPages
 mod Zeros
+mod Resting

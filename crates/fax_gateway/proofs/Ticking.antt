@@ -112,11 +112,11 @@ served_off setup writes now steps (Some l) side off r =
     }
 
 -- THE ORDER of a tick
-sent_on : (b : Bool) (j job : JobValue) → (if◌then◌else◌ {A = Option JobValue} b None (Some j)) ≡ Some job → (b ≡ false) × (j ≡ job)
+pub sent_on : (b : Bool) (j job : JobValue) → (if◌then◌else◌ {A = Option JobValue} b None (Some j)) ≡ Some job → (b ≡ false) × (j ≡ job)
 sent_on true j job e = cc
 sent_on false j job e = (refl, cc)
 
-sent_off : (leg : Option CalledLeg) → job_sent leg ≡ None → is_free leg ≡ true
+pub sent_off : (leg : Option CalledLeg) → job_sent leg ≡ None → is_free leg ≡ true
 sent_off None e = refl
 sent_off (Some l) e = by l.entered e
   where
@@ -144,7 +144,7 @@ heard_is setup writes trace at old heard r h =
 sending_is : (setup : Setup) (writes : Writing) (trace : List Event) (at : ℕ) (old : GatewayValue) → IsReachedBy setup writes trace old → (after_steps new_past (steps_heard setup writes trace at)).book.sending ≡ old.book.sending
 sending_is setup writes trace at old r = heard_sends (calling_leg setup trace) (max at (clock trace)) (sides setup writes trace).steps ∙ sym (ap (λ (b : Book). b.sending) r.book)
 
-job_is : (setup : Setup) (writes : Writing) (trace : List Event) (old : GatewayValue) → IsReachedBy setup writes trace old → job_sent (sides setup writes trace).leg ≡ old.book.sending
+pub job_is : (setup : Setup) (writes : Writing) (trace : List Event) (old : GatewayValue) → IsReachedBy setup writes trace old → job_sent (sides setup writes trace).leg ≡ old.book.sending
 job_is setup writes trace old r = let h : HaveStates setup writes trace = have_states setup writes trace r.is_trace in sym (ap (λ (b : Book). b.sending) r.book ∙ h.sending)
 
 in_tick_on : (setup : Setup) (writes : Writing) (trace : List Event) (at : ℕ) (leg : Option CalledLeg) → (sides setup writes trace).leg ≡ leg → is_free leg ≡ false → in_tick setup writes trace at ≡ record { steps = steps_heard setup writes trace at; leg = leg }
@@ -154,7 +154,7 @@ in_tick_on setup writes trace at leg is on =
 
 -- a job is being sent
 pub serves_on : (setup : Setup) (writes : Writing) (trace : List Event) (at : ℕ) (old : GatewayValue) (job : JobValue) (side : CalledSide) (given : Option (List ℕ)) (heard : Book) → IsReachedBy setup writes trace old → old.book.sending ≡ Some job
-    → IsHeard setup trace (max at (clock trace)) old heard → ((l : CalledLeg) → l.job ≡ job → IsCalled setup writes (Some l) old.called → TicksOn setup writes l (max at (clock trace)) given side)
+    → IsHeard setup trace (max at (clock trace)) old heard → ((l : CalledLeg) → (sides setup writes trace).leg ≡ Some l → l.entered ≡ false → l.job ≡ job → IsCalled setup writes (Some l) old.called → TicksOn setup writes l (max at (clock trace)) given side)
     → Served setup writes (max at (clock trace)) (in_tick setup writes trace at) side given (report_if (Some job) (outcome_kept side.caller.procedure) side.caller.procedure.counts.delivered)
     (ended_if (Some job) (outcome_kept side.caller.procedure) side.caller.procedure.counts.delivered heard)
 serves_on setup writes trace at old job side given heard r sending h f = by (sides setup writes trace).leg refl (job_is setup writes trace old r ∙ sending) r.called
@@ -172,7 +172,7 @@ serves_on setup writes trace at old job side given heard r sending h f = by (sid
         let now : ℕ = max at (clock trace) in
         let steps : List Step = steps_heard setup writes trace at in
         let on = sent_on l.entered l.job job e in
-        let t : TicksOn setup writes l now given side = f l on.1 c in
+        let t : TicksOn setup writes l now given side = f l is on.0 on.1 c in
         let sent : (after_steps new_past steps).book.sending ≡ Some l.job = sending_is setup writes trace at old r ∙ sending ∙ sym (ap (λ (j : JobValue). Some j) on.1) in
         same_served setup writes now (record { steps = steps; leg = Some l }) (in_tick setup writes trace at) side given (report_if (Some l.job) o d) (report_if (Some job) o d) (ended_with o d (after_steps new_past steps).book) (ended_with o d heard)
         (in_tick_on setup writes trace at (Some l) is on.0) (ap (λ (j : JobValue). report_if (Some j) o d) (sym on.1)) (ap (λ (b : Book). ended_with o d b) (heard_is setup writes trace at old heard r h))

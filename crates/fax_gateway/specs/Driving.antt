@@ -12,7 +12,7 @@ use Rattle.fax_gateway.specs.Reached.{IsReachedBy}
 use Rattle.fax_gateway.specs.declared.side.Side.{Side}
 use Rattle.fax_gateway.specs.declared.driven.Driven.{Driven}
 use Rattle.fax_gateway.specs.declared.side.Side.TheVariants as side
-use Rattle.fax_gateway.specs.Wires.{Receipt, Came, Nothing, Failed, Handed, Known, Grows, greatest_count}
+use Rattle.fax_gateway.specs.Wires.{Receipt, Came, Nothing, Failed, Handed, Known, Grows, buffer_octets, greatest_count}
 
 -- A ring, a datagram that was received, and a tick are accepted by the gateway, as an event with its answer, or refused.
 -- A receive can bring no datagram. What is given is handed over, and the send may fail.
@@ -40,20 +40,20 @@ events_in (Sends at octets fails) = []
 abbrev pub events : List Entry → List Event
 events log = flat_map events_in log
 
--- of the wire: what was received, and what was handed over
+-- of the wire: what was received, each time into a buffer that is long enough for any datagram; and what was handed over
 abbrev pub receipt_of_event : Event → List Receipt
 receipt_of_event (Ring now number) = []
-receipt_of_event (FromCalling octets now decided read) = Came side.Calling octets ∷ []
-receipt_of_event (FromCalled octets now decided) = Came side.Called octets ∷ []
+receipt_of_event (FromCalling octets now decided read) = Came side.Calling buffer_octets octets ∷ []
+receipt_of_event (FromCalled octets now decided) = Came side.Called buffer_octets octets ∷ []
 receipt_of_event (Tick now given) = []
 
 abbrev pub receipts_in : Entry → List Receipt
 receipts_in (Accepts event) = receipt_of_event event
 receipts_in RefusesRing = []
-receipts_in (RefusesDatagram at octets) = Came at octets ∷ []
+receipts_in (RefusesDatagram at octets) = Came at buffer_octets octets ∷ []
 receipts_in RefusesTick = []
-receipts_in (ReceivesNothing at) = Nothing at ∷ []
-receipts_in (FailsToReceive at) = Failed at ∷ []
+receipts_in (ReceivesNothing at) = Nothing at buffer_octets ∷ []
+receipts_in (FailsToReceive at) = Failed at buffer_octets ∷ []
 receipts_in (Sends at octets fails) = []
 
 abbrev pub receipts : List Entry → List Receipt
@@ -111,9 +111,9 @@ is_failed_send (Sends at octets fails) = fails
 -- how many of the last receives failed, one after the other
 abbrev pub failed_in_a_row : List Receipt → ℕ
 failed_in_a_row [] = 0
-failed_in_a_row (Came at octets ∷ earlier) = 0
-failed_in_a_row (Nothing at ∷ earlier) = 0
-failed_in_a_row (Failed at ∷ earlier) = failed_in_a_row earlier + 1
+failed_in_a_row (Came at room octets ∷ earlier) = 0
+failed_in_a_row (Nothing at room ∷ earlier) = 0
+failed_in_a_row (Failed at room ∷ earlier) = failed_in_a_row earlier + 1
 
 abbrev pub most_failed : ℕ
 most_failed = 100
@@ -276,7 +276,7 @@ IsReceive false at now entry = BringsNone at entry
 
 -- a datagram of these octets was handed on, and accepted or refused
 pub record IsHanded (accepted : Bool) (at : Side) (octets : List ℕ) (entry : Entry) : Type 0 where
-  pub receipt : receipts_in entry ≡ Came at octets ∷ []
+  pub receipt : receipts_in entry ≡ Came at buffer_octets octets ∷ []
   pub refused : is_refused_event entry ≡ not accepted
   pub none_sent : sent_in entry ≡ []
   pub received : is_failed_receive entry ≡ false

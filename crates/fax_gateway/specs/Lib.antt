@@ -1,5 +1,6 @@
 pub mod Alone
 pub mod Answers
+pub mod Apart
 pub mod CalledLegs
 pub mod CallingLegs
 pub mod Chain
@@ -12,6 +13,7 @@ pub mod Lacking
 pub mod Legs
 pub mod FaultNumbers
 pub mod Origins
+pub mod OwnConfirmations
 pub mod Reached
 pub mod Reports
 pub mod ReportsTold
@@ -22,3 +24,4 @@ pub mod Turns
 pub mod Wires
 pub mod Sent
 pub mod Setups
+pub mod Due

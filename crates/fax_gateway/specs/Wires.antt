@@ -1,13 +1,13 @@
 -- What goes over a wire. (This project's profile.) Lists have the newest first.
-use Rattle.std.specs.Prelude.{◌≡◌, ℕ, ◌+◌, ◌-◌, ◌^◌, min, List, ◌++◌, take, Option, Some, None, Result, Ok, Err}
+use Rattle.std.specs.Prelude.{◌≡◌, ℕ, ◌+◌, ◌-◌, ◌^◌, min, List, ◌++◌, length, take, Option, Some, None, Result, Ok, Err}
 use Rattle.fax_gateway.specs.declared.side.Side.{Side}
 use Rattle.fax_gateway.specs.declared.wire.WireFault.{WireFault}
 
--- what a receive on a leg answered: a datagram, that nothing has come, or that it failed
+-- what a receive on a leg, into a buffer of so many octets, answered: a datagram, that nothing has come, or that it failed
 pub data Receipt : Type 0 where
-  Came : (side : Side) → (octets : List ℕ) → Receipt
-  Nothing : (side : Side) → Receipt
-  Failed : (side : Side) → Receipt
+  Came : (side : Side) → (room : ℕ) → (octets : List ℕ) → Receipt
+  Nothing : (side : Side) → (room : ℕ) → Receipt
+  Failed : (side : Side) → (room : ℕ) → Receipt
 
 -- a datagram that was handed over, to be sent on a leg
 pub record Handed : Type 0 where
@@ -29,9 +29,13 @@ failures_after failures (Ok answer) = failures
 failures_after failures (Err fault) = min (failures + 1) greatest_count
 
 abbrev pub receipt_of : Side → List ℕ → Result (Option ℕ) WireFault → Receipt
-receipt_of side buffer (Ok (Some count)) = Came side (take count buffer)
-receipt_of side buffer (Ok None) = Nothing side
-receipt_of side buffer (Err fault) = Failed side
+receipt_of side buffer (Ok (Some count)) = Came side (length buffer) (take count buffer)
+receipt_of side buffer (Ok None) = Nothing side (length buffer)
+receipt_of side buffer (Err fault) = Failed side (length buffer)
+
+-- No datagram of UDP is longer than a buffer of so many octets: its length has 16 bits (RFC 768).
+abbrev pub buffer_octets : ℕ
+buffer_octets = 2 ^ 16
 
 -- Where a list is told, it was told before, and has these before it.
 abbrev pub Grows : {A : Type 0} → List A → Option (List A) → Option (List A) → Type 0

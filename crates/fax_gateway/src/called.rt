@@ -5,7 +5,8 @@ ghost use Rattle.fax_call.specs.Writings.{IsWriting, Writing};
 ghost use Rattle.fax_call.specs.Following.{IsJobOfCall};
 ghost use Rattle.fax_call.specs.declared.pending.Pending.TheVariants as Pending;
 ghost use Rattle.fax_gateway.specs.Setups.{AreAllowed, AreSet, Setup};
-ghost use Rattle.fax_gateway.specs.CalledLegs.{CalledLeg, begun_leg, core_left, decided_called, hears};
+ghost use Rattle.fax_gateway.specs.CalledLegs.{CalledLeg, begun_leg, core_left, core_of, decided_called, hears};
+ghost use Rattle.fax_gateway.specs.Due.{call_due};
 ghost use Rattle.fax_gateway.specs.Reached.{Begins, CalledHasRoom, IsCalled, IsLeg, IsServed, TicksOn, called_alone, most_octets, outcome_kept};
 
 use crate::leg::Leg;
@@ -70,6 +71,16 @@ impl CalledSide {
             self.caller.outcome()
         } else {
             None
+        }
+    }
+
+    /// The first moment at which a tick in the call may give something or change it, or its end is entered: 0 where it is over.
+    pub fn next_due(&self) -> Option<u64>
+        ensures { (setup : Setup) (writes : Writing) (l : CalledLeg) → IsCalled setup writes (Some l) self.now → result ≡ call_due (core_of writes l) }
+    {
+        match self.outcome() {
+            Some(_) => Some(0),
+            None => self.caller.next_due(),
         }
     }
 

@@ -3,6 +3,7 @@ ghost use Rattle.std.specs.Prelude.{◌≡◌, ◌≤◌, ◌↔◌, ℕ, true, 
 ghost use Rattle.fax_udptl.specs.Sending.{most_redundancy};
 ghost use Rattle.fax_gateway.specs.Setups.{AreAllowed, AreSet, Setup};
 ghost use Rattle.fax_gateway.specs.CallingLegs.{CallingLeg, decided_calling, idle_after, rung_leg};
+ghost use Rattle.fax_gateway.specs.Due.{calling_due};
 ghost use Rattle.fax_gateway.specs.Reached.{IsCalling, HearsCalling, CallingHasRoom, TellsTick, answering_of, calling_alone, ticked_on};
 ghost use Rattle.fax_gateway.specs.Turns.{call_kept, call_on};
 
@@ -106,6 +107,13 @@ impl<S: RowStore> CallingSide<S> {
         ensures { result ≡ self.now.number }
     {
         self.number
+    }
+
+    /// The first moment at which a tick may give something or change the call.
+    pub fn next_due(&self) -> Option<u64>
+        ensures { (setup : Setup) (leg : Option CallingLeg) → IsCalling setup leg self.now → result ≡ calling_due setup leg }
+    {
+        self.answerer.next_due()
     }
 
     /// Takes the memory of the next tick.

@@ -1,43 +1,27 @@
 //! A driver of a gateway.
-ghost use Rattle.std.specs.Prelude.{◌≡◌, ◌<◌, ◌↔◌, ℕ, List, [], ◌∷◌, ◌++◌, IsTrue, IfOk, is_some, option_copied, vec_len};
+ghost use Rattle.std.specs.Prelude.{◌≡◌, ◌<◌, ◌↔◌, List, [], ◌++◌, IsTrue, IfOk, is_some};
 ghost use Rattle.fax_call.specs.Writings.{IsWriting, Writing};
 ghost use Rattle.fax_gateway.specs.Setups.{Setup};
 ghost use Rattle.fax_gateway.specs.Events.{Event};
 ghost use Rattle.fax_gateway.specs.Reached.{IsReachedBy};
-ghost use Rattle.fax_gateway.specs.declared.side.Side.{Side as SideShown};
-ghost use Rattle.fax_gateway.specs.Driving.{AreReceives, Carries, Comes, Entry, FailsToReceive, Happens, HasMade, IsHanded, IsReceive, IsSent, IsTick, IsTurn, IsWanting, Steps, events, failed_in_a_row, most_failed, receipts};
+ghost use Rattle.fax_gateway.specs.Driving.{Entry, Happens, HasMade, IsTurn, events, failed_in_a_row, most_failed, receipts};
 ghost use Rattle.fax_gateway.specs.Turns.{TellTicks, call_dialled, call_ended, call_kept};
 
-use crate::driven::Driven;
+use crate::buffer::Buffer;
+use crate::engine::Engine;
 use crate::gateway::Gateway;
-use crate::given::Told;
-use crate::side::Side;
 use crate::turned::Turned;
-use crate::wire::{Wire, WireFault};
-use fax_bits::{NoMemory, Octets};
-use fax_jobs::Job;
+use crate::wire::Wire;
+use fax_bits::NoMemory;
 use fax_pagestore::RowStore;
 use std::alloc::Global;
 use std::marker::Model;
 
-/// The most datagrams of a leg in a turn.
-const MOST_DATAGRAMS: u8 = 16;
-
-/// So many receives that fail one after the other are the last.
-const MOST_FAILED: u8 = 100;
-
-/// How many octets a datagram can have.
-const MOST_OCTETS: usize = 65_536;
-
-/// What drives a gateway over a wire.
+/// What drives a gateway over a wire: an engine with a buffer of its own.
 #[derive(Drop)]
 pub struct Driver {
-    buffer: Vec<u8>,
-    /// How many of the last receives failed, one after the other; at most 100.
-    failed_in_a_row: u8,
-    events_refused: u64,
-    receives_failed: u64,
-    sends_failed: u64,
+    engine: Engine,
+    buffer: Buffer,
 }
 
 impl Model for Driver {
@@ -45,7 +29,7 @@ impl Model for Driver {
 
     ghost Value = { DriverValue };
 
-    ghost view = { λ d. record { failed_in_a_row = d.failed_in_a_row; events_refused = d.events_refused; receives_failed = d.receives_failed; sends_failed = d.sends_failed } };
+    ghost view = { λ d. d.engine };
 }
 
 impl Driver {
@@ -53,20 +37,14 @@ impl Driver {
     pub fn new(alloc: Global) -> Result<Self, NoMemory>
         ensures { IfOk result (λ driver. HasMade [] driver) }
     {
-        let buffer = buffer_of(alloc)?;
+        let buffer = Buffer::new(alloc)?;
         Ok(Driver {
+            engine: Engine::new(),
             buffer,
-            failed_in_a_row: 0,
-            events_refused: 0,
-            receives_failed: 0,
-            sends_failed: 0,
         })
     }
 
-    /// A turn: of the calling and then of the called leg at most 16 datagrams are received and handed on, until none comes or
-    /// a receive fails; then time goes on, and what is given is sent, the calling leg first. A datagram whose send fails is
-    /// lost, and what the gateway refuses for want of memory is left out. It answers what happened: what its tick told, unless
-    /// that was refused, and which calls ended and began between its two ends.
+    /// A turn, as that of an engine.
     pub fn turn<S: RowStore, W: Wire>(
         &mut self,
         gateway: &mut Gateway<S>,
@@ -80,169 +58,6 @@ impl Driver {
         ensures ended { result.ended ≡ call_ended (call_kept gateway.old.calling) (call_kept gateway.new.calling) }
         ensures dialled { result.dialled ≡ call_dialled (is_some gateway.old.book.sending) gateway.new.book.sending }
     {
-        let call = gateway.call();
-        let was_sending = gateway.sending().is_some();
-        self.serve(Side::Calling, gateway, wire, now);
-        self.serve(Side::Called, gateway, wire, now);
-        let told = self.tick(gateway, wire, now);
-        Turned {
-            goes_on: self.failed_in_a_row < MOST_FAILED,
-            report: told.report,
-            kept: told.kept,
-            ended: call_ended(call, gateway.call()),
-            gave_up: told.gave_up,
-            dialled: call_dialled(was_sending, gateway.sending()),
-        }
-    }
-
-    /// What a run of so many turns came to, where this driver made it.
-    pub(crate) fn told(&self, turns: u32, rings_refused: u64, stopped: bool) -> Driven
-        ensures { result ≡ record { turns = turns; rings_refused = rings_refused; events_refused = self.now.events_refused; sends_failed = self.now.sends_failed; receives_failed = self.now.receives_failed; stopped = stopped } }
-    {
-        Driven {
-            turns,
-            rings_refused,
-            events_refused: self.events_refused,
-            sends_failed: self.sends_failed,
-            receives_failed: self.receives_failed,
-            stopped,
-        }
-    }
-
-    /// Receives and hands on at most 16 datagrams of a leg, until none comes or a receive fails.
-    fn serve<S: RowStore, W: Wire>(
-        &mut self,
-        side: Side,
-        gateway: &mut Gateway<S>,
-        wire: &mut W,
-        now: u64,
-    )
-        ensures { (setup : Setup) (writes : Writing) (trace : List Event) (earlier : List Entry) → IsReachedBy setup writes trace gateway.old → HasMade earlier self.old
-            → (log : List Entry) × AreReceives side now log × Steps setup writes log trace earlier gateway.new (W.known wire.old) (W.known wire.new) self.new }
-    {
-        for _ in 0..MOST_DATAGRAMS {
-            if !self.receive(side, gateway, wire, now) {
-                return;
-            }
-        }
-    }
-
-    /// Receives and hands on a datagram of a leg. It answers whether one came.
-    fn receive<S: RowStore, W: Wire>(
-        &mut self,
-        side: Side,
-        gateway: &mut Gateway<S>,
-        wire: &mut W,
-        now: u64,
-    ) -> bool
-        ensures { (setup : Setup) (writes : Writing) (trace : List Event) (earlier : List Entry) → IsReachedBy setup writes trace gateway.old → HasMade earlier self.old
-            → (entry : Entry) × IsReceive result side now entry × Steps setup writes (entry ∷ []) trace earlier gateway.new (W.known wire.old) (W.known wire.new) self.new }
-    {
-        match wire.receive(side, self.buffer.as_mut_slice()) {
-            Ok(Some(count)) => {
-                let is_accepted = hand_on(side, &self.buffer[..count], gateway, now);
-                self.note_datagram(is_accepted);
-                true
-            }
-            Ok(None) => {
-                self.failed_in_a_row = 0;
-                false
-            }
-            Err(WireFault) => {
-                self.note_failure();
-                false
-            }
-        }
-    }
-
-    /// A datagram came, and was accepted or refused.
-    fn note_datagram(&mut self, is_accepted: bool)
-        ensures { (log : List Entry) (at : SideShown) (octets : List ℕ) (entry : Entry) → IsHanded is_accepted at octets entry → HasMade log self.old → HasMade (entry ∷ log) self.new }
-    {
-        self.failed_in_a_row = 0;
-        if !is_accepted {
-            self.events_refused = self.events_refused.saturating_add(1);
-        }
-    }
-
-    /// A receive failed.
-    fn note_failure(&mut self)
-        ensures { (log : List Entry) (at : SideShown) → HasMade log self.old → HasMade (FailsToReceive at ∷ log) self.new }
-    {
-        self.receives_failed = self.receives_failed.saturating_add(1);
-        if self.failed_in_a_row < MOST_FAILED {
-            self.failed_in_a_row += 1;
-        }
-    }
-
-    /// Time goes on, and what is given is sent. It answers what is told: nothing where the tick is refused.
-    fn tick<S: RowStore, W: Wire>(
-        &mut self,
-        gateway: &mut Gateway<S>,
-        wire: &mut W,
-        now: u64,
-    ) -> Told
-        ensures { (setup : Setup) (writes : Writing) (trace : List Event) (earlier : List Entry) → IsWriting writes → IsReachedBy setup writes trace gateway.old → HasMade earlier self.old
-            → (log : List Entry) × IsTick now log × Steps setup writes log trace earlier gateway.new (W.known wire.old) (W.known wire.new) self.new
-            × TellTicks setup trace (events log ++ trace) result.report result.kept result.gave_up }
-    {
-        match gateway.tick(now) {
-            Ok(given) => {
-                self.send(Side::Calling, &given.calling, wire);
-                self.send(Side::Called, &given.called, wire);
-                given.told()
-            }
-            Err(NoMemory) => {
-                self.events_refused = self.events_refused.saturating_add(1);
-                Told::nothing()
-            }
-        }
-    }
-
-    /// Sends what is given on a leg.
-    fn send<W: Wire>(&mut self, side: Side, given: &Option<Octets>, wire: &mut W)
-        ensures { (earlier : List Entry) → HasMade earlier self.old
-            → (log : List Entry) × IsSent side given.now log × Carries log (W.known wire.old) (W.known wire.new) × HasMade (log ++ earlier) self.new }
-    {
-        let Some(octets) = given else {
-            return;
-        };
-        match wire.send(side, octets.as_slice()) {
-            Ok(()) => {}
-            Err(WireFault) => self.sends_failed = self.sends_failed.saturating_add(1),
-        }
-    }
-}
-
-/// A buffer for one datagram.
-fn buffer_of(alloc: Global) -> Result<Vec<u8>, NoMemory> {
-    Ok(vec![in alloc; 0; MOST_OCTETS]?)
-}
-
-/// The call that was on, and is on no more.
-fn call_ended(was_on: Option<u32>, is_on: Option<u32>) -> Option<u32>
-    ensures { result ≡ call_ended was_on is_on }
-{
-    if is_on.is_some() { None } else { was_on }
-}
-
-/// The call of the job that is being sent, where none was.
-fn call_dialled<S: RowStore>(was_sending: bool, job: Option<&Job<S>>) -> Option<u32>
-    ensures { result ≡ call_dialled was_sending (option_copied job.entry) }
-{
-    match job {
-        Some(job) if !was_sending => Some(job.call()),
-        _ => None,
-    }
-}
-
-/// Hands a datagram of a leg on to the gateway. It answers whether it was accepted.
-fn hand_on<S: RowStore>(side: Side, octets: &[u8], gateway: &mut Gateway<S>, now: u64) -> bool
-    ensures { (setup : Setup) (writes : Writing) (trace : List Event) → IsReachedBy setup writes trace gateway.old
-        → (entry : Entry) × Comes side now entry × IsHanded result side octets.now entry × IsWanting setup writes trace entry × IsReachedBy setup writes (events (entry ∷ []) ++ trace) gateway.new }
-{
-    match side {
-        Side::Calling => gateway.from_calling(octets, now).is_ok(),
-        Side::Called => gateway.from_called(octets, now).is_ok(),
+        self.engine.turn(&mut self.buffer, gateway, wire, now)
     }
 }

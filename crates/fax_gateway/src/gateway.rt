@@ -1,5 +1,6 @@
 //! The gateway.
 ghost use Rattle.std.specs.Prelude.{◌≡◌, ◌<◌, ◌≤◌, ◌↔◌, ℕ, max, true, false, not, ◌&&◌, List, [], ◌∷◌, Option, None, Ok, Err, IsSome, IfOk, IfErr, OnOk, OnErr, slice_get, length, option_copied};
+ghost use Rattle.fax_timers.specs.Moments.{is_due};
 ghost use Rattle.fax_jobs.specs.Books.{confirmed, report_of};
 ghost use Rattle.fax_answer.specs.Shown.{confirmed_shown};
 ghost use Rattle.fax_call.specs.Writings.{IsWriting, Writing};
@@ -9,6 +10,7 @@ ghost use Rattle.fax_gateway.specs.Events.{Event, Ring, FromCalled, Tick, clock,
 ghost use Rattle.fax_gateway.specs.CallingLegs.{CallingLeg, calling_leg, decided_calling, idle_after, told_calling};
 ghost use Rattle.fax_gateway.specs.CalledLegs.{decided_called};
 ghost use Rattle.fax_gateway.specs.Sides.{book_of, sides};
+ghost use Rattle.fax_gateway.specs.Due.{called_due, due_at, job_due, nothing_given};
 ghost use Rattle.fax_gateway.specs.Reached.{CallingHasRoom, HasRoom, HearsFrom, IsCalling, IsLeg, IsReachedBy, IsServed, alone, closed_if, confirmed_if, confirmed_on, ended_if, ended_on, given_shown, most_octets, outcome_kept, report_if, ticked_on};
 ghost use Rattle.fax_gateway.specs.Turns.{call_if, call_kept, call_on, given_up_at, kept_at, kept_if};
 
@@ -22,7 +24,7 @@ use fax_answer::Confirmed;
 use fax_bits::{NoMemory, Octets};
 use fax_jobs::{Job, Jobs, Outcome, Report};
 use fax_pagestore::RowStore;
-use fax_timers::Clock;
+use fax_timers::{Clock, earlier};
 use std::alloc::Global;
 use std::marker::Model;
 
@@ -149,8 +151,9 @@ impl<S: RowStore> Gateway<S> {
     /// Time goes on, on both legs. It answers what is given: on the calling leg the answering side's next datagram, whose
     /// page joins the book where it confirms one; on the called leg that of the job that is being sent, or of the one that
     /// was closed first where none is; and the report of a job whose call has ended, behind which the next one waits for the
-    /// next tick. It tells the page that it confirms, and the call of the calling leg that it gives up. It takes memory for the
-    /// datagrams, and for a page. An `Err` changes nothing but the memory that is reserved.
+    /// next tick. It tells the page that it confirms, and the call of the calling leg that it gives up. Before the moment of
+    /// `next_due` the clock is read, and nothing else is done. It takes memory for the datagrams, and for a page. An `Err`
+    /// changes nothing but the memory that is reserved.
     pub fn tick(&mut self, now: u64) -> Result<Given, NoMemory>
         ensures ticked { IfOk result (λ given. (setup : Setup) (writes : Writing) (trace : List Event) → IsWriting writes → IsReachedBy setup writes trace self.old
             → IsReachedBy setup writes (Tick now (given_shown given) ∷ trace) self.new) }
@@ -158,15 +161,45 @@ impl<S: RowStore> Gateway<S> {
             → given.kept ≡ kept_at (calling_leg setup trace) (max now (clock trace))) }
         ensures given_up { IfOk result (λ given. (setup : Setup) (writes : Writing) (trace : List Event) → IsReachedBy setup writes trace self.old
             → given.gave_up ≡ given_up_at (calling_leg setup trace) (max now (clock trace))) }
+        ensures rests { (setup : Setup) (writes : Writing) (trace : List Event) → IsReachedBy setup writes trace self.old
+            → is_due (due_at setup writes trace) (max now (clock trace)) ≡ false
+            → (result ≡ Ok nothing_given) × (self.new ≡ record self.old { clock = max now self.old.clock }) }
         ensures err { OnErr result (alone self.new ≡ alone self.old) }
         ensures kept { OnErr result ((setup : Setup) (writes : Writing) (trace : List Event) → IsReachedBy setup writes trace self.old → IsReachedBy setup writes trace self.new) }
     {
+        let mut clock = self.clock;
+        let at = clock.read(now);
+        if !has_come(self.next_due(), at) {
+            self.clock = clock;
+            return Ok(Given::nothing());
+        }
         self.reserve()?;
         if self.jobs.sending().is_some() {
             return self.tick_in_call(now);
         }
         let leg = Leg::with_room(self.alloc, self.settings.redundancy)?;
         Ok(self.tick_between(leg, now))
+    }
+
+    /// The first moment at which a tick may give something or change more than the clock: an earlier one does neither. It is 0
+    /// where a job is to begin, and where a call is over whose end the book does not know yet. `None`: nothing is due until
+    /// something comes.
+    pub fn next_due(&self) -> Option<u64>
+        ensures { (setup : Setup) (writes : Writing) (trace : List Event) → IsReachedBy setup writes trace self.now
+            → result ≡ due_at setup writes trace }
+    {
+        earlier(self.calling.next_due(), self.called_due())
+    }
+
+    /// The same of the called leg, and of the jobs that wait.
+    fn called_due(&self) -> Option<u64>
+        ensures { (setup : Setup) (writes : Writing) (trace : List Event) → IsReachedBy setup writes trace self.now
+            → result ≡ called_due writes (sides setup writes trace).leg (book_of (sides setup writes trace)).waiting }
+    {
+        match self.jobs.sending() {
+            Some(_) => self.called.next_due(),
+            None => at_once(&self.jobs),
+        }
     }
 
     /// Takes the memory of a tick, but for that of a packet of a call that is on on the called leg.
@@ -280,6 +313,20 @@ pub(crate) fn next_number(rings: u64) -> Result<u32, RingFault>
     ensures err { IfErr result (λ fault. (fault ≡ RingFault.NoNumber) × (4294967296 ≤ rings)) }
 {
     u32::try_from(rings).map_err(|_| RingFault::NoNumber)
+}
+
+/// At once, which is moment 0, where jobs wait.
+fn at_once<S: RowStore>(jobs: &Jobs<S>) -> Option<u64>
+    ensures { result ≡ job_due jobs.now.book.waiting }
+{
+    if jobs.waiting() == 0 { None } else { Some(0) }
+}
+
+/// Whether a moment has come, where there is one.
+fn has_come(moment: Option<u64>, now: u64) -> bool
+    ensures { result ≡ is_due moment now }
+{
+    moment.is_some_and(|moment| moment <= now)
 }
 
 /// Whether a call that was on has ended.

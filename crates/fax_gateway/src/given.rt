@@ -1,5 +1,6 @@
 //! What a tick gives.
 ghost use Rattle.std.specs.Prelude.{◌≡◌, None, is_some};
+ghost use Rattle.fax_gateway.specs.Due.{nothing_given};
 
 use fax_bits::Octets;
 use fax_jobs::Report;
@@ -52,6 +53,19 @@ impl Told {
 }
 
 impl Given {
+    /// What a tick gives that does nothing.
+    pub(crate) fn nothing() -> Self
+        ensures { result ≡ nothing_given }
+    {
+        Given {
+            calling: None,
+            called: None,
+            report: None,
+            kept: None,
+            gave_up: None,
+        }
+    }
+
     /// Whether a job ended.
     pub fn ended(&self) -> bool
         ensures { result ≡ is_some self.now.report }

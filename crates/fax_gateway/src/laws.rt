@@ -2,12 +2,14 @@
 //! rings, datagrams of both legs and ticks, with the answers of a gateway, from a new one on.
 ghost use Rattle.fax_gateway.specs.Alone.{IsServedAlone};
 ghost use Rattle.fax_gateway.specs.Answers.{EachMcfAnswers};
+ghost use Rattle.fax_gateway.specs.Apart.{DatagramsAreApart};
 ghost use Rattle.fax_gateway.specs.Chain.{ChainsHear, ChainsRelay};
 ghost use Rattle.fax_gateway.specs.Cuts.{JobsAreCut};
 ghost use Rattle.fax_gateway.specs.Forwards.{ForwardsWhatItConfirmed};
 ghost use Rattle.fax_gateway.specs.GoesOn.{LegsAreRead, TracesGoOn};
 ghost use Rattle.fax_gateway.specs.Lacking.{NoneIsLacking};
 ghost use Rattle.fax_gateway.specs.Origins.{JobsAreOfTheirCalls};
+ghost use Rattle.fax_gateway.specs.OwnConfirmations.{EachPageHasItsOwnConfirmation};
 ghost use Rattle.fax_gateway.specs.Reports.{JobsHaveStates};
 ghost use Rattle.fax_gateway.specs.ReportsTold.{ReportsTheJob};
 ghost use Rattle.fax_gateway.specs.Sent.{ConfirmsSignals, HearsSentFrames};
@@ -18,6 +20,13 @@ ghost use Rattle.fax_gateway.specs.Sent.{ConfirmsSignals, HearsSentFrames};
 /// image of a job's call is page 0, the next page goes out only behind MCF or RTP, the same page again only behind RTN.
 pub fn forwards_what_it_confirmed()
     ensures { ForwardsWhatItConfirmed }
+{}
+
+/// Each image that goes out is page n of the job that is being sent, and page n has a confirmation of its own: the tick, in the
+/// call that the job names, before which just so many pages were confirmed as the jobs that ended have, and n more. So two
+/// pages never share one, equal as they may be, and later pages have later ones.
+pub fn each_page_has_its_own_confirmation()
+    ensures { EachPageHasItsOwnConfirmation }
 {}
 
 /// Every trace goes on with a ring while no call is on, any octets on either leg and a tick, at any moment. (Of octets of the
@@ -89,6 +98,11 @@ pub fn confirms_signals()
 /// at a frame's end, each frame that the call hears is a frame that was sent.
 pub fn hears_sent_frames()
     ensures { HearsSentFrames }
+{}
+
+/// On each leg a datagram is given at least 40 ms behind the one before it, over all its calls.
+pub fn datagrams_are_apart()
+    ensures { DatagramsAreApart }
 {}
 
 /// Two gateways in a row: what the second hears of a call of the first, over any honest schedule, are frames and image signals

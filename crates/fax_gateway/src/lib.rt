@@ -5,10 +5,12 @@
 //! an answer say, in `Told`; what a gateway keeps of a trace, in `Reached`; what is told of ticks and turns, in `Turns`.
 #![tactic(auto)]
 
+mod buffer;
 mod called;
 mod calling;
 mod driven;
 mod driver;
+mod engine;
 mod fault;
 mod gateway;
 mod given;
@@ -20,8 +22,10 @@ mod side;
 mod turned;
 mod wire;
 
+pub use buffer::Buffer;
 pub use driven::Driven;
 pub use driver::Driver;
+pub use engine::Engine;
 pub use fault::RingFault;
 pub use gateway::Gateway;
 pub use given::{Given, Kept};

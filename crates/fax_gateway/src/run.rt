@@ -8,8 +8,9 @@ ghost use Rattle.fax_gateway.specs.Reached.{IsReachedBy};
 ghost use Rattle.fax_gateway.specs.Wires.{greatest_count};
 ghost use Rattle.fax_gateway.specs.Driving.{AreRounds, Entry, Happens, IsRingIf, Tells, events, is_refused_ring, log_of, moment_of};
 
+use crate::buffer::Buffer;
 use crate::driven::Driven;
-use crate::driver::Driver;
+use crate::engine::Engine;
 use crate::gateway::Gateway;
 use crate::wire::Wire;
 use fax_bits::NoMemory;
@@ -36,18 +37,19 @@ pub fn drive<S: RowStore, W: Wire>(
         → (W.known wire.new).failures < greatest_count → (W.known wire.new).failures ≡ (W.known wire.old).failures + (driven.sends_failed + driven.receives_failed)) }
     ensures err { OnErr result ((gateway.new ≡ gateway.old) × (wire.new ≡ wire.old)) }
 {
-    let mut driver = Driver::new(alloc)?;
+    let mut buffer = Buffer::new(alloc)?;
+    let mut engine = Engine::new();
     let mut rings_refused = 0u64;
     for turn in 0..turns {
         let now = moment(start, turn);
         let is_refused = ring_if(rings.contains(&turn), gateway, now);
         rings_refused += u64::from(is_refused);
-        let turned = driver.turn(gateway, wire, now);
+        let turned = engine.turn(&mut buffer, gateway, wire, now);
         if !turned.goes_on {
-            return Ok(driver.told(turn + 1, rings_refused, true));
+            return Ok(engine.told(turn + 1, rings_refused, true));
         }
     }
-    Ok(driver.told(turns, rings_refused, false))
+    Ok(engine.told(turns, rings_refused, false))
 }
 
 /// Rings where it is to. It answers whether the ring was refused.

@@ -10,7 +10,7 @@ ghost use Rattle.fax_gateway.specs.Turns.{call_dialled, call_ended, call_kept};
 ghost use Rattle.fax_line.specs.Actions.{Goes, IsNew, Rings, TellsTurn, Turns, call_of, no_turn};
 
 use fax_bits::NoMemory;
-use fax_gateway::{Driver, Gateway, RingFault, Settings, Side, Turned};
+use fax_gateway::{Buffer, Engine, Gateway, RingFault, Settings, Side, Turned};
 use fax_jobs::{Job, Report};
 use fax_pagestore::PackedRows;
 use fax_repeat::TimedWire;
@@ -21,7 +21,7 @@ use std::marker::Model;
 #[derive(Drop)]
 pub struct Line<W: TimedWire + Drop> {
     gateway: Gateway<PackedRows>,
-    driver: Driver,
+    engine: Engine,
     wire: W,
     /// What the last turn told.
     turned: Turned,
@@ -32,13 +32,13 @@ impl<W: TimedWire + Drop> Model for Line<W> {
 
     ghost Value = { LineValue };
 
-    ghost view = { λ l. record { gateway = l.gateway; driver = l.driver; wire = W.known l.wire; turned = l.turned } };
+    ghost view = { λ l. record { gateway = l.gateway; driver = l.engine; wire = W.known l.wire; turned = l.turned } };
 
-    ghost invariant = { λ l. TellsWhether l.turned.goes_on l.driver };
+    ghost invariant = { λ l. TellsWhether l.turned.goes_on l.engine };
 }
 
 impl<W: TimedWire + Drop> Line<W> {
-    /// A line to which nothing came, with these settings. It takes memory for its gateway, and for one datagram.
+    /// A line to which nothing came, with these settings. It takes memory for its gateway.
     pub fn new(alloc: Global, settings: Settings, wire: W) -> Result<Self, NoMemory>
         requires { AreAllowed settings }
         ensures new { IfOk result (λ line. IsNew line) }
@@ -47,10 +47,9 @@ impl<W: TimedWire + Drop> Line<W> {
         ensures turned { IfOk result (λ line. line.turned ≡ no_turn) }
     {
         let gateway = Gateway::with_settings(alloc, settings)?;
-        let driver = Driver::new(alloc)?;
         Ok(Line {
             gateway,
-            driver,
+            engine: Engine::new(),
             wire,
             turned: Turned {
                 goes_on: true,
@@ -63,15 +62,17 @@ impl<W: TimedWire + Drop> Line<W> {
         })
     }
 
-    /// A turn: the wire is told the time, and the gateway is driven. What it told is kept until the next.
-    pub fn turn(&mut self, now: u64)
+    /// A turn: the wire is told the time, and the gateway is driven, with this buffer. What it told is kept until the next.
+    pub fn turn(&mut self, buffer: &mut Buffer, now: u64)
         ensures goes { Goes (Turns now ∷ []) self.old self.new }
         ensures tells { TellsTurn now self.old self.new }
         ensures ended { self.new.turned.ended ≡ call_ended (call_kept self.old.gateway.calling) (call_kept self.new.gateway.calling) }
         ensures dialled { self.new.turned.dialled ≡ call_dialled (is_some self.old.gateway.book.sending) self.new.gateway.book.sending }
     {
         self.wire.go_on(now);
-        self.turned = self.driver.turn(&mut self.gateway, &mut self.wire, now);
+        self.turned = self
+            .engine
+            .turn(buffer, &mut self.gateway, &mut self.wire, now);
     }
 
     /// The wire is told the time, between two turns.

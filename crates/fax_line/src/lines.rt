@@ -5,7 +5,8 @@ ghost use Rattle.fax_line.specs.Deeds.{AreNew, EachGoes, RingsLine, TurnsSlot, W
 ghost use Rattle.fax_line.specs.Runs.{call_if};
 
 use crate::line::Line;
-use fax_gateway::RingFault;
+use fax_bits::NoMemory;
+use fax_gateway::{Buffer, RingFault};
 use fax_repeat::TimedWire;
 use std::alloc::{AllocError, Global};
 use std::marker::Model;
@@ -14,10 +15,11 @@ use std::marker::Model;
 pub const SLOTS: usize = 40;
 
 /// The lines of a server. Line i stands in slot i mod 40; a slot has its turn each millisecond, one behind the other, so that
-/// each line is turned each 40 ms.
+/// each line is turned each 40 ms. All share one buffer, which is lent to the line whose turn it is.
 #[derive(Drop)]
 pub struct Lines<W: TimedWire + Drop> {
     lines: Vec<Line<W>>,
+    buffer: Buffer,
     /// The slot that has the next turn.
     slot: usize,
 }
@@ -34,14 +36,16 @@ impl<W: TimedWire + Drop> Model for Lines<W> {
 }
 
 impl<W: TimedWire + Drop> Lines<W> {
-    /// No lines.
-    pub fn new(alloc: Global) -> Self
-        ensures { result ≡ record { lines = []; slot = 0 } }
+    /// No lines. It takes memory for their buffer.
+    pub fn new(alloc: Global) -> Result<Self, NoMemory>
+        ensures { IfOk result (λ lines. lines ≡ record { lines = []; slot = 0 }) }
     {
-        Lines {
+        let buffer = Buffer::new(alloc)?;
+        Ok(Lines {
             lines: Vec::new(alloc),
+            buffer,
             slot: 0,
-        }
+        })
     }
 
     /// Adds a line behind the others. Without memory nothing is changed, and the line is let go.
@@ -82,7 +86,7 @@ impl<W: TimedWire + Drop> Lines<W> {
         ensures went { Went (TurnsSlot self.old.slot now ∷ []) self.old.lines self.new.lines }
         ensures slot { self.new.slot ≡ slot_after self.old.slot }
     {
-        serve_slot(self.lines.as_mut_slice(), self.slot, now);
+        serve_slot(self.lines.as_mut_slice(), &mut self.buffer, self.slot, now);
         self.slot = slot_behind(self.slot);
     }
 
@@ -114,16 +118,21 @@ fn slot_across(slot: usize) -> usize
 }
 
 /// The turn of a slot, and the wires of the slot half a round away are told the time.
-fn serve_slot<W: TimedWire + Drop>(lines: &mut [Line<W>], slot: usize, now: u64)
+fn serve_slot<W: TimedWire + Drop>(
+    lines: &mut [Line<W>],
+    buffer: &mut Buffer,
+    slot: usize,
+    now: u64,
+)
     requires { slot < most_slots }
     ensures { Went (TurnsSlot slot now ∷ []) lines.old lines.new }
 {
-    turn_slot(lines, slot, now);
+    turn_slot(lines, buffer, slot, now);
     tell_slot(lines, slot_across(slot), now);
 }
 
 /// A turn of each line of a slot.
-fn turn_slot<W: TimedWire + Drop>(lines: &mut [Line<W>], slot: usize, now: u64)
+fn turn_slot<W: TimedWire + Drop>(lines: &mut [Line<W>], buffer: &mut Buffer, slot: usize, now: u64)
     requires { slot < most_slots }
     ensures { EachGoes (λ i. if nat_eq (slot_of i) slot then Turns now ∷ [] else []) lines.old lines.new }
 {
@@ -131,7 +140,7 @@ fn turn_slot<W: TimedWire + Drop>(lines: &mut [Line<W>], slot: usize, now: u64)
     for round in 0..rounds {
         let i = round * SLOTS + slot;
         if i < lines.len() {
-            lines[i].turn(now);
+            lines[i].turn(buffer, now);
         }
     }
 }

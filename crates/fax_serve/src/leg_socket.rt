@@ -10,6 +10,7 @@ use std::io;
 use std::io::ErrorKind;
 use std::marker::Model;
 use std::net::{SocketAddr, UdpSocket};
+use std::os::fd::{AsRawFd, RawFd};
 
 /// The most datagrams that are dropped where a leg gets another peer: more than a socket keeps.
 const MOST_DROPPED: u16 = 4096;
@@ -30,6 +31,10 @@ pub struct LegCounts {
 pub struct LegSocket {
     socket: UdpSocket,
     has_peer: Cell<bool>,
+    /// Whether the system tells when a datagram comes.
+    is_watched: Cell<bool>,
+    /// Whether a datagram may have come that was not received. Where the leg is not watched one always may.
+    may_have_come: Cell<bool>,
     /// The peer's part in the call that is on.
     call: Cell<PeerCall>,
     counts: LegCounts,
@@ -53,6 +58,8 @@ impl LegSocket {
         Ok(LegSocket {
             socket,
             has_peer: Cell::new(false),
+            is_watched: Cell::new(false),
+            may_have_come: Cell::new(true),
             call: Cell::new(PeerCall::new()),
             counts: LegCounts::default(),
         })
@@ -64,6 +71,7 @@ impl LegSocket {
         self.socket.connect(peer)?;
         self.drop_waiting();
         self.has_peer.set(true);
+        self.wake();
         Ok(())
     }
 
@@ -81,6 +89,21 @@ impl LegSocket {
     /// Whether its peer is known.
     pub fn has_peer(&self) -> bool {
         self.has_peer.get()
+    }
+
+    /// The descriptor of the socket.
+    pub(crate) fn descriptor(&self) -> RawFd {
+        self.socket.as_raw_fd()
+    }
+
+    /// From now on the system tells when a datagram comes: then the leg is woken.
+    pub(crate) fn watch(&self) {
+        self.is_watched.set(true);
+    }
+
+    /// A datagram may have come.
+    pub(crate) fn wake(&self) {
+        self.may_have_come.set(true);
     }
 
     /// The peer's call is gone: from now on a datagram with a DCN is received once a turn, as if it had come, until a server sees
@@ -141,7 +164,7 @@ impl LegSocket {
         self.hear(call, buffer)
     }
 
-    /// Receives a datagram that has come in a call. It is counted, or that it could not be received.
+    /// Receives a datagram that has come in a call. Of a leg that is watched the system is asked only where one may have. It is counted, or that it could not be received.
     fn hear(&mut self, call: &mut PeerCall, buffer: &mut [u8]) -> io::Result<Option<usize>>
         ensures fits { IfOk result (λ came. IfSome came (λ count. count ≤ length buffer.new)) }
         ensures came { IfOk result (λ came. IfSome came (λ _. self.new ≡ record self.old { received = min (self.old.received + 1) (2 ^ 64 - 1) })) }
@@ -149,7 +172,7 @@ impl LegSocket {
         ensures failed { OnErr result (self.new ≡ record self.old { receive_failures = min (self.old.receive_failures + 1) (2 ^ 64 - 1) }) }
         ensures peer { call.new.peer ≡ call.old.peer }
     {
-        if !self.has_peer.get() {
+        if !self.has_peer.get() || !self.may_have_come.get() {
             return Ok(None);
         }
         match self.socket.recv(buffer) {
@@ -158,7 +181,10 @@ impl LegSocket {
                 call.note(&buffer[..count]);
                 Ok(Some(count))
             }
-            Err(error) if error.kind() == ErrorKind::WouldBlock => Ok(None),
+            Err(error) if error.kind() == ErrorKind::WouldBlock => {
+                self.may_have_come.set(!self.is_watched.get());
+                Ok(None)
+            }
             Err(error) => {
                 self.counts.receive_failures = self.counts.receive_failures.saturating_add(1);
                 Err(error)

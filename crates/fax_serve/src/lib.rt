@@ -18,6 +18,7 @@ mod sockets;
 mod stop;
 mod telling;
 mod udp_wire;
+mod watch;
 
 pub use fault::ServeFault;
 pub use leg_socket::{LegCounts, LegSocket};

@@ -1,4 +1,6 @@
 //! What gives the orders: the clock, and those who say words.
+ghost use Rattle.std.specs.Prelude.{◌≡◌, ◌-◌, nat_lt, if◌then◌else◌};
+
 use crate::answers::{answer_text, counters_of, counts_of, is_idle, report_text, status_text};
 use crate::card::Card;
 use crate::clock::Stopwatch;
@@ -8,6 +10,7 @@ use crate::sockets::ServedLines;
 use crate::stop::Stop;
 use crate::telling::Teller;
 use crate::udp_wire::UdpWire;
+use crate::watch::{Watch, wake_legs};
 use fax_bits::NoMemory;
 use fax_clients::{Asker, Clients};
 use fax_control::{Answer, Heard, Leg, Refusal, Word, read_word};
@@ -26,8 +29,14 @@ const LATE_MS: u64 = 100;
 /// At most so often, in milliseconds.
 const BETWEEN_LATE_MS: u64 = 1_000;
 
+/// Each slot has a turn once in a round of so many milliseconds.
+const ROUND_MS: u64 = 40;
+
 /// Behind time, the clients are asked at one turn of so many.
 const TURNS_A_WORD: u64 = 16;
+
+/// At one turn of so many of a line its sockets are asked, whatever the system told: once a second.
+const TURNS_A_LOOK: u64 = 25;
 
 /// The most words and wake-ups between two turns.
 const MOST_WAKES: u32 = 100_000;
@@ -52,6 +61,8 @@ pub struct RealPace<'a, C: Clock, I: Read + Drop, O: Write + Drop> {
     ringing: Option<Ringing>,
     cards: Vec<Card>,
     teller: Teller<I, O>,
+    /// What tells which legs have datagrams, where the system gives it.
+    watch: Option<Watch>,
 }
 
 /// Who asked for a ring, and its tag.
@@ -71,6 +82,7 @@ impl<'a, C: Clock, I: Read + Drop, O: Write + Drop> RealPace<'a, C, I, O> {
         clients: Clients<I, O>,
         cards: Vec<Card>,
         stop_ms: u64,
+        watch: Option<Watch>,
     ) -> Self {
         let count = cards.len();
         RealPace {
@@ -86,6 +98,7 @@ impl<'a, C: Clock, I: Read + Drop, O: Write + Drop> RealPace<'a, C, I, O> {
             ringing: None,
             cards,
             teller: Teller::new(alloc, clients, count),
+            watch,
         }
     }
 
@@ -102,6 +115,7 @@ impl<'a, C: Clock, I: Read + Drop, O: Write + Drop> RealPace<'a, C, I, O> {
             return;
         };
         let rounds = self.cards.len() / SLOTS + 1;
+        let looks = self.looks(slot);
         for round in 0..rounds {
             let i = round.saturating_mul(SLOTS).saturating_add(slot);
             if let Some(card) = self.cards.get_mut(i)
@@ -109,8 +123,17 @@ impl<'a, C: Clock, I: Read + Drop, O: Write + Drop> RealPace<'a, C, I, O> {
             {
                 self.teller.tell_turn(card, line, self.now);
                 settle_legs(line);
+                if looks {
+                    wake_legs(line);
+                }
             }
         }
+    }
+
+    /// Whether the sockets of a slot's lines are asked in its next turn, whatever the system told.
+    fn looks(&self, slot: usize) -> bool {
+        let rounds = self.turns / SLOTS as u64;
+        rounds.wrapping_add(slot as u64) % TURNS_A_LOOK == 0
     }
 
     /// Whether the run ends.
@@ -155,12 +178,17 @@ impl<'a, C: Clock, I: Read + Drop, O: Write + Drop> RealPace<'a, C, I, O> {
     fn turn(&mut self, lines: &ServedLines) -> Order {
         let late = self.schedule.begin(self.now);
         self.turns = self.turns.saturating_add(1);
+        if let Some(watch) = &mut self.watch {
+            watch.look(lines);
+        }
         let slot = lines.slot();
         self.turned = Some(slot);
         if late > LATE_MS {
             self.tell_late(slot, late);
         }
-        Order::Turn { now: self.now }
+        Order::Turn {
+            now: moment_of(self.now, late),
+        }
     }
 
     /// Counts a turn that is late, and tells it of the first line of its slot, once a second at most.
@@ -333,6 +361,19 @@ impl<'a, C: Clock, I: Read + Drop, O: Write + Drop> RealPace<'a, C, I, O> {
     /// Writes what clients are still to be told, for a while.
     pub(crate) fn finish(&mut self) {
         self.teller.clients.finish();
+    }
+}
+
+/// The moment of a turn that begins so late: the one at which it was due, while that is less than a round ago. So a turn that
+/// is late by a little does not take a packet from the next one of its line, which is due 40 ms behind it, as long as the pace
+/// lets through.
+fn moment_of(now: u64, late: u64) -> u64
+    ensures { result ≡ (if nat_lt late 40 then now - late else now) }
+{
+    if late < ROUND_MS {
+        now.saturating_sub(late)
+    } else {
+        now
     }
 }
 

@@ -9,6 +9,7 @@ use crate::control::{close_control, open_control};
 use crate::fault::ServeFault;
 use crate::pace::RealPace;
 use crate::sockets::{ServedLines, open_lines};
+use crate::watch::Watch;
 use fax_clients::Clients;
 use fax_config::{Config, LineConfig};
 use fax_line::serve;
@@ -64,7 +65,8 @@ pub fn serve_clients<N: Net + Clock, I: Read + Drop, O: Write + Drop>(
         Err(error) => return Err(ServeFault::Clock(error)),
     };
     let stop_ms = u64::from(config.stop_seconds) * SECOND_MS;
-    let mut pace = RealPace::new(alloc, clock, clients, cards, stop_ms);
+    let watch = Watch::new(system, alloc, &lines).ok();
+    let mut pace = RealPace::new(alloc, clock, clients, cards, stop_ms, watch);
     serve_new(lines, &mut pace);
     pace.finish();
     Ok(())

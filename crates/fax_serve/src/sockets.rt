@@ -42,7 +42,7 @@ pub fn open_lines<N: Net>(
     ensures first { IfOk result (λ lines. lines.slot ≡ 0) }
     ensures as_many { IfOk result (λ lines. length lines.lines ≡ length configs.now) }
 {
-    let mut lines = Lines::new(alloc);
+    let mut lines = Lines::new(alloc)?;
     for config in configs {
         let line = open_line(net, alloc, config)?;
         lines.add(line)?;

@@ -1,5 +1,5 @@
 -- Moments, in milliseconds (this project's profile; the timers are those of ITU-T T.30, 5.4.3).
-use Rattle.std.specs.Prelude.{ℕ, ◌+◌, ◌-◌, ◌^◌, min, max, nat_le, Bool, false, List, [], ◌∷◌, Option, Some, None, ◌≡◌, ◌≤◌}
+use Rattle.std.specs.Prelude.{ℕ, ◌+◌, ◌-◌, ◌^◌, min, max, nat_le, nat_lt, Bool, false, List, [], ◌∷◌, Option, Some, None, ◌≡◌, ◌≤◌, if◌then◌else◌}
 
 -- the latest of the moments read, 0 where none was
 abbrev pub latest : List ℕ → ℕ
@@ -18,3 +18,13 @@ IsDue timer now = (moment : ℕ) × (timer ≡ Some moment) × (moment ≤ now)
 abbrev pub is_due : Option ℕ → ℕ → Bool
 is_due None now = false
 is_due (Some moment) now = nat_le moment now
+
+-- a moment as a clock of 64 bits comes to it: there is none behind the last one
+abbrev pub on_clock : ℕ → Option ℕ
+on_clock moment = if nat_lt moment (2 ^ 64) then Some moment else None
+
+-- the earlier of two moments, where there is one
+abbrev pub earlier : Option ℕ → Option ℕ → Option ℕ
+earlier None other = other
+earlier (Some moment) None = Some moment
+earlier (Some moment) (Some other) = Some (min moment other)

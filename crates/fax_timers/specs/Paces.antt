@@ -16,6 +16,11 @@ abbrev pub pace_allows : Option LastPacket → ℕ → Bool
 pace_allows None now = true
 pace_allows (Some last) now = nat_le (last.at + last.span) now
 
+-- the moment from which on it lets a packet through
+abbrev pub allowed_from : Option LastPacket → ℕ
+allowed_from None = 0
+allowed_from (Some last) = last.at + last.span
+
 -- a packet is given: behind a preamble the span is the pause, at most the longest one
 abbrev pub packet_at : (is_preamble : Bool) → (pause now : ℕ) → LastPacket
 packet_at is_preamble pause now = record { at = now; span = if is_preamble then min pause longest_pause else pace }

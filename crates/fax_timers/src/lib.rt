@@ -6,11 +6,13 @@
 
 mod clock;
 pub mod laws;
+mod moment;
 mod pace;
 mod spans;
 mod timer;
 
 pub use clock::Clock;
+pub use moment::earlier;
 pub use pace::{LastPacket, Pace};
 pub use spans::{LONGEST_PAUSE_MS, PACE_MS, T1_MS, T2_MS, T4_MS};
 pub use timer::Timer;

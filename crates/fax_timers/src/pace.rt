@@ -1,6 +1,7 @@
 //! The pace of a leg: packets are given at least [`PACE_MS`] apart, and behind the preamble of a frame a pause is set.
 ghost use Rattle.std.specs.Prelude.{◌≡◌};
-ghost use Rattle.fax_timers.specs.Paces.{new_pace, pace_allows, pace_behind};
+ghost use Rattle.fax_timers.specs.Moments.{on_clock};
+ghost use Rattle.fax_timers.specs.Paces.{allowed_from, new_pace, pace_allows, pace_behind};
 
 use crate::spans::{LONGEST_PAUSE_MS, PACE_MS};
 use std::marker::Model;
@@ -52,6 +53,16 @@ impl Pace {
                 None => false,
                 Some(next) => next <= now,
             },
+        }
+    }
+
+    /// From which moment on a packet may be given: from 0 where none was. `None`: that lies behind each moment of a `u64`.
+    pub fn allowed_from(&self) -> Option<u64>
+        ensures { result ≡ on_clock (allowed_from self.now.last) }
+    {
+        match self.last {
+            None => Some(0),
+            Some(last) => last.at.checked_add(last.span),
         }
     }
 

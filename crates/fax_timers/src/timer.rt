@@ -43,6 +43,13 @@ impl Timer {
         self.moment = None;
     }
 
+    /// The moment at which it is due, where it is set.
+    pub fn moment(&self) -> Option<u64>
+        ensures { result ≡ self.now }
+    {
+        self.moment
+    }
+
     /// Whether the timer is set and its moment has come.
     pub fn due(&self, now: u64) -> bool
         ensures due { IsTrue result ↔ IsDue self.now now }

@@ -3,11 +3,12 @@
 mod call;
 mod chain;
 mod driving;
+mod due;
 mod hostile;
 mod list_wire;
 mod lossy;
 
-use call::{Change, Playing};
+use call::{Change, play_call, play_nothing};
 use fax_gateway::RingFault;
 use std::alloc::Global;
 use std::process::Abort;
@@ -21,10 +22,9 @@ fn a_page_goes_through_the_gateway(rt: HostRuntime) -> Result<(), Fail> {
 
 /// Plays the call. Where memory is refused, what is refused is asked for again at once, and nothing else differs.
 fn refused_in_the_call(rt: &impl Abort, alloc: Global) -> &'static str {
-    let mut playing = Playing::new(rt, alloc);
-    playing.play(rt, Change::None);
-    assert!(rt; playing.is_whole_call());
-    refused(rt, playing.refused_calls, playing.refused_texts)
+    let played = play_call(rt, alloc, Change::None);
+    assert!(rt; played.is_whole_call());
+    refused(rt, played.refused_calls, played.refused_texts)
 }
 
 /// Says what was refused, once at most.
@@ -39,8 +39,7 @@ fn refused(rt: &impl Abort, calls: u64, texts: u64) -> &'static str {
 
 #[test]
 fn datagrams_that_decide_nothing(rt: HostRuntime) {
-    let mut playing = Playing::new(&rt, rt.alloc());
-    playing.play_nothing(&rt);
+    play_nothing(&rt, rt.alloc());
 }
 
 #[test]

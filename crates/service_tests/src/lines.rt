@@ -4,7 +4,7 @@ mod hang_up;
 mod peers;
 
 use fax_bits::NoMemory;
-use fax_gateway::{Kept, RingFault, Settings, Turned};
+use fax_gateway::{Buffer, Kept, RingFault, Settings, Turned};
 use fax_jobs::{Outcome, Report};
 use fax_line::{Line, Lines, Order, Pace, SLOTS, serve};
 use fax_pagestore::Format;
@@ -64,9 +64,9 @@ fn line_of(alloc: Global, loses: u32, policy: RepeatPolicy) -> Result<PeerLine, 
 }
 
 /// Calls through a line of its own, with repeats 20 ms behind each turn.
-fn plays(line: &mut PeerLine) {
+fn plays(line: &mut PeerLine, buffer: &mut Buffer) {
     for turn in 0..2500u64 {
-        line.turn(40 * turn);
+        line.turn(buffer, 40 * turn);
         line.tell_time(40 * turn + 20);
         if line.report(0).is_some() {
             return;
@@ -77,6 +77,7 @@ fn plays(line: &mut PeerLine) {
 /// A page is delivered though each third datagram is lost, first sends and repeats alike.
 #[test]
 fn a_page_goes_through_a_line(rt: HostRuntime) -> Result<(), Fail> {
+    let mut buffer = Buffer::new(rt.alloc())?;
     for (loses, policy) in [
         (0, RepeatPolicy::Never),
         (3, RepeatPolicy::Full),
@@ -85,7 +86,7 @@ fn a_page_goes_through_a_line(rt: HostRuntime) -> Result<(), Fail> {
         let mut line = line_of(rt.alloc(), loses, policy)?;
         assert!(rt; line.ring(0) == Ok(0), "at {policy:?}");
         assert!(rt; line.ring(0) == Err(RingFault::Busy), "at {policy:?}");
-        plays(&mut line);
+        plays(&mut line, &mut buffer);
         assert!(rt; line.report(0) == Some(DELIVERED), "at {policy:?}");
         assert_eq!(rt; line.wire().wire().confirmed(), 1, "at {policy:?}");
         assert_eq!(rt; line.waiting(), 0, "at {policy:?}");
@@ -95,11 +96,11 @@ fn a_page_goes_through_a_line(rt: HostRuntime) -> Result<(), Fail> {
 }
 
 /// What a line told in the turns of a call, and how much of it there was.
-fn told_in_a_call(line: &mut PeerLine) -> (Turned, u32) {
+fn told_in_a_call(line: &mut PeerLine, buffer: &mut Buffer) -> (Turned, u32) {
     let mut told = NOTHING;
     let mut count = 0u32;
     for turn in 0..200u64 {
-        line.turn(40 * turn);
+        line.turn(buffer, 40 * turn);
         let turned = line.turned();
         count = count.saturating_add(count_of(&turned));
         told = Turned {
@@ -138,7 +139,8 @@ fn a_line_tells_what_happens(rt: HostRuntime) -> Result<(), Fail> {
     assert!(rt; line.turned() == NOTHING && line.call().is_none());
     assert!(rt; line.ring(0) == Ok(0));
     assert!(rt; line.call() == Some(0) && line.sending().is_none());
-    assert!(rt; told_in_a_call(&mut line) == (TOLD, 4));
+    let mut buffer = Buffer::new(rt.alloc())?;
+    assert!(rt; told_in_a_call(&mut line, &mut buffer) == (TOLD, 4));
     assert!(rt; line.call().is_none() && line.sending().is_none());
     Ok(())
 }
@@ -148,7 +150,7 @@ fn a_line_tells_what_happens(rt: HostRuntime) -> Result<(), Fail> {
 fn a_page_is_lost_without_repeats(rt: HostRuntime) -> Result<(), Fail> {
     let mut line = line_of(rt.alloc(), 3, RepeatPolicy::Never)?;
     assert!(rt; line.ring(0) == Ok(0));
-    plays(&mut line);
+    plays(&mut line, &mut Buffer::new(rt.alloc())?);
     assert!(rt; line.report(0) != Some(DELIVERED));
     Ok(())
 }
@@ -183,7 +185,7 @@ impl<W: TimedWire + Drop> Pace<W> for Minute {
 /// A line that rings is served, beside one that does not.
 #[test]
 fn lines_are_served(rt: HostRuntime) -> Result<(), Fail> {
-    let mut lines = Lines::new(rt.alloc());
+    let mut lines = Lines::new(rt.alloc())?;
     for _ in 0..2 {
         lines.add(line_of(rt.alloc(), 3, RepeatPolicy::Full)?)?;
     }

@@ -13,8 +13,9 @@ use std::test::Fail;
 /// The octets of a page's record, worked by hand: `a1`, life 2, call 3, page 1, 1728 elements, fine, the job's last, tag `x`.
 const PAGE_OCTETS: &[u8] = b"\x01\0\0\0\x02\0\0\0\x03\0\0\0\x01\0\x01\x01\x02a1\x01x\x00\x01";
 
-/// Those of a job that ended: `a1`, life 2, call 3, two pages, one delivered, 2432 elements, standard, `PageRefused`.
-const ENDED_OCTETS: &[u8] = b"\x02\0\0\0\x02\0\0\0\x03\0\0\0\x02\0\0\0\x01\x02\0\x07\x02a1";
+/// Those of a job that ended: `a1`, life 2, call 3, from page 1 two pages, one delivered, 2432 elements, standard, `PageRefused`.
+const ENDED_OCTETS: &[u8] =
+    b"\x02\0\0\0\x02\0\0\0\x03\0\0\0\x02\0\0\0\x01\x02\0\x07\0\0\0\x01\x02a1";
 
 #[test]
 fn a_page_has_its_octets(rt: HostRuntime) -> Result<(), Fail> {
@@ -54,6 +55,7 @@ fn a_job_that_ended_has_its_octets(rt: HostRuntime) -> Result<(), Fail> {
     let ended = EndedRecord {
         life: 2,
         call: 3,
+        first: 1,
         pages: 2,
         delivered: 1,
         format: Format {
@@ -67,8 +69,8 @@ fn a_job_that_ended_has_its_octets(rt: HostRuntime) -> Result<(), Fail> {
     assert_eq!(rt; octets.as_slice(), ENDED_OCTETS);
     let read = read_ended_record(ENDED_OCTETS).ok_or("a job")?;
     assert_eq!(rt;
-        (read.life, read.call, read.pages, read.delivered),
-        (2, 3, 2, 1)
+        (read.life, read.call, read.first, read.pages, read.delivered),
+        (2, 3, 1, 2, 1)
     );
     assert_eq!(rt; read.outcome, Outcome::PageRefused);
     assert_eq!(rt; read.line, b"a1".as_slice());

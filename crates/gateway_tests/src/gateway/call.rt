@@ -122,10 +122,9 @@ pub(super) enum Change<'a> {
     Instead(usize, &'a ShortOctets),
 }
 
-/// A gateway on which the call is played. What is refused memory is asked for again once.
+/// What came of a call.
 #[derive(Drop)]
-pub(super) struct Playing {
-    gateway: Gateway<PlainRows>,
+pub(super) struct Played {
     given: Vec<OnWire>,
     /// How many of the datagrams that come decided a slot.
     decided: u32,
@@ -135,66 +134,27 @@ pub(super) struct Playing {
     /// The page that was confirmed, and the turn.
     kept: Option<(u32, Kept)>,
     pub report: Option<Report>,
+    /// Whether the gateway tells that report alone, the call is still on, and no job is sent or waits.
+    is_reported: bool,
     /// How many calls of the gateway were refused memory, and how many texts of the test's own.
     pub refused_calls: u64,
     pub refused_texts: u64,
 }
 
-impl Playing {
-    pub fn new(rt: &impl Abort, alloc: Global) -> Self {
-        let (gateway, refused_calls) = gateway_of(rt, alloc);
-        let (given, refused_texts) = list_of(rt, alloc);
-        Playing {
-            gateway,
-            given,
-            decided: 0,
-            is_taken: false,
-            ended: None,
-            kept: None,
-            report: None,
-            refused_calls,
-            refused_texts,
-        }
-    }
-
-    /// Plays the call. It fails unless it rings once.
-    pub fn play(&mut self, rt: &impl Abort, change: Change<'_>) {
-        assert!(rt; self.ring() == Ok(0));
-        assert!(rt; self.ring() == Err(RingFault::Busy));
-        for turn in 0..TURNS {
-            self.come(rt, turn, change);
-            self.tick(rt, turn, change);
-        }
-    }
-
-    /// Datagrams come where no call is on, too short, and twice. It fails unless they decide nothing.
-    pub fn play_nothing(&mut self, rt: &impl Abort) {
-        let datagram = octets_of("000001060000", 0, "");
-        let short = octets_of("000001", 0, "");
-        assert!(rt; !self.hear(rt, Side::Calling, &datagram, 0));
-        assert!(rt; self.ring() == Ok(0));
-        assert!(rt; !self.hear(rt, Side::Called, &datagram, 0));
-        assert!(rt; !self.hear(rt, Side::Calling, &short, 0));
-        assert!(rt; self.hear(rt, Side::Calling, &datagram, 0));
-        assert!(rt; !self.hear(rt, Side::Calling, &datagram, 0));
-    }
-
+impl Played {
     /// Whether the call was the whole one.
     pub fn is_whole_call(&self) -> bool {
-        let delivers = self.report == Some(DELIVERED) && self.gateway.report(0) == self.report;
-        delivers
+        self.report == Some(DELIVERED)
+            && self.is_reported
             && self.ended == Some(LAST_TURN)
             && self.kept == Some((CONFIRMED, KEPT))
-            && self.gateway.call() == Some(0)
-            && self.gateway.sending().is_none()
-            && self.gateway.waiting() == 0
             && self.decided as usize == COMES.len()
             && is_whole_call(self.given.as_slice())
     }
 
     /// Whether octets that came in place of a datagram did no harm: they were taken, which malformed ones are not; or
     /// everything else was answered as to another, to which they did not come.
-    pub fn has_borne(&self, is_malformed: bool, other: &Playing) -> bool {
+    pub fn has_borne(&self, is_malformed: bool, other: &Played) -> bool {
         if self.is_taken {
             !is_malformed
         } else {
@@ -212,11 +172,79 @@ impl Playing {
         }
         all
     }
+}
+
+/// A gateway on which the call is played. What is refused memory is asked for again once.
+#[derive(Drop)]
+struct Playing {
+    gateway: Gateway<PlainRows>,
+    told: Played,
+}
+
+impl Playing {
+    fn new(rt: &impl Abort, alloc: Global) -> Self {
+        let (gateway, refused_calls) = gateway_of(rt, alloc);
+        let (given, refused_texts) = list_of(rt, alloc);
+        Playing {
+            gateway,
+            told: Played {
+                given,
+                decided: 0,
+                is_taken: false,
+                ended: None,
+                kept: None,
+                report: None,
+                is_reported: false,
+                refused_calls,
+                refused_texts,
+            },
+        }
+    }
+
+    /// What came of it. The gateway is let go here alone.
+    fn end(self) -> Played {
+        let is_reported = self.is_reported();
+        let Playing { mut told, .. } = self;
+        told.is_reported = is_reported;
+        told
+    }
+
+    fn is_reported(&self) -> bool {
+        self.gateway.report(0) == self.told.report
+            && self.gateway.call() == Some(0)
+            && self.gateway.sending().is_none()
+            && self.gateway.waiting() == 0
+    }
+
+    /// Plays the call. It fails unless it rings once.
+    fn play(&mut self, rt: &impl Abort, change: Change<'_>) {
+        assert!(rt; self.ring() == Ok(0) && self.ring() == Err(RingFault::Busy));
+        for turn in 0..TURNS {
+            self.come(rt, turn, change);
+            self.tick(rt, turn, change);
+        }
+    }
+
+    /// Datagrams come where no call is on, on either leg, too short, and twice. It fails unless one alone decides a slot.
+    fn play_nothing(&mut self, rt: &impl Abort) {
+        let datagram = octets_of("000001060000", 0, "");
+        let short = octets_of("000001", 0, "");
+        let while_idle = self.hear(rt, Side::Calling, &datagram, 0);
+        let rung = self.ring();
+        let decided = [
+            while_idle,
+            self.hear(rt, Side::Called, &datagram, 0),
+            self.hear(rt, Side::Calling, &short, 0),
+            self.hear(rt, Side::Calling, &datagram, 0),
+            self.hear(rt, Side::Calling, &datagram, 0),
+        ];
+        assert!(rt; rung == Ok(0) && decided == [false, false, false, true, false]);
+    }
 
     fn ring(&mut self) -> Result<u32, RingFault> {
         match self.gateway.ring(0) {
             Err(RingFault::NoMemory) => {
-                self.refused_calls = self.refused_calls.saturating_add(1);
+                self.told.refused_calls = self.told.refused_calls.saturating_add(1);
                 self.gateway.ring(0)
             }
             rung => rung,
@@ -246,13 +274,13 @@ impl Playing {
         let comes = match change {
             Change::WithoutDatagram(left_out) => left_out != place,
             Change::Instead(of, octets) if of == place => {
-                self.is_taken = self.hear(rt, side, octets, turn);
-                !self.is_taken && self.is_late_before(rt, place, side, turn)
+                self.told.is_taken = self.hear(rt, side, octets, turn);
+                !self.told.is_taken && self.is_late_before(rt, place, side, turn)
             }
             _ => true,
         };
         if comes && self.hear(rt, side, datagram, turn) {
-            self.decided = self.decided.saturating_add(1);
+            self.told.decided = self.told.decided.saturating_add(1);
         }
     }
 
@@ -271,7 +299,7 @@ impl Playing {
         match self.hear_once(side, octets, turn) {
             Ok(decides) => decides,
             Err(NoMemory) => {
-                self.refused_calls = self.refused_calls.saturating_add(1);
+                self.told.refused_calls = self.told.refused_calls.saturating_add(1);
                 self.hear_once(side, octets, turn).expect(rt, "a datagram")
             }
         }
@@ -294,11 +322,11 @@ impl Playing {
         self.note(rt, turn, Side::Calling, &given.calling);
         self.note(rt, turn, Side::Called, &given.called);
         if let Some(kept) = given.kept {
-            self.kept = Some((turn, kept));
+            self.told.kept = Some((turn, kept));
         }
         if given.ended() {
-            self.ended = Some(turn);
-            self.report = given.report;
+            self.told.ended = Some(turn);
+            self.told.report = given.report;
         }
     }
 
@@ -306,7 +334,7 @@ impl Playing {
         match self.tick_once(turn) {
             Ok(given) => given,
             Err(NoMemory) => {
-                self.refused_calls = self.refused_calls.saturating_add(1);
+                self.told.refused_calls = self.told.refused_calls.saturating_add(1);
                 self.tick_once(turn).expect(rt, "a tick")
             }
         }
@@ -320,7 +348,7 @@ impl Playing {
     fn note(&mut self, rt: &impl Abort, turn: u32, side: Side, given: &Option<Octets>) {
         if let Some(octets) = given {
             let octets = ShortOctets::of(octets.as_slice()).expect(rt, "at most 320 octets");
-            let noted = self.given.push(OnWire { turn, side, octets }).is_ok();
+            let noted = self.told.given.push(OnWire { turn, side, octets }).is_ok();
             assert!(rt; noted);
         }
     }
@@ -345,6 +373,20 @@ fn list_of(rt: &impl Abort, alloc: Global) -> (Vec<OnWire>, u64) {
     }
 }
 
+/// Plays a call with a change.
+pub(super) fn play_call(rt: &impl Abort, alloc: Global, change: Change<'_>) -> Played {
+    let mut playing = Playing::new(rt, alloc);
+    playing.play(rt, change);
+    playing.end()
+}
+
+/// Plays datagrams that decide nothing.
+pub(super) fn play_nothing(rt: &impl Abort, alloc: Global) -> Played {
+    let mut playing = Playing::new(rt, alloc);
+    playing.play_nothing(rt);
+    playing.end()
+}
+
 /// Whether just these datagrams and this report are given in a call with a change.
 pub(super) fn gives(
     rt: &impl Abort,
@@ -353,9 +395,8 @@ pub(super) fn gives(
     given: &[OnWire],
     report: Option<Report>,
 ) -> bool {
-    let mut playing = Playing::new(rt, alloc);
-    playing.play(rt, change);
-    playing.has_given(given, report)
+    let played = play_call(rt, alloc, change);
+    played.has_given(given, report)
 }
 
 /// The moment of a turn.

@@ -41,13 +41,13 @@ enum Network {
     Exchanges(u32),
 }
 
+/// What came of a chain: how many datagrams the first gave, how many pages the machine confirmed, and the reports of both.
+type Told = (u32, u32, Option<Report>, Option<Report>);
+
 #[test]
 fn a_page_goes_through_two_gateways(rt: HostRuntime) {
-    let mut chain = Chain::new(&rt, rt.alloc(), Network::Keeps, false);
-    chain.play(&rt, TURNS);
-    assert!(rt; chain.sent == SENT);
-    assert!(rt; chain.first_report == Some(DELIVERED));
-    assert!(rt; chain.second_report == Some(UNANSWERED));
+    let told = played(&rt, rt.alloc(), Network::Keeps, false, TURNS);
+    assert!(rt; told == (SENT, 0, Some(DELIVERED), Some(UNANSWERED)));
 }
 
 #[test]
@@ -60,8 +60,7 @@ fn the_second_holds_the_page_of_the_first(rt: HostRuntime) {
             Network::Repeats(place),
             Network::Exchanges(place),
         ] {
-            let pages = pages_behind(&rt, alloc, network);
-            assert_eq!(rt; pages, 1, "at {network:?}");
+            assert!(rt; pages_behind(&rt, alloc, network) == 1, "at {network:?}");
         }
     }
 }
@@ -80,12 +79,15 @@ fn the_second_holds_no_other_page(rt: HostRuntime) {
 
 /// How many pages the machine confirms that the second gateway calls. It fails unless each is one white row.
 fn pages_behind(rt: &impl Abort, alloc: Global, network: Network) -> u32 {
-    let mut chain = Chain::new(rt, alloc, network, true);
-    chain.play(rt, ANSWERED_TURNS);
-    match &chain.machine {
-        Some(machine) => machine.pages,
-        None => 0,
-    }
+    let (_, pages, _, _) = played(rt, alloc, network, true, ANSWERED_TURNS);
+    pages
+}
+
+/// Plays a chain for so many turns.
+fn played(rt: &impl Abort, alloc: Global, network: Network, is_answered: bool, turns: u32) -> Told {
+    let mut chain = Chain::new(rt, alloc, network, is_answered);
+    chain.play(rt, turns);
+    chain.told()
 }
 
 /// Two gateways, a caller that sends one page to the first, and the machine that the second calls, where there is one.
@@ -124,8 +126,16 @@ impl Chain {
         }
     }
 
+    fn told(&self) -> Told {
+        let pages = match &self.machine {
+            Some(machine) => machine.pages,
+            None => 0,
+        };
+        (self.sent, pages, self.first_report, self.second_report)
+    }
+
     fn play(&mut self, rt: &impl Abort, turns: u32) {
-        self.first.ring(0).expect(rt, "the first call");
+        rings(rt, &mut self.first, 0);
         for turn in 0..turns {
             self.caller_sends(rt, turn);
             self.first_gives(rt, moment(turn));
@@ -139,15 +149,19 @@ impl Chain {
         for (at, side, head, zeros, tail) in COMES {
             if *at == turn && *side == Side::Calling {
                 let datagram = octets_of(*head, *zeros, *tail);
-                self.first
-                    .from_calling(datagram.as_slice(), moment(turn))
-                    .expect(rt, "a datagram of the caller");
+                comes_on(
+                    rt,
+                    &mut self.first,
+                    Side::Calling,
+                    datagram.as_slice(),
+                    moment(turn),
+                );
             }
         }
     }
 
     fn first_gives(&mut self, rt: &impl Abort, now: u64) {
-        let Given { called, report, .. } = self.first.tick(now).expect(rt, "a tick of the first");
+        let Given { called, report, .. } = tick(rt, &mut self.first, now);
         if report.is_some() {
             self.first_report = report;
         }
@@ -155,7 +169,7 @@ impl Chain {
             return;
         };
         if self.sent == 0 {
-            self.second.ring(now).expect(rt, "the second call");
+            rings(rt, &mut self.second, now);
         }
         self.goes(rt, datagram, now);
     }
@@ -182,20 +196,22 @@ impl Chain {
     }
 
     fn comes(&mut self, rt: &impl Abort, datagram: &Octets, now: u64) {
-        self.second
-            .from_calling(datagram.as_slice(), now)
-            .expect(rt, "a datagram of the first");
+        comes_on(
+            rt,
+            &mut self.second,
+            Side::Calling,
+            datagram.as_slice(),
+            now,
+        );
     }
 
     fn second_gives(&mut self, rt: &impl Abort, now: u64) {
-        let given = self.second.tick(now).expect(rt, "a tick of the second");
+        let given = tick(rt, &mut self.second, now);
         if given.report.is_some() {
             self.second_report = given.report;
         }
         if let Some(datagram) = &given.calling {
-            self.first
-                .from_called(datagram.as_slice(), now)
-                .expect(rt, "a datagram of the second");
+            comes_on(rt, &mut self.first, Side::Called, datagram.as_slice(), now);
         }
         if let (Some(datagram), Some(machine)) = (&given.called, &mut self.machine) {
             machine.hears(rt, datagram.as_slice(), now);
@@ -205,12 +221,35 @@ impl Chain {
     fn machine_gives(&mut self, rt: &impl Abort, now: u64) {
         if let Some(machine) = &mut self.machine {
             if let Some(datagram) = machine.gives(rt, now) {
-                self.second
-                    .from_called(datagram.as_slice(), now)
-                    .expect(rt, "a datagram of the machine");
+                comes_on(rt, &mut self.second, Side::Called, datagram.as_slice(), now);
             }
         }
     }
+}
+
+/// A call begins at a gateway.
+fn rings(rt: &impl Abort, gateway: &mut Gateway<PlainRows>, now: u64) {
+    gateway.ring(now).expect(rt, "a call");
+}
+
+/// A datagram comes to a gateway on a leg.
+fn comes_on(
+    rt: &impl Abort,
+    gateway: &mut Gateway<PlainRows>,
+    side: Side,
+    datagram: &[u8],
+    now: u64,
+) {
+    let heard = match side {
+        Side::Calling => gateway.from_calling(datagram, now),
+        Side::Called => gateway.from_called(datagram, now),
+    };
+    heard.expect(rt, "a datagram");
+}
+
+/// Time goes on at a gateway.
+fn tick(rt: &impl Abort, gateway: &mut Gateway<PlainRows>, now: u64) -> Given {
+    gateway.tick(now).expect(rt, "a tick")
 }
 
 /// A machine that a gateway calls. It counts the pages that it confirmed.

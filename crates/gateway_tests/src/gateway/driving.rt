@@ -1,11 +1,11 @@
 //! Runs of turns over a wire.
 use super::call::{
-    COMES, Change, DELIVERED, SENDS, TURNS, gateway_of, gives, is_whole_call, octets_of,
+    COMES, Change, DELIVERED, SENDS, TURNS, gateway_of, gives, is_whole_call, moment, octets_of,
 };
 use super::list_wire::{Fails, ListWire, OnWire};
 use super::refused;
 use fax_bits::NoMemory;
-use fax_gateway::{Driven, Driver, Gateway, drive};
+use fax_gateway::{Driven, Driver, Gateway, Turned, drive};
 use fax_jobs::Report;
 use fax_pagestore::PlainRows;
 use std::alloc::Global;
@@ -79,22 +79,71 @@ fn runs_over_a_broken_wire(rt: HostRuntime) {
     comes_to(&rt, rt.alloc(), mute, 1000);
 }
 
-/// T1 is due at 35 s. Our DCN, behind its preamble, ends the call.
+/// The turn in which T1 is due, at 35 s, and our DCN, behind its preamble, ends the call.
+const GIVEN_UP: u32 = 876;
+
+/// What a turn tells in which nothing happens.
+const NOTHING: Turned = Turned {
+    goes_on: true,
+    report: None,
+    kept: None,
+    ended: None,
+    gave_up: None,
+    dialled: None,
+};
+
 #[test]
 fn a_call_that_is_given_up(rt: HostRuntime) -> Result<(), Fail> {
-    let mut gateway: Gateway<PlainRows> = Gateway::new(rt.alloc(), 3)?;
-    let mut wire = ListWire::new(rt.alloc(), Fails::NONE, Fails::NONE)?;
-    let mut driver = Driver::new(rt.alloc())?;
-    assert!(rt; gateway.ring(0) == Ok(0));
-    for turn in 0..=876u64 {
-        assert!(rt; gateway.call() == Some(0));
-        let turned = driver.turn(&mut gateway, &mut wire, 40 * turn);
-        let ended = if turn == 876 { Some(0) } else { None };
-        assert!(rt; turned.goes_on && turned.ended == ended && turned.gave_up == ended);
-        assert!(rt; turned.kept.is_none() && turned.dialled.is_none() && turned.report.is_none());
-    }
-    assert!(rt; gateway.call().is_none());
+    assert!(rt; is_given_up(rt.alloc())?);
     Ok(())
+}
+
+/// Whether a call that nobody hears is given up.
+fn is_given_up(alloc: Global) -> Result<bool, NoMemory> {
+    let mut unheard = Unheard::new(alloc)?;
+    Ok(unheard.gives_up())
+}
+
+/// A gateway that is driven over a wire on which nothing comes.
+#[derive(Drop)]
+struct Unheard {
+    gateway: Gateway<PlainRows>,
+    wire: ListWire,
+    driver: Driver,
+}
+
+impl Unheard {
+    fn new(alloc: Global) -> Result<Self, NoMemory> {
+        let driver = Driver::new(alloc)?;
+        let wire = ListWire::new(alloc, Fails::NONE, Fails::NONE)?;
+        let gateway = Gateway::new(alloc, 3)?;
+        Ok(Unheard {
+            gateway,
+            wire,
+            driver,
+        })
+    }
+
+    /// Whether a call is on up to the turn in which it is given up, each turn tells just that, and no call is on then.
+    fn gives_up(&mut self) -> bool {
+        let mut is_told = self.gateway.ring(0) == Ok(0);
+        for turn in 0..GIVEN_UP {
+            is_told = is_told && self.tells(turn, NOTHING);
+        }
+        let mut last = NOTHING;
+        last.ended = Some(0);
+        last.gave_up = Some(0);
+        is_told && self.tells(GIVEN_UP, last) && self.gateway.call().is_none()
+    }
+
+    /// Whether the call is on before a turn, and the turn tells just this.
+    fn tells(&mut self, turn: u32, told: Turned) -> bool {
+        let is_on = self.gateway.call() == Some(0);
+        let turned = self
+            .driver
+            .turn(&mut self.gateway, &mut self.wire, moment(turn));
+        is_on && turned == told
+    }
 }
 
 #[test]
@@ -134,7 +183,7 @@ fn each_send_fails(rt: HostRuntime) {
 /// Makes a run of at most so many turns. It fails unless it comes to what is told.
 fn comes_to(rt: &impl Abort, alloc: Global, run: Run, turns: u32) {
     let mut ends = Ends::new(rt, alloc, run);
-    ends.run(rt, alloc, run, turns);
+    assert!(rt; ends.comes_to(alloc, run, turns));
 }
 
 #[test]
@@ -173,33 +222,35 @@ impl Ends {
         drive(alloc, &mut self.gateway, &mut self.wire, 0, rings, turns)
     }
 
-    /// Makes the run. It fails unless it comes to what is told.
-    fn run(&mut self, rt: &impl Abort, alloc: Global, run: Run, turns: u32) {
-        assert!(rt; self.drive(alloc, run.rings, turns) == Ok(run.driven));
-        if run.delivers {
-            assert!(rt; self.delivers());
-            assert!(rt; self.wire.receives() == RECEIVES);
-            assert!(rt; self.wire.room() == 65_536);
-        }
+    /// Makes the run, and says whether it comes to what is told.
+    fn comes_to(&mut self, alloc: Global, run: Run, turns: u32) -> bool {
+        let is_driven = self.drive(alloc, run.rings, turns) == Ok(run.driven);
+        is_driven && (!run.delivers || self.has_delivered())
+    }
+
+    /// Whether a whole call was made.
+    fn has_delivered(&self) -> bool {
+        self.delivers() && self.wire.receives() == RECEIVES && self.wire.room() == 65_536
     }
 
     /// Makes the run of a whole call, and says how many of its calls were refused memory. Where it is refused at once, nothing
     /// has happened, and it is made again. It fails unless what is refused later is told and left out, and nothing else
     /// differs.
     fn run_again(&mut self, rt: &impl Abort, alloc: Global) -> u64 {
-        let mut calls = 0u64;
-        let mut driven = self.drive(alloc, CALL.rings, TURNS);
-        if driven == Err(NoMemory) {
-            assert!(rt; self.wire.receives() == 0 && self.wire.sent().is_empty());
-            calls = 1;
-            driven = self.drive(alloc, CALL.rings, TURNS);
-        }
-        let driven = driven.expect(rt, "a run");
-        assert!(rt; is_told(driven));
-        assert!(rt; self.is_left_out(rt, alloc, driven));
+        let (driven, calls) = match self.drive(alloc, CALL.rings, TURNS) {
+            Ok(driven) => (driven, 0),
+            Err(NoMemory) => (self.drive_unharmed(rt, alloc), 1u64),
+        };
+        assert!(rt; is_told(driven) && self.is_left_out(rt, alloc, driven));
         calls
             .saturating_add(driven.rings_refused)
             .saturating_add(driven.events_refused)
+    }
+
+    /// Makes the run again that was refused at once. It fails unless nothing had happened.
+    fn drive_unharmed(&mut self, rt: &impl Abort, alloc: Global) -> Driven {
+        assert!(rt; self.wire.receives() == 0 && self.wire.sent().is_empty());
+        self.drive(alloc, CALL.rings, TURNS).expect(rt, "a run")
     }
 
     /// Whether the page was delivered, and each datagram handed over.

@@ -1,5 +1,5 @@
 //! Hostile datagrams, each in place of one of a whole call.
-use super::call::{COMES, Change, Playing, octets_of};
+use super::call::{COMES, Change, Played, octets_of, play_call};
 use super::list_wire::ShortOctets;
 use fax_udptl::read;
 use std::alloc::Global;
@@ -8,8 +8,7 @@ use std::process::Abort;
 #[test]
 fn hostile_datagrams(rt: HostRuntime) {
     let alloc = rt.alloc();
-    let mut undisturbed = Playing::new(&rt, alloc);
-    undisturbed.play(&rt, Change::None);
+    let undisturbed = play_call(&rt, alloc, Change::None);
     for (place, (_, _, head, zeros, tail)) in COMES.iter().enumerate() {
         let original = octets_of(*head, *zeros, *tail);
         for i in 0..original.len() {
@@ -27,7 +26,7 @@ fn is_malformed(
     alloc: Global,
     place: usize,
     octets: &ShortOctets,
-    undisturbed: &Playing,
+    undisturbed: &Played,
 ) -> bool {
     let is_malformed = cannot_be_read(octets);
     let bears = has_borne(
@@ -50,9 +49,8 @@ fn has_borne(
     alloc: Global,
     change: Change<'_>,
     is_malformed: bool,
-    undisturbed: &Playing,
+    undisturbed: &Played,
 ) -> bool {
-    let mut playing = Playing::new(rt, alloc);
-    playing.play(rt, change);
-    playing.has_borne(is_malformed, undisturbed)
+    let played = play_call(rt, alloc, change);
+    played.has_borne(is_malformed, undisturbed)
 }

@@ -121,10 +121,11 @@ impl OnWire {
     }
 }
 
-/// What a receive answered.
+/// What a receive answered, into a buffer of so many octets.
 #[derive(Drop)]
 struct Received {
     side: Side,
+    room: usize,
     came: Option<ShortOctets>,
     failed: bool,
 }
@@ -135,7 +136,7 @@ impl Model for Received {
 
     ghost Value = { Receipt };
 
-    ghost view = { λ r. cond r.failed (Failed r.side) (unwrap_or (option_map (Came r.side) r.came) (Nothing r.side)) };
+    ghost view = { λ r. cond r.failed (Failed r.side r.room) (unwrap_or (option_map (Came r.side r.room) r.came) (Nothing r.side r.room)) };
 }
 
 impl Received {
@@ -149,17 +150,20 @@ impl Received {
                 let came = ShortOctets::of(&buffer[..count])?;
                 Some(Received {
                     side,
+                    room: buffer.len(),
                     came: Some(came),
                     failed: false,
                 })
             }
             Ok(None) => Some(Received {
                 side,
+                room: buffer.len(),
                 came: None,
                 failed: false,
             }),
             Err(WireFault) => Some(Received {
                 side,
+                room: buffer.len(),
                 came: None,
                 failed: true,
             }),

@@ -125,27 +125,56 @@ fn copy(octets: &[u8], buffer: &mut [u8]) -> usize
     count
 }
 
+/// A gateway, and the wire that leads it to another of the same redundancy.
+#[derive(Drop)]
+struct Ends {
+    near: Gateway<PlainRows>,
+    wire: LossyWire,
+}
+
+impl Ends {
+    fn new(rt: &impl Abort, alloc: Global, redundancy: u8) -> Result<Self, NoMemory>
+        requires { redundancy ≤ 8 }
+    {
+        let wire = LossyWire::new(rt, alloc, redundancy)?;
+        let near = Gateway::new(alloc, redundancy)?;
+        Ok(Ends { near, wire })
+    }
+
+    /// Makes the run, and says what comes of it.
+    fn run(&mut self, alloc: Global) -> Result<Outcomes, NoMemory> {
+        let driven = drive(alloc, &mut self.near, &mut self.wire, 0, &[0], TURNS)?;
+        Ok((
+            driven.events_refused,
+            outcome_of(&self.near),
+            outcome_of(&self.wire.far),
+        ))
+    }
+}
+
+/// How many events were refused, and the outcome of the job of either gateway, the near one first.
+type Outcomes = (u64, Option<Outcome>, Option<Outcome>);
+
+/// The outcome of the job that a gateway reported first.
+fn outcome_of(gateway: &Gateway<PlainRows>) -> Option<Outcome> {
+    Some(gateway.report(0)?.outcome)
+}
+
+/// What comes of a run of this redundancy.
+fn outcomes(rt: &impl Abort, alloc: Global, redundancy: u8) -> Result<Outcomes, NoMemory>
+    requires { redundancy ≤ 8 }
+{
+    let mut ends = Ends::new(rt, alloc, redundancy)?;
+    ends.run(alloc)
+}
+
 /// Where each datagram has the eight packets before its own, nothing is missing, and the page goes on. Where it has none of
 /// them, no training check comes whole; answers are lost too, and behind the third try without one the call is given up.
 #[test]
 fn one_datagram_in_four_is_lost(rt: HostRuntime) -> Result<(), Fail> {
-    for (redundancy, outcome, far) in [
-        (8, Outcome::Delivered, Some(Outcome::NoAnswer)),
-        (0, Outcome::NoReply, None),
-    ] {
-        assert!(rt; redundancy <= 8);
-        let mut gateway: Gateway<PlainRows> = Gateway::new(rt.alloc(), redundancy)?;
-        let mut wire = LossyWire::new(&rt, rt.alloc(), redundancy)?;
-        let driven = drive(rt.alloc(), &mut gateway, &mut wire, 0, &[0], TURNS)?;
-        assert_eq!(rt; driven.events_refused, 0);
-        let report = gateway.report(0);
-        assert_eq!(rt;
-            report.map(|report| report.outcome),
-            Some(outcome),
-            "of {redundancy}"
-        );
-        let report = wire.far.report(0);
-        assert_eq!(rt; report.map(|report| report.outcome), far, "of {redundancy}");
-    }
+    let eight = outcomes(&rt, rt.alloc(), 8)?;
+    assert!(rt; eight == (0, Some(Outcome::Delivered), Some(Outcome::NoAnswer)));
+    let none = outcomes(&rt, rt.alloc(), 0)?;
+    assert!(rt; none == (0, Some(Outcome::NoReply), None));
     Ok(())
 }

@@ -1,6 +1,6 @@
 //! A job whose called machine is gone.
 use super::peers::PeerWire;
-use fax_gateway::{Settings, Side, Wire, WireFault};
+use fax_gateway::{Buffer, Settings, Side, Wire, WireFault};
 use fax_jobs::Outcome;
 use fax_line::Line;
 use fax_repeat::{RepeatPolicy, RepeatingWire};
@@ -48,9 +48,9 @@ fn leg(rt: &HostRuntime) -> Result<LegSocket, Fail> {
 }
 
 /// Makes so many turns behind this one.
-fn turns(line: &mut Line<RepeatingWire<LoneWire>>, first: u64, count: u64) {
+fn turns(line: &mut Line<RepeatingWire<LoneWire>>, buffer: &mut Buffer, first: u64, count: u64) {
     for turn in 0..count {
-        line.turn(first.saturating_add(turn).saturating_mul(40));
+        line.turn(buffer, first.saturating_add(turn).saturating_mul(40));
     }
 }
 
@@ -64,10 +64,11 @@ fn a_job_whose_machine_is_gone_ends(rt: HostRuntime) -> Result<(), Fail> {
     let wire = RepeatingWire::new(wire, RepeatPolicy::Never);
     let mut line = Line::new(rt.alloc(), Settings::default(), wire)?;
     assert!(rt; line.ring(0) == Ok(0));
-    turns(&mut line, 0, 200);
+    let mut buffer = Buffer::new(rt.alloc())?;
+    turns(&mut line, &mut buffer, 0, 200);
     assert!(rt; line.sending().is_some() && line.report(0).is_none());
     line.wire().wire().sockets.leg(Side::Called).hang_up();
-    turns(&mut line, 200, 1);
+    turns(&mut line, &mut buffer, 200, 1);
     assert!(rt; line.sending().is_none());
     let report = line.turned().report.expect(&rt, "a report");
     assert!(rt; report.outcome == Outcome::HungUp);

@@ -32,7 +32,7 @@ returns-then-not-turned-clause-failures g c setup writes trace writing reached l
 pub loop-turn-init : goal.loop-turn-init
 loop-turn-init g c = record {
   few = omega arith;
-  ran = λ setup writes trace writing reached. ([], tt, refl, omega arith, refl, record { reached = reached; wanting = tt; carried = carries_none (g.W.Wire.known c.args.wire.now) }, c.in_ok-driver.ensures);
+  ran = λ setup writes trace writing reached. ([], tt, refl, omega arith, refl, record { reached = reached; wanting = tt; carried = carries_none (g.W.Wire.known c.args.wire.now) }, c.new-engine.ensures);
 }
 
 pub loop-turn-preserved : goal.loop-turn-preserved
@@ -60,7 +60,7 @@ returns-clause-driven g c setup writes trace writing reached =
       rounds,
       before.1,
       before.5,
-      tells_whole c.args.turns c.args.start c.args.rings.now rounds c.loop-turn.driver _ c.told-2.result c.told-2.ensures (omega arith) before.1 before.6 before.4 before.3 (omega arith),
+      tells_whole c.args.turns c.args.start c.args.rings.now rounds c.loop-turn.engine _ c.told-2.result c.told-2.ensures (omega arith) before.1 before.6 before.4 before.3 (omega arith),
     )
 
 pub returns-clause-failures : goal.returns-clause-failures

@@ -14,5 +14,5 @@ invariant-loop-turn g l = record {
   ran : (setup : Setup) (writes : Writing) (trace : List Event) → IsWriting writes → IsReachedBy setup writes trace l.fn.gateway
       → (rounds : List (List Entry)) × AreRounds l.start l.rings rounds × (length rounds ≡ l.turn-counter) × (failed_in_a_row (receipts (log_of rounds)) < most_failed)
       × (l.rings_refused ≡ count_by is_refused_ring (log_of rounds))
-      × Happens setup writes (log_of rounds) trace l.gateway (g.W.Wire.known l.fn.wire) (g.W.Wire.known l.wire) × HasMade (log_of rounds) l.driver;
+      × Happens setup writes (log_of rounds) trace l.gateway (g.W.Wire.known l.fn.wire) (g.W.Wire.known l.wire) × HasMade (log_of rounds) l.engine;
 }

@@ -37,7 +37,7 @@ returns-clause-ticked g c setup writes trace writing r =
     (c.end_job-report.ensures.ended ∙ ap (λ (x : Option JobValue). ended_if x o d heard) still)
     (serves_on setup writes trace at old job side given heard s sends
     (subst (λ (m : ℕ). IsHeard setup trace m old heard) now_is (served.heard setup leg s.calling))
-    (λ (l : CalledLeg) (same : l.job ≡ job) (k : IsCalled setup writes (Some l) inside.called). subst (λ (m : ℕ). TicksOn setup writes l m given side) now_is (c.in_ok-called-in-Some.ensures.ticked setup writes l writing same k))))
+    (λ l is on same k. subst (λ (m : ℕ). TicksOn setup writes l m given side) now_is (c.in_ok-called-in-Some.ensures.ticked setup writes l writing same k))))
 
 pub returns-clause-confirmed : goal.returns-clause-confirmed
 returns-clause-confirmed g c setup writes trace r =

@@ -5,5 +5,5 @@ use Rattle.fax_line.proofs.line.Line.new.Goals as goal
 pub returns-clause-new : goal.returns-clause-new
 returns-clause-new g c = record {
   gateway = λ setup writes set. c.in_ok-gateway.ensures.reached setup writes (subst (λ s. AreSet setup s) c.in_ok-gateway.ensures.settings set);
-  driver = c.in_ok-driver.ensures;
+  driver = c.new.ensures;
 }

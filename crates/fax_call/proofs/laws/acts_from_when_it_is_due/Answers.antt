@@ -1,0 +1,5 @@
+use Rattle.fax_call.proofs.DueLemmas.{acts_from}
+use Rattle.fax_call.proofs.laws.acts_from_when_it_is_due.Goals as goal
+
+pub returns : goal.returns
+returns c = acts_from

@@ -1,0 +1,273 @@
+-- The datagrams of each leg stand at least 40 ms apart.
+use Rattle.std.proofs.Common.{◌≡◌, ℕ, ◌+◌, ◌≤◌, max, min, Bool, true, false, not, is_some, List, [], ◌∷◌, ◌++◌, Option, Some, None, Result, Ok, Err, option_map, refl, sym, ◌∙◌, ap, subst, arith, if◌then◌else◌}
+use Rattle.std.proofs.lemmas.Bool.{leb-true}
+use Rattle.fax_timers.specs.declared.pace.LastPacket.{LastPacket}
+use Rattle.fax_timers.specs.Moments.{is_due}
+use Rattle.fax_timers.specs.Paces.{PaceValue, new_pace, pace_allows, allowed_from, pace_behind}
+use Rattle.fax_udptl.specs.declared.fault.UdptlFault.{UdptlFault}
+use Rattle.fax_udptl.specs.Datagrams.{DatagramValue, datagram_of}
+use Rattle.fax_ifp.specs.Pieces.{Piece}
+use Rattle.fax_jobs.specs.Jobs.{JobValue}
+use Rattle.fax_answer.specs.declared.state.State.{State}
+use Rattle.fax_answer.specs.declared.state.State.TheVariants.{Idle, Identify, Listen, Train, Page, Again, Closing}
+use Rattle.fax_answer.specs.Table.{Reading}
+use Rattle.fax_answer.specs.Replies.{Waiting, is_preamble, is_waiting}
+use Rattle.fax_answer.specs.Calls as answer
+use Rattle.fax_answer.specs.Calls.{Answering, new_answering, rung, says_goodbye, identifies_again, identifies_anew, timed_in}
+use Rattle.fax_answer.specs.Readings.{comes_all}
+use Rattle.fax_call.specs.Writings.{Writing}
+use Rattle.fax_call.specs.Replies.{Packet, Due, signals_preamble, waits}
+use Rattle.fax_call.specs.Table.{Move, Stays, Trains, Sends, AsksAgain, Turns, Closes, HangsUp, on_timers}
+use Rattle.fax_call.specs.Calls as call
+use Rattle.fax_call.specs.Calls.{Calling, moved, Taken, taken, after_giving}
+use Rattle.fax_call.specs.Delivery.{is_over}
+use Rattle.fax_gateway.specs.Setups.{Setup}
+use Rattle.fax_gateway.specs.Events.{Event, Ring, FromCalling, FromCalled, Tick, Given, clock}
+use Rattle.fax_gateway.specs.Legs.{new_pieces}
+use Rattle.fax_gateway.specs.CallingLegs as calling_legs
+use Rattle.fax_gateway.specs.CallingLegs.{CallingLeg, calling_leg, calling_after, is_idle, answers, told_calling}
+use Rattle.fax_gateway.specs.CalledLegs as called_legs
+use Rattle.fax_gateway.specs.CalledLegs.{CalledLeg, is_free, core_left, begun_core, calls, comes_to, leg_ticked, hears, with_tick, told_called}
+use Rattle.fax_gateway.specs.Sides.{Sides, heard_in_tick, leg_of, sends, sends_if, book_of, sides, in_tick}
+use Rattle.fax_gateway.specs.Traces.{IsTrace}
+use Rattle.fax_gateway.specs.Apart.{if_given, last_given, IsApart, DatagramsAreApart}
+
+-- A PACE: its pause is that of the setup, and it lets nothing through for 40 ms behind the datagram given last
+abbrev Holds : Option LastPacket → Option ℕ → Type 0
+Holds packet None = Unit {0}
+Holds packet (Some before) = before + 40 ≤ allowed_from packet
+
+record IsPaced (setup : Setup) (p : PaceValue) (last : Option ℕ) : Type 0 where
+  pause : p.pause ≡ setup.pause
+  holds : Holds p.last last
+
+allowed : (packet : Option LastPacket) (now : ℕ) → pace_allows packet now ≡ true → allowed_from packet ≤ now
+allowed None now h = omega arith
+allowed (Some p) now h = leb-true (p.at + p.span) now h
+
+apart : (packet : Option LastPacket) (last : Option ℕ) (now : ℕ) → Holds packet last → pace_allows packet now ≡ true → IsApart last now
+apart packet None now h a = tt
+apart packet (Some before) now h a = omega (arith, h, allowed packet now a)
+
+-- a packet is given at a moment, where the pace allows, or none is
+abbrev Moves : (given : Bool) → PaceValue → ℕ → PaceValue → Type 0
+Moves false p now q = q ≡ p
+Moves true p now q = (pace_allows p.last now ≡ true) × (b : Bool) × (q ≡ pace_behind b p now)
+
+span_is : (setup : Setup) (p : PaceValue) (now : ℕ) (b : Bool) → p.pause ≡ setup.pause → now + 40 ≤ allowed_from (pace_behind b p now).last
+span_is setup p now true e = omega (arith, e, setup.is_pause.0)
+span_is setup p now false e = omega arith
+
+paced_on : (setup : Setup) (p q : PaceValue) (now : ℕ) (last : Option ℕ) (o : Option (List ℕ)) → Moves (is_some o) p now q → IsPaced setup p last → IsPaced setup q (if_given o now last)
+paced_on setup p q now last None m i = subst (λ (x : PaceValue). IsPaced setup x last) (sym m) i
+paced_on setup p q now last (Some d) m i =
+    subst (λ (x : PaceValue). IsPaced setup x (Some now)) (sym m.2) (record { pause = i.pause; holds = span_is setup p now m.1 i.pause })
+
+apart_now : (setup : Setup) (p q : PaceValue) (now : ℕ) (last : Option ℕ) (o : Option (List ℕ)) (datagram : List ℕ) → Moves (is_some o) p now q → IsPaced setup p last → o ≡ Some datagram → IsApart last now
+apart_now setup p q now last None datagram m i e = cc
+apart_now setup p q now last (Some d) datagram m i e = apart p.last last now i.holds m.0
+
+-- THE CALLING LEG
+either_pace : (b : Bool) (p : PaceValue) (x y : Answering) → x.pace ≡ p → y.pace ≡ p → (if b then x else y).pace ≡ p
+either_pace true p x y i j = i
+either_pace false p x y i j = j
+
+timed_in_pace : (state : State) (a : Answering) (now : ℕ) → (timed_in state a now).pace ≡ a.pace
+timed_in_pace Idle a now = refl
+timed_in_pace Closing a now = refl
+timed_in_pace Identify a now = either_pace (is_due a.timers.t1 now) a.pace _ _ refl (either_pace (is_due a.timers.t4 now) a.pace (identifies_again a) a refl refl)
+timed_in_pace Listen a now = either_pace (is_due a.timers.t2 now) a.pace (says_goodbye a) a refl refl
+timed_in_pace (Train d) a now = either_pace (is_due a.timers.t2 now) a.pace (says_goodbye a) a refl refl
+timed_in_pace (Page d) a now = either_pace (is_due a.timers.t2 now) a.pace (says_goodbye a) a refl refl
+timed_in_pace Again a now = either_pace (is_due a.timers.t2 now) a.pace (identifies_anew a now) a refl refl
+
+timed_pace : (a : Answering) (now : ℕ) → (answer.timed a now).pace ≡ a.pace
+timed_pace a now = either_pace (is_waiting a.waiting) a.pace a (timed_in a.state a now) refl (timed_in_pace a.state a now)
+
+abbrev TickMoves : PaceValue → ℕ → answer.Ticked → Type 0
+TickMoves p now t = Moves (is_some t.given) p now t.core.pace
+
+first_moves : (a : Answering) (now : ℕ) (ws : List Waiting) → pace_allows a.pace.last now ≡ true → TickMoves a.pace now (answer.given_first a now ws)
+first_moves a now [] e = refl
+first_moves a now (w ∷ []) e = (e, is_preamble w.packet, refl)
+first_moves a now (w ∷ v ∷ ws) e = (e, is_preamble w.packet, refl)
+
+paced_moves : (a : Answering) (now : ℕ) (b : Bool) → pace_allows a.pace.last now ≡ b → TickMoves a.pace now (if◌then◌else◌ {A = answer.Ticked} b (answer.given_first a now a.waiting) (record { core = a; given = None; ended = false }))
+paced_moves a now true e = first_moves a now a.waiting e
+paced_moves a now false e = refl
+
+answers_move : (l : CallingLeg) (now : ℕ) → TickMoves (calling_legs.core_of l).pace now (answers l now)
+answers_move l now =
+    let a : Answering = calling_legs.core_of l in
+    let b : Answering = answer.timed a now in
+    subst (λ (p : PaceValue). TickMoves p now (answers l now)) (timed_pace a now) (paced_moves b now (pace_allows b.pace.last now) refl)
+
+same_some : (setup : Setup) (given : List (List ℕ)) (o : Option Waiting) → is_some (calling_legs.told_by setup given o) ≡ is_some o
+same_some setup given None = refl
+same_some setup given (Some w) = refl
+
+abbrev pace_on : Setup → Option CallingLeg → PaceValue
+pace_on setup None = new_pace setup.pause
+pace_on setup (Some l) = (calling_legs.core_of l).pace
+
+-- what a tick tells on the leg
+told_moves : (setup : Setup) (o : Option CallingLeg) (now at : ℕ) (given : Given) → Moves (is_some (told_calling setup o now)) (pace_on setup o) now (pace_on setup (calling_after setup o now (Tick at given)))
+told_moves setup None now at given = refl
+told_moves setup (Some l) now at given =
+    subst (λ (b : Bool). Moves b (calling_legs.core_of l).pace now (answers l now).core.pace) (sym (same_some setup l.given (answers l now).given)) (answers_move l now)
+
+comes_pace : (a : Answering) (ps : List Piece) (now : ℕ) (read : Reading) (events : List answer.CallEvent) → (answer.after_events a (comes_all ps now read events)).pace ≡ (answer.after_events a events).pace
+comes_pace a [] now read events = refl
+comes_pace a (p ∷ ps) now read events = comes_pace a ps now read (answer.Comes p now read ∷ events)
+
+with_pace : (l : CallingLeg) (now : ℕ) (read : Reading) (r : Result DatagramValue UdptlFault) → (calling_legs.core_of (calling_legs.leg_with l now read r)).pace ≡ (calling_legs.core_of l).pace
+with_pace l now read (Ok d) = comes_pace (rung l.before l.begun) (new_pieces l.arrived d) now read l.events
+with_pace l now read (Err f) = refl
+
+heard_pace : (setup : Setup) (o : Option CallingLeg) (now : ℕ) (octets : List ℕ) (at : ℕ) (decided : Bool) (read : Reading) → pace_on setup (calling_after setup o now (FromCalling octets at decided read)) ≡ pace_on setup o
+heard_pace setup None now octets at decided read = refl
+heard_pace setup (Some l) now octets at decided read = by (is_idle (calling_legs.core_of l).state)
+  where
+    by : (b : Bool) → pace_on setup (if◌then◌else◌ {A = Option CallingLeg} b (Some l) (Some (calling_legs.leg_with l now read (datagram_of octets)))) ≡ (calling_legs.core_of l).pace
+    by true = refl
+    by false = with_pace l now read (datagram_of octets)
+
+rung_pace : (setup : Setup) (o : Option CallingLeg) (now at number : ℕ) → pace_on setup (calling_after setup o now (Ring at number)) ≡ pace_on setup o
+rung_pace setup None now at number = refl
+rung_pace setup (Some l) now at number = refl
+
+other_pace : (setup : Setup) (o : Option CallingLeg) (now : ℕ) (octets : List ℕ) (at : ℕ) (decided : Bool) → pace_on setup (calling_after setup o now (FromCalled octets at decided)) ≡ pace_on setup o
+other_pace setup None now octets at decided = refl
+other_pace setup (Some l) now octets at decided = refl
+
+abbrev CallingPaced : Setup → List Event → Type 0
+CallingPaced setup trace = IsPaced setup (pace_on setup (calling_leg setup trace)) (last_given (λ g. g.on_calling) trace)
+
+calling_moves : (setup : Setup) (writes : Writing) (earlier : List Event) (at : ℕ) (given : Given) → IsTrace setup writes (Tick at given ∷ earlier) →
+    Moves (is_some given.on_calling) (pace_on setup (calling_leg setup earlier)) (max at (clock earlier)) (pace_on setup (calling_leg setup (Tick at given ∷ earlier)))
+calling_moves setup writes earlier at given t =
+    let now : ℕ = max at (clock earlier) in
+    subst (λ (o : Option (List ℕ)). Moves (is_some o) (pace_on setup (calling_leg setup earlier)) now (pace_on setup (calling_leg setup (Tick at given ∷ earlier)))) (sym (ap (λ (g : Given). g.on_calling) t.0))
+    (told_moves setup (calling_leg setup earlier) now at given)
+
+calling_paced : (setup : Setup) (writes : Writing) (trace : List Event) → IsTrace setup writes trace → CallingPaced setup trace
+calling_paced setup writes [] t = record { pause = refl; holds = tt }
+calling_paced setup writes (Ring at n ∷ earlier) t =
+    subst (λ (p : PaceValue). IsPaced setup p (last_given (λ g. g.on_calling) earlier)) (sym (rung_pace setup (calling_leg setup earlier) (clock (Ring at n ∷ earlier)) at n)) (calling_paced setup writes earlier t.1)
+calling_paced setup writes (FromCalling octets at decided read ∷ earlier) t =
+    subst (λ (p : PaceValue). IsPaced setup p (last_given (λ g. g.on_calling) earlier)) (sym (heard_pace setup (calling_leg setup earlier) (clock (FromCalling octets at decided read ∷ earlier)) octets at decided read)) (calling_paced setup writes earlier t.1)
+calling_paced setup writes (FromCalled octets at decided ∷ earlier) t =
+    subst (λ (p : PaceValue). IsPaced setup p (last_given (λ g. g.on_calling) earlier)) (sym (other_pace setup (calling_leg setup earlier) (clock (FromCalled octets at decided ∷ earlier)) octets at decided)) (calling_paced setup writes earlier t.1)
+calling_paced setup writes (Tick at given ∷ earlier) t =
+    paced_on setup (pace_on setup (calling_leg setup earlier)) (pace_on setup (calling_leg setup (Tick at given ∷ earlier))) (max at (clock earlier)) (last_given (λ g. g.on_calling) earlier) given.on_calling
+    (calling_moves setup writes earlier at given t) (calling_paced setup writes earlier t.1)
+
+-- THE CALLED LEG
+moved_pace : (a : Calling) (m : Move) → (moved a m).pace ≡ a.pace
+moved_pace a Stays = refl
+moved_pace a (Trains dis dcs c) = refl
+moved_pace a (Sends dis dcs c) = refl
+moved_pace a (AsksAgain c) = refl
+moved_pace a (Turns format t1 c) = refl
+moved_pace a (Closes outcome c) = refl
+moved_pace a HangsUp = refl
+
+abbrev CallMoves : PaceValue → ℕ → call.Ticked → Type 0
+CallMoves p now t = Moves (is_some t.given) p now t.core.pace
+
+giving_pace : (a : Calling) (now : ℕ) (packet : Packet) (due : List Due) → (after_giving a now packet due).pace ≡ pace_behind (signals_preamble packet) a.pace now
+giving_pace a now packet [] = refl
+giving_pace a now packet (d ∷ due) = refl
+
+call_first : (writes : Writing) (job : JobValue) (a : Calling) (now : ℕ) (due : List Due) → pace_allows a.pace.last now ≡ true → CallMoves a.pace now (call.given_first writes job a now due)
+call_first writes job a now [] e = refl
+call_first writes job a now (d ∷ due) e =
+    let t : Taken = taken writes job d due in (e, signals_preamble t.packet, giving_pace a now t.packet t.rest)
+
+call_paced : (writes : Writing) (job : JobValue) (a : Calling) (now : ℕ) (b : Bool) → pace_allows a.pace.last now ≡ b →
+    CallMoves a.pace now (if◌then◌else◌ {A = call.Ticked} b (call.given_first writes job a now a.waiting) (record { core = a; given = None }))
+call_paced writes job a now true e = call_first writes job a now a.waiting e
+call_paced writes job a now false e = refl
+
+calls_move : (writes : Writing) (l : CalledLeg) (now : ℕ) → CallMoves (called_legs.core_of writes l).pace now (calls writes l now)
+calls_move writes l now =
+    let a : Calling = called_legs.core_of writes l in
+    let b : Calling = call.timed a now in
+    subst (λ (p : PaceValue). CallMoves p now (calls writes l now)) (moved_pace a (if waits a.waiting then Stays else on_timers (is_due a.t1 now) (is_due a.t4 now) a.state a.counts)) (call_paced writes l.job b now (pace_allows b.pace.last now) refl)
+
+same_packet : (setup : Setup) (given : List (List ℕ)) (o : Option Packet) → is_some (called_legs.told_by setup given o) ≡ is_some o
+same_packet setup given None = refl
+same_packet setup given (Some p) = refl
+
+abbrev pace_left : Setup → Writing → Option CalledLeg → PaceValue
+pace_left setup writes leg = (core_left setup writes leg).pace
+
+called_moves_by : (setup : Setup) (writes : Writing) (leg : Option CalledLeg) (now : ℕ) → Moves (is_some (told_called setup writes leg now)) (pace_left setup writes leg) now (pace_left setup writes (option_map (leg_ticked writes now) leg))
+called_moves_by setup writes None now = refl
+called_moves_by setup writes (Some l) now = by l.entered
+  where
+    by : (b : Bool) → Moves (is_some (if◌then◌else◌ {A = Option (List ℕ)} b None (called_legs.told_by setup l.given (calls writes l now).given))) (called_legs.core_of writes l).pace now
+        (called_legs.core_of writes (if◌then◌else◌ {A = CalledLeg} b l (with_tick (calls writes l now) now l))).pace
+    by true = refl
+    by false = subst (λ (b : Bool). Moves b (called_legs.core_of writes l).pace now (calls writes l now).core.pace) (sym (same_packet setup l.given (calls writes l now).given)) (calls_move writes l now)
+
+begun_pace : (setup : Setup) (writes : Writing) (o : Option JobValue) (now : ℕ) (leg : Option CalledLeg) → pace_left setup writes (leg_of o (core_left setup writes leg) now leg) ≡ pace_left setup writes leg
+begun_pace setup writes None now leg = refl
+begun_pace setup writes (Some job) now leg = refl
+
+served_pace : (setup : Setup) (writes : Writing) (now : ℕ) (s : Sides) → pace_left setup writes (sends_if setup writes now s).leg ≡ pace_left setup writes s.leg
+served_pace setup writes now s = by (is_free s.leg)
+  where
+    by : (b : Bool) → pace_left setup writes (if◌then◌else◌ {A = Sides} b (sends setup writes now s) s).leg ≡ pace_left setup writes s.leg
+    by true = begun_pace setup writes (book_of (sends setup writes now s)).sending now s.leg
+    by false = refl
+
+called_moves : (setup : Setup) (writes : Writing) (earlier : List Event) (at : ℕ) (given : Given) → IsTrace setup writes (Tick at given ∷ earlier) →
+    Moves (is_some given.on_called) (pace_left setup writes (sides setup writes earlier).leg) (max at (clock earlier)) (pace_left setup writes (sides setup writes (Tick at given ∷ earlier)).leg)
+called_moves setup writes earlier at given t =
+    let now : ℕ = max at (clock earlier) in
+    let s : Sides = sides setup writes earlier in
+    let z : Sides = in_tick setup writes earlier at in
+    let after : PaceValue = pace_left setup writes (sides setup writes (Tick at given ∷ earlier)).leg in
+    subst (λ (p : PaceValue). Moves (is_some given.on_called) p now after) (served_pace setup writes now (record s { steps = heard_in_tick (calling_leg setup earlier) now s.steps }))
+    (subst (λ (o : Option (List ℕ)). Moves (is_some o) (pace_left setup writes z.leg) now after) (sym (ap (λ (g : Given). g.on_called) t.0)) (called_moves_by setup writes z.leg now))
+
+comes_to_pace : (writes : Writing) (job : JobValue) (a : Calling) (ps : List Piece) (now : ℕ) (events : List call.CallEvent) → (call.after_events writes job a (comes_to ps now events)).pace ≡ (call.after_events writes job a events).pace
+comes_to_pace writes job a [] now events = refl
+comes_to_pace writes job a (p ∷ ps) now events =
+    let c : Calling = call.after_events writes job a events in
+    comes_to_pace writes job a ps now (call.Comes p now ∷ events) ∙ moved_pace c (call.heard c p now)
+
+with_datagram_pace : (writes : Writing) (l : CalledLeg) (now : ℕ) (r : Result DatagramValue UdptlFault) → (called_legs.core_of writes (called_legs.leg_with r now l)).pace ≡ (called_legs.core_of writes l).pace
+with_datagram_pace writes l now (Ok d) = comes_to_pace writes l.job (begun_core l) (new_pieces l.arrived d) now l.events
+with_datagram_pace writes l now (Err f) = refl
+
+hears_pace : (setup : Setup) (writes : Writing) (octets : List ℕ) (now : ℕ) (leg : Option CalledLeg) → pace_left setup writes (option_map (hears writes octets now) leg) ≡ pace_left setup writes leg
+hears_pace setup writes octets now None = refl
+hears_pace setup writes octets now (Some l) = by (is_over (called_legs.core_of writes l).state)
+  where
+    by : (b : Bool) → (called_legs.core_of writes (if◌then◌else◌ {A = CalledLeg} b l (called_legs.leg_with (datagram_of octets) now l))).pace ≡ (called_legs.core_of writes l).pace
+    by true = refl
+    by false = with_datagram_pace writes l now (datagram_of octets)
+
+abbrev CalledPaced : Setup → Writing → List Event → Type 0
+CalledPaced setup writes trace = IsPaced setup (pace_left setup writes (sides setup writes trace).leg) (last_given (λ g. g.on_called) trace)
+
+called_paced : (setup : Setup) (writes : Writing) (trace : List Event) → IsTrace setup writes trace → CalledPaced setup writes trace
+called_paced setup writes [] t = record { pause = refl; holds = tt }
+called_paced setup writes (Ring at n ∷ earlier) t = called_paced setup writes earlier t.1
+called_paced setup writes (FromCalling octets at decided read ∷ earlier) t = called_paced setup writes earlier t.1
+called_paced setup writes (FromCalled octets at decided ∷ earlier) t =
+    subst (λ (p : PaceValue). IsPaced setup p (last_given (λ g. g.on_called) earlier)) (sym (hears_pace setup writes octets (clock (FromCalled octets at decided ∷ earlier)) (sides setup writes earlier).leg)) (called_paced setup writes earlier t.1)
+called_paced setup writes (Tick at given ∷ earlier) t =
+    paced_on setup (pace_left setup writes (sides setup writes earlier).leg) (pace_left setup writes (sides setup writes (Tick at given ∷ earlier)).leg) (max at (clock earlier)) (last_given (λ g. g.on_called) earlier) given.on_called
+    (called_moves setup writes earlier at given t) (called_paced setup writes earlier t.1)
+
+pub are_apart : DatagramsAreApart
+are_apart setup writes earlier at given datagram t =
+    let now : ℕ = max at (clock earlier) in (
+      λ e. apart_now setup (pace_on setup (calling_leg setup earlier)) (pace_on setup (calling_leg setup (Tick at given ∷ earlier))) now (last_given (λ g. g.on_calling) earlier) given.on_calling datagram
+          (calling_moves setup writes earlier at given t) (calling_paced setup writes earlier t.1) e,
+      λ e. apart_now setup (pace_left setup writes (sides setup writes earlier).leg) (pace_left setup writes (sides setup writes (Tick at given ∷ earlier)).leg) now (last_given (λ g. g.on_called) earlier) given.on_called datagram
+          (called_moves setup writes earlier at given t) (called_paced setup writes earlier t.1) e,
+    )

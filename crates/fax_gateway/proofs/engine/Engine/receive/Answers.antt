@@ -1,0 +1,55 @@
+use Rattle.std.proofs.Common.{ℕ, List, Ok, inl, inr, refl, sym, ◌∙◌, ap, subst}
+use Rattle.fax_gateway.specs.declared.side.Side.{Side}
+use Rattle.fax_gateway.specs.Driving.{DriverValue, FailsToReceive, HasMade, ReceivesNothing}
+use Rattle.fax_gateway.proofs.DrivingLemmas.{carries_datagram, carries_failure, carries_nothing, made_nothing}
+use Rattle.fax_gateway.proofs.engine.Engine.receive.Goals as goal
+
+pub returns-in-Ok-Some : goal.returns-in-Ok-Some
+returns-in-Ok-Some g c setup writes trace earlier reached made =
+    let at : Side = c.args.side in
+    let h = c.hand_on-is_accepted.ensures setup writes trace reached in
+    let k = c.receive.ensures in
+    let octets : List ℕ = c.front.result.now in (
+      h.0,
+      h.1,
+      record {
+        happens = record {
+          reached = h.4;
+          wanting = (h.3, tt);
+          carried = carries_datagram at c.receive.new.self octets c.in-Ok-Some.count h.0 _ _ c.receive.result (c.in-Ok-Some.is ∙ ap Ok c.in-Ok-Some.field-0-is) k.room c.front.ensures c.hand_on-is_accepted.result h.2 k.failures k.received k.sent;
+        };
+        made = c.note_datagram.ensures earlier at octets h.0 h.2 made;
+      },
+    )
+
+pub returns-in-Ok-None : goal.returns-in-Ok-None
+returns-in-Ok-None g c setup writes trace earlier reached made =
+    let at : Side = c.args.side in
+    let k = c.receive.ensures in (
+      ReceivesNothing at,
+      inl refl,
+      record {
+        happens = record {
+          reached = reached;
+          wanting = (tt, tt);
+          carried = carries_nothing at c.receive.new.self _ _ c.receive.result (c.in-Ok-None.is ∙ ap Ok c.in-Ok-None.field-0-is) k.room k.failures k.received k.sent;
+        };
+        made = made_nothing earlier at _ (subst (λ (d : DriverValue). HasMade earlier d) (sym c.self.view_is) made);
+      },
+    )
+
+pub returns-in-Err : goal.returns-in-Err
+returns-in-Err g c setup writes trace earlier reached made =
+    let at : Side = c.args.side in
+    let k = c.receive.ensures in (
+      FailsToReceive at,
+      inr refl,
+      record {
+        happens = record {
+          reached = reached;
+          wanting = (tt, tt);
+          carried = carries_failure at c.receive.new.self _ _ c.receive.result c.in-Err.field-0 c.in-Err.is k.room k.failures k.received k.sent;
+        };
+        made = c.note_failure.ensures earlier at made;
+      },
+    )

@@ -1,0 +1,49 @@
+use Rattle.std.proofs.Common.{[], ◌∷◌, ◌++◌, ◌∙◌, ap, inl, inr, refl, sym, subst}
+use Rattle.fax_gateway.specs.Events.{Tick}
+use Rattle.fax_gateway.specs.Reached.{given_shown}
+use Rattle.fax_gateway.specs.Turns.{TellTicks}
+use Rattle.fax_gateway.specs.declared.side.Side.TheVariants as side
+use Rattle.fax_gateway.specs.Driving.{Accepts, DriverValue, Entry, HasMade, RefusesTick, Steps, events}
+use Rattle.fax_gateway.proofs.DrivingLemmas.{carries_unseen, made_refused_tick, made_unseen, steps_more, steps_send}
+use Rattle.fax_gateway.proofs.Turning.{refused_tells, tick_tells}
+use Rattle.fax_gateway.proofs.engine.Engine.tick.Goals as goal
+
+pub returns-in-Ok : goal.returns-in-Ok
+returns-in-Ok g c setup writes trace earlier writing reached made =
+    let e : Entry = Accepts (Tick c.args.now (given_shown c.in-Ok.given)) in
+    let step : Steps setup writes (e ∷ []) trace earlier c.tick.new.self (g.W.Wire.known c.args.wire.now) (g.W.Wire.known c.args.wire.now) c.args.self.now = record {
+      happens = record {
+        reached = c.in-Ok.ensures.ticked setup writes trace writing reached;
+        wanting = (tt, tt);
+        carried = carries_unseen e _ refl refl refl refl;
+      };
+      made = made_unseen earlier e _ refl refl refl refl made;
+    } in
+    let first = c.send.ensures (e ∷ earlier) step.made in
+    let steps = steps_more setup writes (e ∷ []) first.0 trace earlier _ _ _ _ _ _ _ step
+    (steps_send setup writes side.Calling c.in-Ok.given.calling first.0 (events (e ∷ []) ++ trace) (e ∷ earlier) _ _ _ _ first.1 first.2 first.3 step.happens.reached) in
+    let second = c.send-in-Ok.ensures ((first.0 ++ e ∷ []) ++ earlier) steps.made in (
+      second.0 ++ (first.0 ++ e ∷ []),
+      inl (given_shown c.in-Ok.given, first.0, second.0, first.1, second.1, refl),
+      steps_more setup writes (first.0 ++ e ∷ []) second.0 trace earlier _ _ _ _ _ _ _ steps
+          (steps_send setup writes side.Called c.in-Ok.given.called second.0 (events (first.0 ++ e ∷ []) ++ trace) ((first.0 ++ e ∷ []) ++ earlier) _ _ _ _ second.1 second.2 second.3 steps.happens.reached),
+      tick_tells setup trace c.args.now (given_shown c.in-Ok.given) first.0 second.0 c.told.result.report c.told.result.kept c.told.result.gave_up first.1 second.1
+          (ap (λ t. t.report) c.told.ensures)
+          (ap (λ t. t.kept) c.told.ensures ∙ c.in-Ok.ensures.confirmed setup writes trace reached)
+          (ap (λ t. t.gave_up) c.told.ensures ∙ c.in-Ok.ensures.given_up setup writes trace reached),
+    )
+
+pub returns-in-Err : goal.returns-in-Err
+returns-in-Err g c setup writes trace earlier writing reached made = (
+  RefusesTick ∷ [],
+  inr refl,
+  record {
+    happens = record {
+      reached = c.in-Err.ensures.kept setup writes trace reached;
+      wanting = (tt, tt);
+      carried = carries_unseen RefusesTick _ refl refl refl refl;
+    };
+    made = made_refused_tick earlier _ _ c.saturating_add-self-inside.ensures (subst (λ (d : DriverValue). HasMade earlier d) (sym c.self.view_is) made);
+  },
+  subst (λ t. TellTicks setup trace trace t.report t.kept t.gave_up) (sym c.nothing.ensures) (refused_tells setup trace),
+)
