@@ -11,6 +11,7 @@ mod putting;
 mod run;
 mod status;
 mod stream;
+mod stream_fault;
 
 pub use answer::{MEMORY_LINE, page_of_hex};
 pub use input::{InputError, read_input};
@@ -22,5 +23,6 @@ pub use run::run_page;
 pub use status::Status;
 pub use stream::{
     MOST_AT_ONCE, MOST_OCTETS, MOST_READS, ReadFault, Sink, Source, StdSink, StdSource, WriteFault,
-    write_text,
+    fault_of_streams, write_text,
 };
+pub use stream_fault::StreamFault;

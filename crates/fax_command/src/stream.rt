@@ -1,9 +1,11 @@
 //! Streams of octets that keep count: how much a source gave, in how many reads, whether a read or a write
 //! failed, and whether what was written was handed on.
-ghost use Rattle.std.specs.Prelude.{ℕ, ◌≡◌, ◌+◌, ◌≤◌, ◌↔◌, Bool, true, false, List, Option, length, min, IfOk, OnOk, IsOk};
+ghost use Rattle.std.specs.Prelude.{ℕ, ◌≡◌, ◌+◌, ◌<◌, ◌≤◌, ◌⊎◌, ◌↔◌, Bool, true, false, List, Option, length, min, is_some, IfOk, IfSome, IsSome, OnOk, IsOk};
 ghost use Rattle.std.specs.Io.KnownBytes.{Appends, Keeps, ReadConsumes};
 ghost use Rattle.fax_command.specs.Streams.{failed_after_read, failed_after_write, given_after_read, greatest_count};
+ghost use Rattle.fax_command.specs.StreamFaults.{IsFaultOf};
 
+use crate::stream_fault::StreamFault;
 use std::io;
 use std::io::{ErrorKind, Read, Write};
 
@@ -91,7 +93,7 @@ pub struct StdSource<R> {
     reader: R,
     reads: u64,
     given: u64,
-    failed: bool,
+    failure: Option<io::Error>,
 }
 
 impl<R: Read> StdSource<R> {
@@ -105,7 +107,7 @@ impl<R: Read> StdSource<R> {
             reader,
             reads: 0,
             given: 0,
-            failed: false,
+            failure: None,
         }
     }
 }
@@ -117,7 +119,7 @@ impl<R: Read> Source for StdSource<R> {
 
     ghost given = { λ source. source.given };
 
-    ghost failed = { λ source. source.failed };
+    ghost failed = { λ source. is_some source.failure };
 
     fn read(&mut self, buffer: &mut [u8]) -> Result<usize, ReadFault> {
         self.reads = self.reads.saturating_add(1);
@@ -127,8 +129,8 @@ impl<R: Read> Source for StdSource<R> {
                 Ok(count)
             }
             Err(error) if error.kind() == ErrorKind::Interrupted => Err(ReadFault::Interrupted),
-            Err(_) => {
-                self.failed = true;
+            Err(error) => {
+                self.failure = Some(error);
                 Err(ReadFault::Failed)
             }
         }
@@ -139,7 +141,7 @@ impl<R: Read> Source for StdSource<R> {
 #[derive(Drop)]
 pub struct StdSink<W> {
     writer: W,
-    failed: bool,
+    failure: Option<io::Error>,
     held_back: bool,
 }
 
@@ -152,21 +154,21 @@ impl<W: Write> StdSink<W> {
     {
         StdSink {
             writer,
-            failed: false,
+            failure: None,
             held_back: false,
         }
     }
 
-    /// Keeps in mind whether a write failed.
+    /// Keeps in mind why a write failed.
     fn noted(&mut self, written: io::Result<()>) -> Result<(), WriteFault>
         ensures same { (self.new.writer ≡ self.old.writer) × (self.new.held_back ≡ self.old.held_back) }
-        ensures failed { self.new.failed ≡ failed_after_write self.old.failed result }
+        ensures failed { is_some self.new.failure ≡ failed_after_write (is_some self.old.failure) result }
         ensures ok { IsOk result ↔ IsOk written }
     {
         match written {
             Ok(()) => Ok(()),
-            Err(_) => {
-                self.failed = true;
+            Err(error) => {
+                self.failure = Some(error);
                 Err(WriteFault)
             }
         }
@@ -176,7 +178,7 @@ impl<W: Write> StdSink<W> {
 impl<W: Write> Sink for StdSink<W> {
     ghost contents = { λ sink. W.contents sink.writer };
 
-    ghost failed = { λ sink. sink.failed };
+    ghost failed = { λ sink. is_some sink.failure };
 
     ghost held_back = { λ sink. sink.held_back };
 
@@ -193,4 +195,31 @@ impl<W: Write> Sink for StdSink<W> {
         }
         self.noted(written)
     }
+}
+
+/// Why a run that ended with status 4 did, by the streams that it had to itself. `None`: they tell no fault.
+pub fn fault_of_streams<R: Read, W: Write>(
+    source: &StdSource<R>,
+    sink: &StdSink<W>,
+) -> Option<StreamFault>
+    ensures is { IfSome result (IsFaultOf (⟦<StdSource<R> as Source>⟧.failed source.now) (⟦<StdSink<W> as Sink>⟧.failed sink.now)
+        (⟦<StdSource<R> as Source>⟧.given source.now) (⟦<StdSource<R> as Source>⟧.reads source.now)) }
+
+    // It tells one wherever a run ends so.
+    ensures told { (⟦<StdSource<R> as Source>⟧.failed source.now ≡ true) ⊎ (⟦<StdSink<W> as Sink>⟧.failed sink.now ≡ true)
+        ⊎ (MOST_OCTETS < ⟦<StdSource<R> as Source>⟧.given source.now) ⊎ (⟦<StdSource<R> as Source>⟧.reads source.now ≡ MOST_READS) → IsSome result }
+{
+    if let Some(error) = source.failure {
+        return Some(StreamFault::Unread(error));
+    }
+    if let Some(error) = sink.failure {
+        return Some(StreamFault::Unwritten(error));
+    }
+    if source.given > u64::from(MOST_OCTETS) {
+        return Some(StreamFault::TooLong);
+    }
+    if source.reads >= u64::from(MOST_READS) {
+        return Some(StreamFault::TooManyReads);
+    }
+    None
 }

@@ -15,10 +15,13 @@ use Rattle.fax_gateway.specs.Setups.{AreSet, Setup}
 use Rattle.fax_gateway.specs.Sides.{book_of, sides}
 use Rattle.fax_gateway.specs.Traces.{IsTrace}
 use Rattle.fax_command.specs.declared.input_fault.InputFault.{InputFault}
+use Rattle.fax_command.specs.declared.input_fault.InputFault.TheVariants as faults
 use Rattle.fax_command.specs.declared.options.Output.TheVariants as output
 use Rattle.fax_command.specs.declared.options.PageOptions.{PageOptions}
-use Rattle.fax_command.specs.Answers.{IsHexOf, RefusesPage, fault_line, fault_status, row_width}
+use Rattle.fax_command.specs.Answers.{IsHexOf, RefusesPage, fault_line, row_width}
 use Rattle.fax_command.specs.RowLines.{TellRows, text_of_lines}
+use Rattle.fax_loop.specs.declared.ending.Ending.{Ending}
+use Rattle.fax_loop.specs.declared.ending.Ending.TheVariants as endings
 
 -- How the page is given: in rows of 1,728 elements, of the standard resolution, in one-dimensional lines.
 abbrev pub page_options : PageOptions
@@ -57,10 +60,25 @@ job_status job.NoReply = 5
 job_status job.PageRefused = 5
 job_status job.HungUp = 5
 
-abbrev pub status_of : Outcome → ℕ
-status_of (Reports report rows) = job_status report.outcome
-status_of ReportsNone = 5
-status_of (Refuses fault) = fault_status fault
+abbrev pub ending_status : Ending → ℕ
+ending_status (endings.Reported outcome) = job_status outcome
+ending_status endings.Unreported = 5
+ending_status endings.Fault = 1
+ending_status endings.NoMemory = 3
+ending_status endings.Stream = 4
+ending_status (endings.Socket error) = 4
+
+-- as a run tells it
+abbrev pub fault_ending : InputFault → Ending
+fault_ending faults.Hex = endings.Fault
+fault_ending (faults.Page of) = endings.Fault
+fault_ending (faults.Row n) = endings.Fault
+fault_ending faults.NoMemory = endings.NoMemory
+
+abbrev pub ending_of : Outcome → Ending
+ending_of (Reports report rows) = endings.Reported report.outcome
+ending_of ReportsNone = endings.Unreported
+ending_of (Refuses of) = fault_ending of
 
 -- the line of the job, and of each row that is told; or that of the fault
 abbrev pub IsTextOf : Outcome → List ℕ → Type 0
@@ -68,9 +86,15 @@ IsTextOf (Reports report rows) text = (lines : List (List ℕ)) × TellRows line
 IsTextOf ReportsNone text = text ≡ []
 IsTextOf (Refuses fault) text = text ≡ fault_line fault
 
--- the exit status and the text that a run with these settings may answer to an input
-pub record Answers (settings : Settings) (input : List ℕ) (status : ℕ) (text : List ℕ) : Type 0 where
+-- how a run with these settings may end, and the text that it then answers to an input
+pub record EndsSo (settings : Settings) (input : List ℕ) (ending : Ending) (text : List ℕ) : Type 0 where
   pub outcome : Outcome
   pub allowed : Allows settings input outcome
-  pub status_is : status ≡ status_of outcome
+  pub ending_is : ending ≡ ending_of outcome
   pub text_is : IsTextOf outcome text
+
+-- the exit status and the text that it may answer
+pub record Answers (settings : Settings) (input : List ℕ) (status : ℕ) (text : List ℕ) : Type 0 where
+  pub ending : Ending
+  pub ends_so : EndsSo settings input ending text
+  pub status_is : status ≡ ending_status ending

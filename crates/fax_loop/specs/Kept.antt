@@ -10,7 +10,8 @@ use Rattle.fax_gateway.specs.Reached.{GatewayValue, IsReachedBy}
 use Rattle.fax_gateway.specs.declared.settings.Settings.{Settings}
 use Rattle.fax_gateway.specs.Setups.{AreSet, Setup}
 use Rattle.fax_command.specs.RowLines.{TellRows, text_of_lines}
-use Rattle.fax_loop.specs.Answers.{job_status}
+use Rattle.fax_loop.specs.declared.ending.Ending.{Ending}
+use Rattle.fax_loop.specs.declared.ending.Ending.TheVariants as endings
 use Rattle.fax_loop.specs.declared.answer.Answer.{Answer}
 use Rattle.fax_loop.specs.declared.answer.Answer.TheVariants as answer
 
@@ -23,7 +24,7 @@ IsDriven settings gateway driver = (setup : Setup) (writes : Writing) → AreSet
 abbrev pub rows_of : List PageValue → List Elements
 rows_of pages = flat_map (λ page. page.rows) pages
 
--- this status and text are those of an answer
+-- this text is that of an answer
 abbrev pub IsAnswerText : Answer → List ℕ → Type 0
 IsAnswerText (answer.Reported told) text = (lines : List (List ℕ)) × TellRows lines (rows_of told.confirmed.items)
     × (text ≡ (string_bytes told.line ++ 10 ∷ []) ++ text_of_lines lines)
@@ -31,8 +32,9 @@ IsAnswerText answer.Unreported text = text ≡ []
 IsAnswerText (answer.Fault line) text = text ≡ line.items
 IsAnswerText answer.NoMemory text = text ≡ codes "fault memory\n"
 
-abbrev pub status_of_answer : Answer → ℕ
-status_of_answer (answer.Reported told) = job_status told.outcome
-status_of_answer answer.Unreported = 5
-status_of_answer (answer.Fault line) = 1
-status_of_answer answer.NoMemory = 3
+-- how a run with an answer ends
+abbrev pub ending_of_answer : Answer → Ending
+ending_of_answer (answer.Reported told) = endings.Reported told.outcome
+ending_of_answer answer.Unreported = endings.Unreported
+ending_of_answer (answer.Fault line) = endings.Fault
+ending_of_answer answer.NoMemory = endings.NoMemory

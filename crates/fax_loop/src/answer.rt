@@ -1,26 +1,27 @@
 //! What is answered to an input.
-ghost use Rattle.std.specs.Prelude.{ℕ, ◌≡◌, List, false, OnOk, IfSome};
+ghost use Rattle.std.specs.Prelude.{ℕ, ◌≡◌, List, false, OnOk, IfOk};
 ghost use Rattle.std.specs.Io.KnownBytes.{Appends};
 ghost use Rattle.fax_gateway.specs.declared.settings.Settings.{Settings as GatewaySettings};
 ghost use Rattle.fax_gateway.specs.Setups.{AreAllowed};
 ghost use Rattle.fax_command.specs.RowLines.{TellRows, text_of_lines};
-ghost use Rattle.fax_command.specs.Statuses.{status_code};
 ghost use Rattle.fax_command.specs.Streams.{failed_after_write};
-ghost use Rattle.fax_loop.specs.Answers.{Answers, IsFirstReport, MeansPage};
-ghost use Rattle.fax_loop.specs.Kept.{IsAnswerText, rows_of, status_of_answer};
+ghost use Rattle.fax_loop.specs.Answers.{EndsSo, IsFirstReport, MeansPage};
+ghost use Rattle.fax_loop.specs.Kept.{IsAnswerText, ending_of_answer, rows_of};
 
+use crate::ending::Ending;
 use crate::exchange::{Ended, send_page};
 use crate::loop_error::LoopError;
 use fax_bits::NoMemory;
 use fax_command::{
-    InputFault, MEMORY_LINE, Output, PageOptions, Sink, Status, WriteFault, page_of_hex,
-    write_rows, write_text,
+    InputFault, MEMORY_LINE, Output, PageOptions, Sink, WriteFault, page_of_hex, write_rows,
+    write_text,
 };
 use fax_gateway::Settings;
 use fax_jobs::Outcome;
 use fax_pagestore::{Coding, Format, PackedRows, Page};
 use fax_runcodes::Width;
 use std::alloc::Global;
+use std::io;
 use std::net::Net;
 
 /// How the page is given: in rows of 1,728 elements, of the standard resolution, in one-dimensional lines.
@@ -74,35 +75,35 @@ impl Answer {
         }
     }
 
-    /// The exit status.
-    pub fn status(&self) -> Status
-        ensures { status_code result ≡ status_of_answer self.now }
+    /// How a run that writes it ends.
+    pub fn ending(&self) -> Ending
+        ensures { result ≡ ending_of_answer self.now }
     {
         match self {
-            Answer::Reported(reported) if reported.outcome == Outcome::Delivered => Status::Done,
-            Answer::Reported(_) | Answer::Unreported => Status::Undelivered,
-            Answer::Fault(_) => Status::Fault,
-            Answer::NoMemory => Status::NoMemory,
+            Answer::Reported(reported) => Ending::Reported(reported.outcome),
+            Answer::Unreported => Ending::Unreported,
+            Answer::Fault(_) => Ending::Fault,
+            Answer::NoMemory => Ending::NoMemory,
         }
     }
 }
 
-/// The answer to an input, with these settings. `None`: a socket could not be made.
+/// The answer to an input, with these settings. An `Err`: a socket could not be made.
 pub(crate) fn answer_to<R: Net>(
     net: &R,
     alloc: Global,
     input: Vec<u8>,
     settings: Settings,
-) -> Option<Answer>
+) -> io::Result<Answer>
     requires { AreAllowed settings }
-    ensures { IfSome result (λ answer. (text : List ℕ) → IsAnswerText answer text → Answers settings input.items (status_of_answer answer) text) }
+    ensures { IfOk result (λ answer. (text : List ℕ) → IsAnswerText answer text → EndsSo settings input.items (ending_of_answer answer) text) }
 {
     match page_of_hex(alloc, input, GIVEN) {
         Ok(page) => answer_to_page(net, alloc, page, settings),
-        Err(InputFault::NoMemory) => Some(Answer::NoMemory),
+        Err(InputFault::NoMemory) => Ok(Answer::NoMemory),
         Err(fault) => match fault.line(alloc) {
-            Ok(line) => Some(Answer::Fault(line)),
-            Err(NoMemory) => Some(Answer::NoMemory),
+            Ok(line) => Ok(Answer::Fault(line)),
+            Err(NoMemory) => Ok(Answer::NoMemory),
         },
     }
 }
@@ -113,20 +114,20 @@ fn answer_to_page<R: Net>(
     alloc: Global,
     page: Page<PackedRows>,
     settings: Settings,
-) -> Option<Answer>
+) -> io::Result<Answer>
     requires { AreAllowed settings }
-    ensures { IfSome result (λ answer. (input text : List ℕ) → MeansPage input → IsAnswerText answer text → Answers settings input (status_of_answer answer) text) }
+    ensures { IfOk result (λ answer. (input text : List ℕ) → MeansPage input → IsAnswerText answer text → EndsSo settings input (ending_of_answer answer) text) }
 {
     match send_page(net, alloc, page, settings) {
-        Ok(ended) => Some(answer_of(alloc, ended)),
-        Err(LoopError::NoMemory) => Some(Answer::NoMemory),
-        Err(LoopError::Socket) => None,
+        Ok(ended) => Ok(answer_of(alloc, ended)),
+        Err(LoopError::NoMemory) => Ok(Answer::NoMemory),
+        Err(LoopError::Socket(error)) => Err(error),
     }
 }
 
 /// The answer where a call ended so.
 fn answer_of(alloc: Global, ended: Ended) -> Answer
-    ensures { (set : GatewaySettings) (input text : List ℕ) → IsFirstReport set ended.report → MeansPage input → IsAnswerText result text → Answers set input (status_of_answer result) text }
+    ensures { (set : GatewaySettings) (input text : List ℕ) → IsFirstReport set ended.report → MeansPage input → IsAnswerText result text → EndsSo set input (ending_of_answer result) text }
 {
     let Some(report) = ended.report else {
         return Answer::Unreported;

@@ -5,6 +5,7 @@
 mod answer;
 mod answering_machine;
 mod calling_machine;
+mod ending;
 mod exchange;
 mod link;
 mod loop_error;
@@ -12,5 +13,6 @@ mod run;
 mod socket;
 mod udp_wire;
 
-pub use run::run_loop;
+pub use ending::Ending;
+pub use run::{play_loop, run_loop};
 pub use udp_wire::UdpWire;

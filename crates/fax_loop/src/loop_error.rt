@@ -4,10 +4,10 @@ use fax_gateway::RingFault;
 use std::io;
 
 /// Why a call is not played to its end.
-#[derive(Clone, Copy, PartialEq, Eq, Debug)]
+#[derive(Clone, Copy, Debug)]
 pub(crate) enum LoopError {
     /// A socket could not be made.
-    Socket,
+    Socket(io::Error),
     NoMemory,
 }
 
@@ -38,9 +38,9 @@ impl From<io::Error> for LoopError {
     ghost use Rattle.std.specs.Prelude.{◌≡◌};
     ghost use Rattle.fax_loop.specs.declared.loop_error.LoopError.TheVariants as loop_errors;
 
-    ghost from_gives = { λ _ e. e ≡ loop_errors.Socket };
+    ghost from_gives = { λ error e. e ≡ loop_errors.Socket error };
 
-    fn from(_: io::Error) -> Self {
-        LoopError::Socket
+    fn from(error: io::Error) -> Self {
+        LoopError::Socket(error)
     }
 }

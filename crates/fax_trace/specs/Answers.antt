@@ -27,7 +27,7 @@ fault_lines (Err (Line number)) = (codes "fault line " ++ decimal number) ∷ []
 fault_lines (Err NoMemory) = codes "fault memory" ∷ []
 
 -- It ends behind so many lines, before the others: where there are none; at the first that tells no event, numbered from 1;
--- or where memory is wanted and refused.
+-- or where memory is wanted and refused, for the first of them or, where there are none, at the end.
 abbrev pub Ends : (behind : ℕ) → (others : List (List ℕ)) → Outcome → Type 0
 Ends behind others (Ok done) = others ≡ []
 Ends behind others (Err (Line number)) =
@@ -54,3 +54,9 @@ pub record Answers (settings : Settings) (input : List ℕ) (status : ℕ) (text
   pub ends : Ends (length before) others outcome
   pub status_is : status ≡ status_of outcome
   pub told : (setup : Setup) (writes : Writing) → AreSet setup settings → IsWriting writes → AreTold setup writes events (fault_lines outcome) text
+
+-- The same, where just so many lines of the input were played. So what stands before the line of a fault, or of want of
+-- memory, is what is told of these, and each of them is told whole.
+pub record AnswersBehind (settings : Settings) (input : List ℕ) (played status : ℕ) (text : List ℕ) : Type 0 where
+  pub answers : Answers settings input status text
+  pub so_many : length answers.before ≡ played

@@ -29,9 +29,10 @@ pub record PlaysOn (setup : Setup) (writes : Writing) (old : Played) (event : Sc
 abbrev pub IsNew : Player → Type 0
 IsNew player = (setup : Setup) (writes : Writing) → AreSet setup player.gateway.settings → IsPlaying setup writes nothing_played player
 
--- the lines of a script were played up to where playing ended, and told in a text
-pub record HasPlayed (settings : Settings) (script : List ℕ) (outcome : Outcome) (text : List ℕ) : Type 0 where
+-- so many lines of a script were played, up to where playing ended, and told in a text
+pub record HasPlayed (settings : Settings) (script : List ℕ) (outcome : Outcome) (played : ℕ) (text : List ℕ) : Type 0 where
   pub before : List (List ℕ)
+  pub so_many : length before ≡ played
   pub others : List (List ℕ)
   pub lines_are : lines_of script ≡ before ++ others
   pub events : List ScriptEvent

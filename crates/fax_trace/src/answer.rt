@@ -1,11 +1,12 @@
 //! What is answered to a script.
 ghost use Rattle.std.specs.Prelude.{ℕ, ◌≡◌, ◌++◌, false, List, Err, OnOk, OnErr};
 ghost use Rattle.std.specs.Io.KnownBytes.{Appends};
+ghost use Rattle.fax_gateway.specs.declared.settings.Settings.{Settings as GatewaySettings};
 ghost use Rattle.fax_gateway.specs.Setups.{AreAllowed};
 ghost use Rattle.fax_command.specs.Statuses.{status_code};
 ghost use Rattle.fax_command.specs.Streams.{failed_after_write};
 ghost use Rattle.fax_command.specs.RowLines.{text_of_lines};
-ghost use Rattle.fax_trace.specs.Answers.{Answers, fault_lines};
+ghost use Rattle.fax_trace.specs.Answers.{AnswersBehind, fault_lines};
 ghost use Rattle.fax_trace.specs.Kept.{HasPlayed, IsNew, status_of_answer, text_of_answer};
 
 use crate::event::event_of_line;
@@ -19,8 +20,10 @@ use std::alloc::Global;
 
 /// What a run answers: the lines of what was played, with the line of the fault that ended it.
 #[derive(Drop)]
-pub(crate) enum Answer {
+pub enum Answer {
+    /// The whole script was played.
     Done(Vec<u8>),
+    /// A line tells no event. The line of the fault is the last one.
     Fault(Vec<u8>),
     /// Memory was wanted. The line that tells it is not among these: it takes none.
     NoMemory(Vec<u8>),
@@ -54,16 +57,33 @@ impl Answer {
     }
 }
 
-/// The answer to a script.
-pub(crate) fn answer_to(alloc: Global, script: &[u8], settings: Settings) -> Answer
+/// The answer to a script, and how many of its lines were played.
+#[derive(Drop)]
+pub(crate) struct PlayedScript {
+    pub answer: Answer,
+    pub lines: usize,
+}
+
+/// Plays a script.
+pub(crate) fn play(alloc: Global, script: &[u8], settings: Settings) -> PlayedScript
     requires { AreAllowed settings }
-    ensures { Answers settings script.now (status_of_answer result) (text_of_answer result) }
+    ensures { AnswersBehind settings script.now result.lines (status_of_answer result.answer) (text_of_answer result.answer) }
 {
+    let mut lines = 0;
     let Ok(mut player) = Player::new(alloc, settings) else {
-        return Answer::NoMemory(Vec::new(alloc));
+        let answer = Answer::NoMemory(Vec::new(alloc));
+        return PlayedScript { answer, lines };
     };
-    let outcome = play_lines(alloc, &mut player, script);
-    let mut text = player.into_text();
+    let outcome = play_lines(alloc, &mut player, script, &mut lines);
+    let answer = answer_of(alloc, outcome, player.into_text());
+    PlayedScript { answer, lines }
+}
+
+/// The answer where playing ended so, behind this text.
+fn answer_of(alloc: Global, outcome: Result<(), ScriptFault>, mut text: Vec<u8>) -> Answer
+    ensures { (set : GatewaySettings) (script : List ℕ) (lines : ℕ) → HasPlayed set script outcome lines text.items
+        → AnswersBehind set script lines (status_of_answer result) (text_of_answer result) }
+{
     match outcome {
         Ok(()) => Answer::Done(text),
         Err(ScriptFault::NoMemory) => Answer::NoMemory(text),
@@ -74,26 +94,31 @@ pub(crate) fn answer_to(alloc: Global, script: &[u8], settings: Settings) -> Ans
     }
 }
 
-/// Plays the lines of a script, up to the first that has a fault.
-fn play_lines(alloc: Global, player: &mut Player, script: &[u8]) -> Result<(), ScriptFault>
-    requires { IsNew player.old }
-    ensures { HasPlayed player.old.gateway.settings script.now result player.new.text.items }
+/// Plays the lines of a script, up to the first that has a fault, and counts those that were played.
+fn play_lines(
+    alloc: Global,
+    player: &mut Player,
+    script: &[u8],
+    lines: &mut usize,
+) -> Result<(), ScriptFault>
+    requires new { IsNew player.old }
+    requires none { lines.old ≡ 0 }
+    ensures { HasPlayed player.old.gateway.settings script.now result lines.new player.new.text.items }
 {
     let mut rest = script;
-    let mut number = 0;
     while let Some((line, behind)) = first_line(rest) {
-        number += 1;
         let Some(event) = event_of_line(alloc, line)? else {
-            return Err(ScriptFault::Line(number));
+            return Err(ScriptFault::Line(*lines + 1));
         };
         player.play(event)?;
+        *lines += 1;
         rest = behind;
     }
     Ok(())
 }
 
 /// Adds the line that tells a fault at the line of this number. An `Err` leaves the text as it was.
-fn push_fault(alloc: Global, text: &mut Vec<u8>, number: usize) -> Result<(), NoMemory>
+pub fn push_fault(alloc: Global, text: &mut Vec<u8>, number: usize) -> Result<(), NoMemory>
     ensures ok { OnOk result (text.new.items ≡ text.old.items ++ text_of_lines (fault_lines (Err (ScriptFault.Line number)))) }
     ensures err { OnErr result (text.new.items ≡ text.old.items) }
 {

@@ -9,7 +9,7 @@ use std::alloc::Global;
 
 /// What comes to a gateway.
 #[derive(Drop)]
-pub(crate) enum ScriptEvent {
+pub enum ScriptEvent {
     /// `R`: it rings.
     Ring,
     /// `A` and hex text: the octets of a datagram that came on the calling leg.
@@ -21,7 +21,7 @@ pub(crate) enum ScriptEvent {
 }
 
 /// The event that a line tells.
-pub(crate) fn event_of_line(alloc: Global, line: &[u8]) -> Result<Option<ScriptEvent>, NoMemory>
+pub fn event_of_line(alloc: Global, line: &[u8]) -> Result<Option<ScriptEvent>, NoMemory>
     ensures some { IfOk result (λ found. IfSome found (λ event. TellsEvent line.now event)) }
     ensures none { IfOk result (λ found. IfNone found ((event : ScriptEvent) → TellsEvent line.now event → ⊥)) }
 {

@@ -2,10 +2,15 @@
 #![tactic(auto)]
 
 mod answer;
+mod ending;
 mod event;
 mod player;
 mod run;
 mod script_fault;
 mod told;
 
-pub use run::run_trace;
+pub use answer::{Answer, push_fault};
+pub use ending::Ending;
+pub use event::{ScriptEvent, event_of_line};
+pub use run::{play_script, run_trace};
+pub use script_fault::ScriptFault;

@@ -3,9 +3,10 @@ use fax_bits::NoMemory;
 
 /// Why the playing of a script ends before its end.
 #[derive(Clone, Copy, PartialEq, Eq, Debug)]
-pub(crate) enum ScriptFault {
+pub enum ScriptFault {
     /// The line of this number, counted from 1, tells no event.
     Line(usize),
+    /// Memory was wanted and refused.
     NoMemory,
 }
 

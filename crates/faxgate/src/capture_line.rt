@@ -37,18 +37,22 @@ const ABOUT: &str =
     "Read a capture made at a gateway (pcap or pcapng), and print the script of its call for faxgate trace: the ring, the datagrams of both machines at their ticks, and ticks until 40 s behind the last";
 
 const LINES_AND_STATUSES: &str = "\
+Reads:
+  A capture of at most 16,777,216 octets, on the standard input.
+
 Prints:
   R       it rings
   T MS    a tick each 40 ms: T 0 is the moment of the first datagram that one of the two sent or was sent
   A HEX   a datagram that the caller sent, behind the tick at or before it
   B HEX   a datagram that the called machine sent
+Or one line of what is wrong.
 
 Statuses:
   0  the script was printed
   1  the capture has none, and one line tells why: fault 1 NoCapture, 2 Cut, 3 Damaged, 4 NoAddress or 5 TooLong
   2  the command line was refused
   3  memory was wanted and refused: fault memory
-  4  a read or a write failed, or the capture has more than 16,777,216 octets";
+  4  a read or a write failed, or the capture is too long: the standard error tells which";
 
 /// The addresses that were given to `faxgate capture`.
 pub fn machines_of(alloc: Global, capture: &ArgMatches<'_>) -> Result<Machines, Error> {

@@ -1,5 +1,7 @@
 //! The command line.
 use crate::capture_line::{Machines, capture_command, machines_of};
+use crate::explain_line::{ExplainOptions, explain_command, explain_options_of};
+use crate::help_texts;
 use crate::terminal_line::{
     receive_command, receive_options_of, send_command, send_files_of, send_options_of,
 };
@@ -20,6 +22,8 @@ pub enum Request<'a> {
     Page(PageOptions),
     /// What a gateway with these settings answers to a script.
     Trace(Settings),
+    /// What happened in the call of a script.
+    Explain(ExplainOptions<'a>),
     /// The script of a captured call, between these machines.
     Capture(Machines),
     /// A page that goes through a gateway with these settings, over sockets.
@@ -38,6 +42,9 @@ pub fn request_of<'a, S: AsStr>(alloc: Global, words: &'a [S]) -> Result<Request
     let matches = faxgate_command(alloc)?.try_get_matches_from(words)?;
     if let Some(page) = matches.subcommand_matches("page") {
         return Ok(Request::Page(options_of(page)));
+    }
+    if let Some(explain) = matches.subcommand_matches("explain") {
+        return Ok(Request::Explain(explain_options_of(explain)));
     }
     if let Some(capture) = matches.subcommand_matches("capture") {
         return Ok(Request::Capture(machines_of(alloc, capture)?));
@@ -136,6 +143,7 @@ fn faxgate_command<'a>(alloc: Global) -> Result<Command<'a>, AllocError> {
         .subcommand_required(true)
         .subcommand(page_command(alloc)?)?
         .subcommand(trace_command(alloc)?)?
+        .subcommand(explain_command(alloc)?)?
         .subcommand(capture_command(alloc)?)?
         .subcommand(loop_command(alloc)?)?
         .subcommand(serve_command(alloc)?)?
@@ -149,6 +157,7 @@ fn trace_command<'a>(alloc: Global) -> Result<Command<'a>, AllocError> {
         .about(
             "Play a script on a new gateway, and print what it answers. Lines of a script: R (it rings), A HEX and B HEX (a datagram came on the calling or on the called leg), T MS (time goes on to a moment)",
         )
+        .after_help(help_texts::TRACE)
         .arg(redundancy_option(alloc))?
         .arg(preamble_option(alloc))
 }
@@ -159,6 +168,7 @@ fn loop_command<'a>(alloc: Global) -> Result<Command<'a>, AllocError> {
         .about(
             "Send a page from one machine through a gateway to another, over UDP on this host: read its octets as hex text, and print how the job ended and the rows that were confirmed",
         )
+        .after_help(help_texts::LOOP)
         .arg(redundancy_option(alloc))?
         .arg(preamble_option(alloc))
 }
@@ -177,6 +187,7 @@ fn serve_command<'a>(alloc: Global) -> Result<Command<'a>, AllocError> {
         .about(
             "Serve the lines of a configuration in real time, over UDP. Words come on the control socket, or on standard input: ring LINE [TAG], peer LINE calling|called ADDRESS, report LINE, status, metrics, events, stop. Prints what happens as lines of JSON where there is no control socket",
         )
+        .after_help(help_texts::SERVE)
         .arg(config)
 }
 
@@ -252,6 +263,7 @@ fn page_command<'a>(alloc: Global) -> Result<Command<'a>, AllocError> {
         .about(
             "Read the octets of a page as hex text, and print each row as a line of run lengths, white first",
         )
+        .after_help(help_texts::PAGE)
         .arg(width_option(alloc))?
         .arg(coding_option(alloc))?
         .arg(fine)?

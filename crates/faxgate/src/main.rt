@@ -1,25 +1,34 @@
 //! `faxgate page` prints the rows of a page (ITU-T T.4), or the page of rows; `faxgate trace` prints what a gateway
-//! answers to a script of what came to it; `faxgate capture` prints the script of a captured call; `faxgate loop` sends a
-//! page through a gateway, over sockets of this host; `faxgate serve` serves the lines of a configuration; `faxgate send`
-//! and `faxgate receive` send and receive pages as a machine does.
+//! answers to a script of what came to it, and `faxgate explain` what happened in it; `faxgate capture` prints the script of
+//! a captured call; `faxgate loop` sends a page through a gateway, over sockets of this host; `faxgate serve` serves the lines
+//! of a configuration; `faxgate send` and `faxgate receive` send and receive pages as a machine does.
 #![tactic(auto)]
 
 ghost use Rattle.fax_gateway.specs.Setups.{AreAllowed};
 
 mod capture_line;
 mod command_line;
+mod explain_line;
+mod explaining;
+mod failures;
+mod help_texts;
+mod pictures;
 mod serving;
 mod terminal_line;
 mod terminals;
 #[cfg(test)]
 mod tests;
 
+use capture_line::Machines;
 use clap::error::ErrorKind;
 use command_line::{LEAST_PREAMBLE_MS, MOST_PREAMBLE_MS, MOST_REDUNDANCY, Request, request_of};
+use explain_line::ExplainOptions;
+use explaining::explain;
+use failures::{tell_loop, tell_streams, tell_unprinted};
 use fax_capture::run_capture;
 use fax_command::{Status, StdSink, StdSource, run_page};
 use fax_gateway::Settings;
-use fax_loop::run_loop;
+use fax_loop::play_loop;
 use fax_machine::{ReceiveOptions, SendOptions};
 use fax_trace::run_trace;
 use serving::serve_file;
@@ -50,27 +59,33 @@ fn run_words<R: Print + Eprint + Input + Env + AllocGlobal, N: Net + Files + Clo
     let mut source = StdSource::new(rt.reader());
     let mut sink = StdSink::new(io::writer(rt));
     match request {
-        Request::Page(options) => run_page(rt.alloc(), &mut source, &mut sink, options),
-        Request::Trace(settings) => run_trace(
-            rt.alloc(),
-            &mut source,
-            &mut sink,
-            allowed(settings),
-        ),
-        Request::Capture(machines) => run_capture(
-            rt.alloc(),
-            &mut source,
-            &mut sink,
-            &machines.caller,
-            &machines.called,
-        ),
-        Request::Loop(settings) => run_loop(
-            system,
-            rt.alloc(),
-            &mut source,
-            &mut sink,
-            allowed(settings),
-        ),
+        Request::Page(options) => {
+            let status = run_page(rt.alloc(), &mut source, &mut sink, options);
+            tell_streams(rt, status, &source, &sink)
+        }
+        Request::Trace(settings) => {
+            let settings = allowed(settings);
+            let status = run_trace(rt.alloc(), &mut source, &mut sink, settings);
+            tell_streams(rt, status, &source, &sink)
+        }
+        Request::Explain(options) => {
+            let options = ExplainOptions {
+                settings: allowed(options.settings),
+                ..options
+            };
+            let status = explain(rt, system, &mut source, &mut sink, options);
+            tell_streams(rt, status, &source, &sink)
+        }
+        Request::Capture(machines) => {
+            let Machines { caller, called } = machines;
+            let status = run_capture(rt.alloc(), &mut source, &mut sink, &caller, &called);
+            tell_streams(rt, status, &source, &sink)
+        }
+        Request::Loop(settings) => {
+            let settings = allowed(settings);
+            let ending = play_loop(system, rt.alloc(), &mut source, &mut sink, settings);
+            tell_loop(rt, ending, &source, &sink)
+        }
         Request::Serve(path) => serve_file(rt, system, path).code(),
         Request::Send(options, files) => send(
             rt,
@@ -120,7 +135,8 @@ fn tell_refusal<R: Print + Eprint>(rt: &R, error: &clap::Error) -> Status {
     match error.print(rt) {
         Ok(()) if error.use_stderr() => Status::Usage,
         Ok(()) => Status::Done,
-        Err(_) => Status::Stream,
+        Err(_) if error.use_stderr() => Status::Stream,
+        Err(failure) => tell_unprinted(rt, failure),
     }
 }
 
@@ -136,9 +152,9 @@ fn tell_unread_words<R: Print + Eprint>(rt: &R, error: io::Error) -> Status {
 }
 
 /// Prints that memory was wanted and refused.
-fn tell_no_memory<R: Print>(rt: &R) -> Status {
+fn tell_no_memory<R: Print + Eprint>(rt: &R) -> Status {
     match rt.print("fault memory\n") {
         Ok(()) => Status::NoMemory,
-        Err(_) => Status::Stream,
+        Err(failure) => tell_unprinted(rt, failure),
     }
 }

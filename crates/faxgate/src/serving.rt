@@ -1,4 +1,5 @@
 //! `faxgate serve`.
+use crate::failures::tell_unprinted;
 use fax_command::Status;
 use fax_config::{Config, ConfigFault, Misfit, read_config};
 use fax_serve::{ServeFault, run_serve};
@@ -36,11 +37,8 @@ fn serve_config<R: Print + Eprint + Input + AllocGlobal, N: Net + Files + Clock>
     if let Some(lacking) = lacking(config) {
         return tell(rt, path, lacking, Status::Usage);
     }
-    if rt
-        .print("pages are kept in memory alone: no spool is set\n")
-        .is_err()
-    {
-        return Status::Stream;
+    if let Err(error) = rt.print("pages are kept in memory alone: no spool is set\n") {
+        return tell_unprinted(rt, error);
     }
     match run_serve(system, rt.alloc(), config, rt.reader(), io::writer(rt)) {
         Ok(()) => Status::Done,

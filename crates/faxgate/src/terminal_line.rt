@@ -35,7 +35,7 @@ pub fn send_command<'a>(alloc: Global) -> Result<Command<'a>, AllocError> {
         .about(
             "Call a T.38 machine over UDP and send it the page in each file, as a machine does, and print how the call ended: job, call, width, resolution, pages, pages delivered, outcome",
         )
-        .after_help(SEND_STATUSES)
+        .after_help(SEND_LINES_AND_STATUSES)
         .arg(to)?
         .arg(on)?
         .arg(width_option(alloc))?
@@ -70,7 +70,7 @@ pub fn receive_command<'a>(alloc: Global) -> Result<Command<'a>, AllocError> {
         .about(
             "Answer calls of T.38 machines over UDP, one after another, as a machine does, and write each page that is confirmed as a picture (PBM), into a file that was not there",
         )
-        .after_help(RECEIVE_STATUSES)
+        .after_help(RECEIVE_LINES_AND_STATUSES)
         .arg(on)?
         .arg(pages)?
         .arg(calls)?
@@ -79,21 +79,37 @@ pub fn receive_command<'a>(alloc: Global) -> Result<Command<'a>, AllocError> {
         .arg(repeat_option(alloc))
 }
 
-const SEND_STATUSES: &str = "\
+const SEND_LINES_AND_STATUSES: &str = "\
+Reads:
+  Each file, whole, before the call: at most 16,777,216 octets, 999 files.
+
+Prints:
+  job CALL WIDTH standard|fine PAGES DELIVERED OUTCOME
+     the call has ended: so many pages, so many of them delivered; faxgate trace --help has the outcomes
+Where the standard error is a terminal, it has a line for each page that was delivered.
+
 Statuses:
   0  all pages were delivered
   1  a file has no page, or there are more than 999
   2  the command line was refused
   3  memory was wanted and refused
   4  a file could not be read, an address or a socket failed, or the output
-  5  the call ended, and not all pages were delivered";
+  5  the call ended, and not all pages were delivered
+The standard error tells each but 0 in one line.";
 
-const RECEIVE_STATUSES: &str = "\
+const RECEIVE_LINES_AND_STATUSES: &str = "\
+Reads:
+  Nothing but what comes on the line.
+
+Prints:
+  Nothing. Each page that is confirmed becomes a file. Where the standard error is a terminal, it has a line for each.
+
 Statuses:
   0  so many calls were answered, whatever they brought
   2  the command line was refused
   3  memory was wanted and refused
-  4  an address or a socket failed, or a page could not be written: it was not confirmed";
+  4  an address or a socket failed, or a page could not be written: it was not confirmed
+The standard error tells each but 0 in one line.";
 
 /// The option of repeats.
 fn repeat_option<'a>(alloc: Global) -> Arg<'a> {

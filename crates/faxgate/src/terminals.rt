@@ -1,6 +1,7 @@
 //! `faxgate send` and `faxgate receive`.
 ghost use Rattle.fax_gateway.specs.Setups.{AreAllowed};
 
+use crate::failures::tell_unprinted;
 use fax_command::Status;
 use fax_jobs::{Outcome, Report};
 use fax_machine::{ReceiveOptions, RunFault, SendOptions, Watch, run_receive, run_send};
@@ -40,8 +41,8 @@ pub fn receive<R: Eprint + AllocGlobal, N: Net + Clock + Files>(
 
 /// Prints how the call of this address ended. Where not all pages were delivered, the standard error has a line too.
 fn tell_report<R: Print + Eprint>(rt: &R, to: &str, report: Report) -> Status {
-    if rt.println(report).is_err() {
-        return Status::Stream;
+    if let Err(error) = rt.println(report) {
+        return tell_unprinted(rt, error);
     }
     if report.outcome == Outcome::Delivered {
         return Status::Done;

@@ -2,10 +2,16 @@
 //! ends.
 mod desk;
 
+use crate::failures::tell_loop;
 use crate::run_words;
 use desk::Desk;
-use std::fs;
+use fax_command::{StdSink, StdSource};
+use fax_jobs::Outcome;
+use fax_loop::Ending;
+use std::io::Input;
+use std::process::Abort;
 use std::test::Fail;
+use std::{fs, io};
 
 /// A page of one white row of 1,728 elements.
 const PAGE: &str = "0014d9a8008008008008008008";
@@ -128,13 +134,6 @@ const ANSWERS: &[(&[&str], &str, u8, &str)] = &[
     ),
     (&["faxgate", "--version"], "", 0, "faxgate 0.1.0\n"),
     (&["faxgate", "--help"], "", 0, HELP),
-    (&["faxgate", "page", "--help"], "", 0, PAGE_HELP),
-    (&["faxgate", "trace", "-h"], "", 0, TRACE_HELP),
-    (&["faxgate", "capture", "-h"], "", 0, CAPTURE_HELP),
-    (&["faxgate", "help", "loop"], "", 0, LOOP_HELP),
-    (&["faxgate", "serve", "--help"], "", 0, SERVE_HELP),
-    (&["faxgate", "send", "--help"], "", 0, SEND_HELP),
-    (&["faxgate", "receive", "--help"], "", 0, RECEIVE_HELP),
 ];
 
 const HELP: &str = "\
@@ -145,6 +144,7 @@ Usage: faxgate <COMMAND>
 Commands:
   page     Read the octets of a page as hex text, and print each row as a line of run lengths, white first
   trace    Play a script on a new gateway, and print what it answers. Lines of a script: R (it rings), A HEX and B HEX (a datagram came on the calling or on the called leg), T MS (time goes on to a moment)
+  explain  Read a script as faxgate trace does, and print its call as a ladder: a line for each thing that happened, with its moment in milliseconds, from whom to whom, and what it means in T.30's terms
   capture  Read a capture made at a gateway (pcap or pcapng), and print the script of its call for faxgate trace: the ring, the datagrams of both machines at their ticks, and ticks until 40 s behind the last
   loop     Send a page from one machine through a gateway to another, over UDP on this host: read its octets as hex text, and print how the job ended and the rows that were confirmed
   serve    Serve the lines of a configuration in real time, over UDP. Words come on the control socket, or on standard input: ring LINE [TAG], peer LINE calling|called ADDRESS, report LINE, status, metrics, events, stop. Prints what happens as lines of JSON where there is no control socket
@@ -157,132 +157,12 @@ Options:
   -V, --version  Print version
 ";
 
-const PAGE_HELP: &str = "\
-Read the octets of a page as hex text, and print each row as a line of run lengths, white first
-
-Usage: faxgate page [OPTIONS]
-
-Options:
-      --width <ELEMENTS>  The elements of each row [default: 1728] [possible values: 1728, 2048, 2432]
-      --coding <CODING>   One-dimensional lines (mh), or two-dimensional ones among them (mr) [default: mh] [possible values: mh, mr]
-      --fine              The fine resolution: with --back and mr, one line of 4 is one-dimensional, in place of one of 2
-      --least <BITS>      With --back, the least bits of a line, its fill and EOL included [default: 0]
-      --back              Read lines of run lengths, and print the octets of their page as hex text
-      --pbm               Write the page as a picture, a PBM
-  -h, --help              Print help
-";
-
-const TRACE_HELP: &str = "\
-Play a script on a new gateway, and print what it answers. Lines of a script: R (it rings), A HEX and B HEX (a datagram came on the calling or on the called leg), T MS (time goes on to a moment)
-
-Usage: faxgate trace [OPTIONS]
-
-Options:
-      --redundancy <PACKETS>  How many of the packets before its own each datagram has, from 0 to 8 [default: 3]
-      --preamble <MS>         How long the packet behind a preamble waits, from 40 to 2000 milliseconds: 1000 where a machine stands behind a media gateway [default: 40]
-  -h, --help                  Print help
-";
-
-const CAPTURE_HELP: &str = "\
-Read a capture made at a gateway (pcap or pcapng), and print the script of its call for faxgate trace: the ring, the datagrams of both machines at their ticks, and ticks until 40 s behind the last
-
-Usage: faxgate capture --caller <ADDRESS> --called <ADDRESS>
-
-Options:
-      --caller <ADDRESS>  Where the calling machine sends from: 192.0.2.10, 192.0.2.10:6000, 2001:db8::1 or [2001:db8::1]:6000
-      --called <ADDRESS>  Where the called machine sends from
-  -h, --help              Print help
-
-Prints:
-  R       it rings
-  T MS    a tick each 40 ms: T 0 is the moment of the first datagram that one of the two sent or was sent
-  A HEX   a datagram that the caller sent, behind the tick at or before it
-  B HEX   a datagram that the called machine sent
-
-Statuses:
-  0  the script was printed
-  1  the capture has none, and one line tells why: fault 1 NoCapture, 2 Cut, 3 Damaged, 4 NoAddress or 5 TooLong
-  2  the command line was refused
-  3  memory was wanted and refused: fault memory
-  4  a read or a write failed, or the capture has more than 16,777,216 octets
-";
-
-const SERVE_HELP: &str = "\
-Serve the lines of a configuration in real time, over UDP. Words come on the control socket, or on standard input: ring LINE [TAG], peer LINE calling|called ADDRESS, report LINE, status, metrics, events, stop. Prints what happens as lines of JSON where there is no control socket
-
-Usage: faxgate serve --config <FILE>
-
-Options:
-      --config <FILE>  The configuration, a TOML document: the lines, and the control socket if there is one
-  -h, --help           Print help
-";
-
-const SEND_HELP: &str = "\
-Call a T.38 machine over UDP and send it the page in each file, as a machine does, and print how the call ended: job, call, width, resolution, pages, pages delivered, outcome
-
-Usage: faxgate send [OPTIONS] --to <ADDRESS> <FILE>...
-
-Arguments:
-  <FILE>...  A page: a picture (PBM) of 1728, 2048 or 2432 elements a row, or the octets of a page as hex text, of that width and coding
-
-Options:
-      --to <ADDRESS>          The machine that is called, as 192.0.2.10:6000
-      --on <ADDRESS>          The address from which it is called [default: any]
-      --width <ELEMENTS>      The elements of each row [default: 1728] [possible values: 1728, 2048, 2432]
-      --coding <CODING>       One-dimensional lines (mh), or two-dimensional ones among them (mr) [default: mh] [possible values: mh, mr]
-      --fine                  The fine resolution, of pictures too
-      --redundancy <PACKETS>  How many of the packets before its own each datagram has, from 0 to 8 [default: 3]
-      --preamble <MS>         How long the packet behind a preamble waits, from 40 to 2000 milliseconds: 1000 where a machine stands behind a media gateway [default: 40]
-      --repeat <POLICY>       How often the last datagram is sent again while no newer one is: six times within 1.3 s (full), once (last), or never (none) [default: full] [possible values: full, last, none]
-  -h, --help                  Print help
-
-Statuses:
-  0  all pages were delivered
-  1  a file has no page, or there are more than 999
-  2  the command line was refused
-  3  memory was wanted and refused
-  4  a file could not be read, an address or a socket failed, or the output
-  5  the call ended, and not all pages were delivered
-";
-
-const RECEIVE_HELP: &str = "\
-Answer calls of T.38 machines over UDP, one after another, as a machine does, and write each page that is confirmed as a picture (PBM), into a file that was not there
-
-Usage: faxgate receive [OPTIONS] --on <ADDRESS>
-
-Options:
-      --on <ADDRESS>          The address at which calls come, as 0.0.0.0:6000
-      --pages <PREFIX>        How the names of pictures begin: PREFIX-CALL-PAGE.pbm, calls from 0 on, pages from 1 on [default: page]
-      --calls <N>             How many calls are answered [default: all]
-      --redundancy <PACKETS>  How many of the packets before its own each datagram has, from 0 to 8 [default: 3]
-      --preamble <MS>         How long the packet behind a preamble waits, from 40 to 2000 milliseconds: 1000 where a machine stands behind a media gateway [default: 40]
-      --repeat <POLICY>       How often the last datagram is sent again while no newer one is: six times within 1.3 s (full), once (last), or never (none) [default: full] [possible values: full, last, none]
-  -h, --help                  Print help
-
-Statuses:
-  0  so many calls were answered, whatever they brought
-  2  the command line was refused
-  3  memory was wanted and refused
-  4  an address or a socket failed, or a page could not be written: it was not confirmed
-";
-
-const LOOP_HELP: &str = "\
-Send a page from one machine through a gateway to another, over UDP on this host: read its octets as hex text, and print how the job ended and the rows that were confirmed
-
-Usage: faxgate loop [OPTIONS]
-
-Options:
-      --redundancy <PACKETS>  How many of the packets before its own each datagram has, from 0 to 8 [default: 3]
-      --preamble <MS>         How long the packet behind a preamble waits, from 40 to 2000 milliseconds: 1000 where a machine stands behind a media gateway [default: 40]
-  -h, --help                  Print help
-";
-
 /// The words of a command line that is refused, and what is told; nothing is printed.
 const REFUSALS: &[(&[&str], &str)] = &[
     (
         &["faxgate"],
         "error: 'faxgate' requires a subcommand but one was not provided
-  [subcommands: page, trace, capture, loop, serve, send, receive, help]
+  [subcommands: page, trace, explain, capture, loop, serve, send, receive, help]
 
 Usage: faxgate <COMMAND>
 ",
@@ -416,6 +296,43 @@ fn what_is_told_of_a_refusal(rt: HostRuntime) {
             "at {words:?}"
         );
     }
+}
+
+/// How runs of `faxgate loop` end, with the status and what is told.
+const LOOP_ENDINGS: &[(Ending, u8, &str)] = &[
+    (Ending::Reported(Outcome::Delivered), 0, ""),
+    (
+        Ending::Reported(Outcome::NoReply),
+        5,
+        "faxgate: the page was not delivered: NoReply\n",
+    ),
+    (
+        Ending::Unreported,
+        5,
+        "faxgate: the page was not delivered: no report of the job\n",
+    ),
+    (Ending::Fault, 1, ""),
+    (Ending::NoMemory, 3, ""),
+];
+
+#[test]
+fn what_is_told_of_a_loop(rt: HostRuntime) {
+    for (ending, status, wanted) in LOOP_ENDINGS {
+        expect_loop(&rt, *ending, *status, wanted);
+    }
+    let error = io::Error::from(io::ErrorKind::Unsupported);
+    let told = "faxgate: no socket of this host: unsupported\n";
+    expect_loop(&rt, Ending::Socket(error), 4, told);
+}
+
+/// That this is told of a run that ends so.
+fn expect_loop(rt: &(impl Abort + AllocGlobal), ending: Ending, status: u8, wanted: &str) {
+    let desk = Desk::new(rt.alloc(), &[], b"");
+    let source = StdSource::new(desk.reader());
+    let sink = StdSink::new(io::writer(&desk));
+    assert_eq!(rt; tell_loop(&desk, ending, &source, &sink), status);
+    let (_, told) = desk.into_texts();
+    assert_eq!(rt; told.as_slice(), wanted.as_bytes(), "at {ending:?}");
 }
 
 /// A configuration that is refused, and what is told behind the name of its file.

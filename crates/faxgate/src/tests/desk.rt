@@ -11,12 +11,13 @@ use std::io::{BufRead, Eprint, ErrorKind, Input, Lines, Print};
 use std::rt::Env;
 
 /// A runtime that has the words of a command line and an input, and keeps what is printed, and what is told on the standard
-/// error.
+/// error. Its standard output may be closed.
 #[derive(Drop)]
 pub struct Desk<'a> {
     alloc: Global,
     words: &'a [&'a str],
     input: &'a [u8],
+    is_closed: bool,
     printed: RefCell<Vec<u8>>,
     told: RefCell<Vec<u8>>,
 }
@@ -27,9 +28,26 @@ impl<'a> Desk<'a> {
             alloc,
             words,
             input,
+            is_closed: false,
             printed: RefCell::new(Vec::new(alloc)),
             told: RefCell::new(Vec::new(alloc)),
         }
+    }
+
+    /// The same with a standard output that is closed.
+    pub fn closed(self) -> Self {
+        Desk {
+            is_closed: true,
+            ..self
+        }
+    }
+
+    /// Prints octets.
+    fn append_printed(&self, octets: &[u8]) -> io::Result<()> {
+        if self.is_closed {
+            return Err(io::Error::from(ErrorKind::BrokenPipe));
+        }
+        append(&self.printed, octets)
     }
 
     /// What was printed, and what was told.
@@ -50,16 +68,16 @@ impl Alloc for Desk<'_> {
 impl Print for Desk<'_> {
     fn print<D: Display + Drop>(&self, value: D) -> io::Result<()> {
         let text = format!(in self.alloc; "{value}")?;
-        append(&self.printed, text.as_bytes())
+        self.append_printed(text.as_bytes())
     }
 
     fn println<D: Display + Drop>(&self, value: D) -> io::Result<()> {
         let text = format!(in self.alloc; "{value}\n")?;
-        append(&self.printed, text.as_bytes())
+        self.append_printed(text.as_bytes())
     }
 
     fn write_all(&self, octets: &[u8]) -> io::Result<()> {
-        append(&self.printed, octets)
+        self.append_printed(octets)
     }
 }
 

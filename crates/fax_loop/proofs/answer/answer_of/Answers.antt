@@ -11,10 +11,10 @@ returns-in-Ok c = λ settings input text first means told.
     record {
       outcome = Reports report (rows_of c.args.ended.confirmed.items);
       allowed = (means, subst (IsFirstReport settings) c.in-Some.is first);
-      status_is = refl;
+      ending_is = refl;
       text_is = (told.0, told.1, told.2 ∙ ap (λ line. (line ++ 10 ∷ []) ++ text_of_lines told.0) c.in-Ok.ensures.ok);
     }
 
 pub returns-in-Err : goal.returns-in-Err
 returns-in-Err c = λ settings input text first means told.
-    record { outcome = Refuses NoMemory; allowed = tt; status_is = refl; text_is = told }
+    record { outcome = Refuses NoMemory; allowed = tt; ending_is = refl; text_is = told }

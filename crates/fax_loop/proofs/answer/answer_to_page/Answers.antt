@@ -1,5 +1,5 @@
-use Rattle.fax_loop.proofs.AnswerLemmas.{Answers-memory}
+use Rattle.fax_loop.proofs.AnswerLemmas.{EndsSo-memory}
 use Rattle.fax_loop.proofs.answer.answer_to_page.Goals as goal
 
 pub returns-in-Err-NoMemory : goal.returns-in-Err-NoMemory
-returns-in-Err-NoMemory g c = λ input text means is. Answers-memory c.args.settings input text is
+returns-in-Err-NoMemory g c = λ input text means is. EndsSo-memory c.args.settings input text is

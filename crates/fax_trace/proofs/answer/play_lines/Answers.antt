@@ -10,11 +10,11 @@ pub loop-line-init : goal.loop-line-init
 loop-line-init c = record {
   before = [];
   lines_are = refl;
-  so_many = refl;
-  short = omega arith;
+  so_many = sym c.requires.none;
+  short = omega (arith, c.requires.none);
   events = [];
   tell = tt;
-  played = λ setup writes set written. (nothing_played, refl, c.requires setup writes set);
+  played = λ setup writes set written. (nothing_played, refl, c.requires.new setup writes set);
 }
 
 pub loop-line-preserved : goal.loop-line-preserved
@@ -42,6 +42,7 @@ returns c =
     let so_far = c.loop-line.invariant in
     record {
       before = so_far.before;
+      so_many = so_far.so_many;
       others = [];
       lines_are = so_far.lines_are ∙ ap (λ rest. so_far.before ++ rest) (ap lines_of c.in_default.ensures.none);
       events = so_far.events;
@@ -57,6 +58,7 @@ returns-in_err-event c =
     let so_far = c.loop-line.invariant in
     record {
       before = so_far.before;
+      so_many = so_far.so_many;
       others = lines_of c.loop-line.rest.now;
       lines_are = so_far.lines_are;
       events = so_far.events;
@@ -72,11 +74,12 @@ returns-in_default-2 c =
     let so_far = c.loop-line.invariant in
     record {
       before = so_far.before;
+      so_many = so_far.so_many;
       others = lines_of c.loop-line.rest.now;
       lines_are = so_far.lines_are;
       events = so_far.events;
       tell = so_far.tell;
-      ends = (ap (λ (n : ℕ). n + 1) so_far.so_many, c.in-Some.line.now, lines_of c.in-Some.behind.now, c.in-Some.ensures.lines, rw c.in_default-2.is at c.in_ok-event.ensures.none);
+      ends = (ap (λ (n : ℕ). n + 1) (sym so_far.so_many), c.in-Some.line.now, lines_of c.in-Some.behind.now, c.in-Some.ensures.lines, rw c.in_default-2.is at c.in_ok-event.ensures.none);
       told = λ setup writes set written.
           let p = so_far.played setup writes set written in
           record { played = p.0; is_played = p.1; is_trace = p.2.reached.is_trace; text_is = text_of_none p.0.lines _ p.2.told };
@@ -87,6 +90,7 @@ returns-in_err-play c =
     let so_far = c.loop-line.invariant in
     record {
       before = so_far.before;
+      so_many = so_far.so_many;
       others = lines_of c.loop-line.rest.now;
       lines_are = so_far.lines_are;
       events = so_far.events;

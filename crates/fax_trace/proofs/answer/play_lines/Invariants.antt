@@ -14,8 +14,8 @@ invariant-loop-line l =
     record {
       before : List (List ℕ);
       lines_are : lines_of l.script ≡ before ++ lines_of l.rest;
-      so_many : l.number ≡ length before;
-      short : l.number + length l.rest ≤ length l.script;
+      so_many : length before ≡ l.lines;
+      short : l.lines + length l.rest ≤ length l.script;
       events : List ScriptEvent;
       tell : TellEvents before events;
       played : (setup : Setup) (writes : Writing) → AreSet setup l.fn.player.gateway.settings → IsWriting writes → (p : Played) × PlaysAll setup nothing_played events p × IsPlaying setup writes p l.player;

@@ -1,21 +1,11 @@
-use Rattle.std.proofs.Common.{◌≡◌, ℕ, List, ◌++◌, codes, ◌∙◌, ap}
-use Rattle.fax_trace.specs.Kept.{status_of_answer, text_of_answer}
-use Rattle.fax_trace.proofs.AnswerLemmas.{Answers-read, Answers-unread}
+use Rattle.std.proofs.Common.{◌≡◌, ◌∙◌}
+use Rattle.fax_command.specs.Statuses.{status_code}
+use Rattle.fax_trace.proofs.AnswerLemmas.{Answers-played}
 use Rattle.fax_trace.proofs.run.run_trace.Goals as goal
-use Rattle.fax_trace.proofs.run.run_trace.Goals.{in-Ok, in-Err-NoMemory}
 
-pub returns-in-Ok-write-clause-answers : goal.returns-in-Ok-write-clause-answers
-returns-in-Ok-write-clause-answers g c = λ other.
-    let status : c.code-in-Ok-write.result ≡ status_of_answer c.match-read_input.answer = c.code-in-Ok-write.ensures ∙ c.status.ensures in
-    let told = g.I.Source.remaining c.args.source.now in
+pub returns-clause-answers : goal.returns-clause-answers
+returns-clause-answers g c = λ other.
+    let is : c.code.result ≡ status_code c.play_script.result.status = c.code.ensures in
     let old = g.O.Sink.contents c.args.sink.now in
-    let new = g.O.Sink.contents c.write.new.sink in
-    elim c.match-read_input.branch [
-      | in-Ok w ↦
-          let answers = rw w.as_slice.ensures.value at w.answer_to-answer.ensures in
-          Answers-read c.args.settings told _ _ _ _ _ old new w.in-Ok.ensures.whole answers
-          (status ∙ ap status_of_answer w.answer-is) (ap text_of_answer w.answer-is) c.in-Ok-write.ensures.text
-      | in-Err-NoMemory w ↦
-          Answers-unread c.args.settings told _ _ old new (status ∙ ap status_of_answer w.answer-is)
-          (ap text_of_answer w.answer-is ∙ ap (λ (text : List ℕ). text ++ codes "fault memory\n") w.new.ensures.items) c.in-Ok-write.ensures.text
-    ]
+    let new = g.O.Sink.contents c.play_script.new.sink in
+    Answers-played c.args.settings (g.I.Source.remaining c.args.source.now) c.play_script.result.played _ c.code.result old new (c.play_script.ensures.answers (λ four. other (is ∙ four))) is

@@ -1,0 +1,62 @@
+//! Drives a gateway over a wire of its own: a call is rung, nobody says a word, and what the gateway sends is printed.
+#![tactic(auto)]
+
+use fax_gateway::{Driver, Gateway, Side, Wire, WireFault};
+use fax_pagestore::PackedRows;
+use std::alloc::{AllocError, Global};
+use std::io;
+
+/// A wire on which nothing comes, and which writes down what is sent.
+#[derive(Drop)]
+struct Notes {
+    text: String,
+}
+
+impl Wire for Notes {
+    ghost use Rattle.std.specs.Prelude.{None};
+
+    ghost known = { λ notes. record { failures = 0; received = None; sent = None } };
+
+    fn receive(&mut self, _: Side, _: &mut [u8]) -> Result<Option<usize>, WireFault> {
+        Ok(None)
+    }
+
+    fn send(&mut self, side: Side, octets: &[u8]) -> Result<(), WireFault> {
+        // what cannot be noted for want of memory is left out
+        let _ = note(&mut self.text, side, octets);
+        Ok(())
+    }
+}
+
+/// Writes a datagram down: its leg, and its octets as hex.
+fn note(text: &mut String, side: Side, octets: &[u8]) -> Result<(), AllocError> {
+    text.push_str(match side {
+        Side::Calling => "a ",
+        Side::Called => "b ",
+    })?;
+    for octet in octets {
+        write!(text, "{octet:02x}")?;
+    }
+    text.push('\n')
+}
+
+/// A ring, and four turns of 40 ms.
+fn answer(alloc: Global) -> Result<String, AllocError> {
+    let mut gateway: Gateway<PackedRows> = Gateway::new(alloc, 3).map_err(|_| AllocError)?;
+    let mut driver = Driver::new(alloc).map_err(|_| AllocError)?;
+    let mut wire = Notes {
+        text: String::new(alloc),
+    };
+    gateway.ring(0).map_err(|_| AllocError)?;
+    for turn in 0..4 {
+        driver.turn(&mut gateway, &mut wire, 40 * turn);
+    }
+    Ok(wire.text)
+}
+
+fn main(rt: HostRuntime) -> io::Result<()> {
+    match answer(rt.alloc()) {
+        Ok(text) => rt.print(text),
+        Err(AllocError) => rt.println("memory was refused"),
+    }
+}

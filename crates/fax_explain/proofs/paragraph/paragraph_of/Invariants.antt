@@ -1,0 +1,6 @@
+use Rattle.fax_explain.specs.Ladders.{IsParagraph}
+use Rattle.fax_explain.proofs.paragraph.paragraph_of.Given as goal
+
+-- what was added so far
+abbrev pub invariant-loop-entry : goal.invariant-loop-entry
+invariant-loop-entry l = IsParagraph l.moment l.text.items

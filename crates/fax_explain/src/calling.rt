@@ -1,0 +1,125 @@
+//! What is heard on the calling leg.
+use crate::keeper::Place;
+use crate::lane::Lane;
+use crate::listener::Listener;
+use crate::stage::FoundPage;
+use crate::tale::Tale;
+use crate::words::words_of_format;
+use fax_bits::NoMemory;
+use fax_frames::Frame;
+use fax_gateway::{Given, Kept, Side};
+use std::alloc::Global;
+
+/// Where the exchange of DIS and DCS stands.
+#[derive(Clone, Copy, PartialEq, Eq, Debug)]
+enum Exchange {
+    /// Our DIS was not given.
+    Before,
+    /// It was, and no DCS answered it.
+    Awaited,
+    /// A DCS answered it.
+    Answered,
+}
+
+/// What is heard on the calling leg in one call.
+#[derive(Drop)]
+pub(crate) struct CallingLeg {
+    alloc: Global,
+    theirs: Listener,
+    ours: Listener,
+    exchange: Exchange,
+    /// How many pages were confirmed.
+    pages: u32,
+}
+
+impl CallingLeg {
+    /// A leg on which nothing came or was given.
+    pub fn new(alloc: Global) -> Self {
+        CallingLeg {
+            alloc,
+            theirs: Listener::new(alloc, Lane::FromCaller),
+            ours: Listener::new(alloc, Lane::ToCaller),
+            exchange: Exchange::Before,
+            pages: 0,
+        }
+    }
+
+    /// The octets of a datagram come from the caller.
+    pub fn hear(&mut self, octets: &[u8], tale: &mut Tale) -> Result<(), NoMemory> {
+        self.theirs.hear(octets, tale)?;
+        for frame in self.theirs.frames() {
+            if let Frame::Dcs(_) = frame {
+                self.exchange = Exchange::Answered;
+            }
+        }
+        Ok(())
+    }
+
+    /// What a tick gives on this leg. It answers the page that it confirms.
+    pub fn give(&mut self, given: &Given, tale: &mut Tale) -> Result<Option<FoundPage>, NoMemory> {
+        let Some(octets) = &given.calling else {
+            return Ok(None);
+        };
+        if given.gave_up.is_some() {
+            tale.tell(Lane::Inside, self.why_given_up())?;
+        }
+        self.ours.hear(octets.as_slice(), tale)?;
+        match self.ours.frames().last().copied() {
+            Some(Frame::Dis(_)) => self.identify(tale)?,
+            Some(Frame::Cfr) => self.theirs.confirm_training(),
+            Some(Frame::Mcf) => return self.confirm(given.kept, tale),
+            Some(Frame::Rtn) => {
+                tale.add(": ")?;
+                tale.add(self.theirs.why_refused())?;
+            }
+            _ => {}
+        }
+        Ok(None)
+    }
+
+    /// Which timer ends the call (ITU-T T.30, 5.4.3).
+    fn why_given_up(&self) -> &'static str {
+        match self.exchange {
+            Exchange::Before | Exchange::Awaited => "T1: no DCS in 35 s, so the call is given up",
+            Exchange::Answered => "T2: nothing heard in 6 s, so the call is given up",
+        }
+    }
+
+    /// Our DIS was given. Where it was given before, the timer that gave it again is told.
+    fn identify(&mut self, tale: &mut Tale) -> Result<(), NoMemory> {
+        match self.exchange {
+            Exchange::Before => {}
+            Exchange::Awaited => tale.add(", again: T4, no DCS in 3 s")?,
+            Exchange::Answered => tale.add(", again: T2, nothing heard in 6 s behind EOM")?,
+        }
+        self.exchange = Exchange::Awaited;
+        Ok(())
+    }
+
+    /// MCF was given, with the page that it confirms, or again.
+    fn confirm(
+        &mut self,
+        kept: Option<Kept>,
+        tale: &mut Tale,
+    ) -> Result<Option<FoundPage>, NoMemory> {
+        self.theirs.confirm_page();
+        let Some(kept) = kept else {
+            tale.add(" again, to a command that came again")?;
+            return Ok(None);
+        };
+        self.pages = self.pages.saturating_add(1);
+        let place = Place {
+            side: Side::Calling,
+            call: kept.call,
+            page: self.pages,
+        };
+        let format = words_of_format(self.alloc, kept.format)?;
+        let (page, call, rows) = (place.page, place.call, kept.rows);
+        let words = format!(in self.alloc; " page {page} of call {call}: {format}, rows: {rows}")?;
+        tale.add(words.as_str())?;
+        match self.theirs.take_page() {
+            Some(page) => Ok(Some(FoundPage { place, page })),
+            None => Ok(None),
+        }
+    }
+}

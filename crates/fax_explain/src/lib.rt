@@ -1,0 +1,23 @@
+//! Scripts of what came to a gateway, played on a new one and told as a ladder: what `faxgate explain` prints, over any
+//! streams of octets.
+//!
+//! What a ladder is stands in `specs/Ladders`, and what a run answers in `specs/Explained`.
+#![tactic(auto)]
+
+mod answer;
+mod called;
+mod calling;
+mod endings;
+mod image;
+mod judged;
+mod keeper;
+mod lane;
+mod listener;
+mod paragraph;
+mod run;
+mod stage;
+mod tale;
+mod words;
+
+pub use keeper::{KeepFault, NoPages, PageKeeper, Place};
+pub use run::run_explain;

@@ -1,0 +1,89 @@
+//! A run of `faxgate explain`, over any streams.
+ghost use Rattle.std.specs.Prelude.{ℕ, List, ◌≡◌, ◌≢◌, ◌+◌, ◌<◌, ◌≤◌, ◌⊎◌, true, false, length, IfSome};
+ghost use Rattle.std.specs.Io.KnownBytes.{Appends, Keeps};
+ghost use Rattle.fax_gateway.specs.Setups.{AreAllowed};
+ghost use Rattle.fax_command.specs.Streams.{failed_after_write};
+ghost use Rattle.fax_trace.specs.Kept.{status_of_answer, text_of_answer};
+ghost use Rattle.fax_explain.specs.Explained.{Explains};
+
+use crate::answer::explain;
+use crate::keeper::{KeepFault, PageKeeper};
+use crate::stage::FoundPage;
+use fax_command::{
+    InputError, MOST_AT_ONCE, MOST_OCTETS, MOST_READS, Sink, Source, Status, WriteFault, read_input,
+};
+use fax_gateway::Settings;
+use fax_trace::Answer;
+use std::alloc::Global;
+
+/// Reads a script whole, plays it on a new gateway with these settings, of which the redundancy is at most 8, hands the pages
+/// that were confirmed or sent to a keeper, writes what happened and nothing else, and says with which exit status the process
+/// ends. Nothing is written where a page is not kept.
+pub fn run_explain<I: Source, O: Sink, K: PageKeeper>(
+    alloc: Global,
+    source: &mut I,
+    sink: &mut O,
+    keeper: &mut K,
+    settings: Settings,
+) -> u8
+    requires { AreAllowed settings }
+
+    // Where the input is known, what is written explains it, unless a read, a write or a page failed or the input went past
+    // its bound.
+    ensures answers { result ≢ 4 → IfSome (I.remaining source.old) (λ input. (text : List ℕ)
+        × Explains input result text × Appends (O.contents sink.old) (O.contents sink.new) text) }
+    ensures handed_on { result ≢ 4 → O.held_back sink.new ≡ false }
+    ensures unwritten { result ≡ 4 → O.failed sink.new ≡ false → Keeps (O.contents sink.old) (O.contents sink.new) }
+
+    // A known input past the bound is not answered; memory may be wanting before its end.
+    ensures too_long { IfSome (I.remaining source.old) (λ input. MOST_OCTETS < length input → (result ≡ 4) ⊎ (result ≡ 3)) }
+
+    // The source is read no further than its bounds.
+    ensures reads { I.reads source.new ≤ I.reads source.old + MOST_READS }
+    ensures given { I.given source.new ≤ I.given source.old + MOST_OCTETS + MOST_AT_ONCE }
+
+    // A source that was not read is fresh: its counts are 0, and it has not failed.
+    ensures stream { I.reads source.old ≡ 0 → I.given source.old ≡ 0 → result ≡ 4 → (I.failed source.new ≡ true)
+        ⊎ (O.failed sink.new ≡ true) ⊎ (K.failed keeper.new ≡ true) ⊎ (MOST_OCTETS < I.given source.new) ⊎ (I.reads source.new ≡ MOST_READS) }
+    ensures failed_read { I.failed source.old ≡ false → I.failed source.new ≡ true
+        → (result ≡ 4) × Keeps (O.contents sink.old) (O.contents sink.new) }
+    ensures too_much { I.given source.old ≡ 0 → MOST_OCTETS < I.given source.new
+        → (result ≡ 4) × Keeps (O.contents sink.old) (O.contents sink.new) }
+    ensures failed_write { O.failed sink.old ≡ false → O.failed sink.new ≡ true → result ≡ 4 }
+    ensures failed_page { K.failed keeper.old ≡ false → K.failed keeper.new ≡ true → result ≡ 4 }
+{
+    let script = match read_input(alloc, source) {
+        Ok(script) => script,
+        Err(InputError::NoMemory) => return written(&Answer::NoMemory(Vec::new(alloc)), sink),
+        Err(InputError::Failed | InputError::TooLong) => return Status::Stream.code(),
+    };
+    let explanation = explain(alloc, script.as_slice(), settings);
+    if hand_out(keeper, explanation.pages.as_slice()).is_err() {
+        return Status::Stream.code();
+    }
+    written(&explanation.answer, sink)
+}
+
+/// Hands pages to a keeper, up to the first that is not kept.
+fn hand_out<K: PageKeeper>(keeper: &mut K, pages: &[FoundPage]) -> Result<(), KeepFault>
+    ensures { K.failed keeper.new ≡ failed_after_write (K.failed keeper.old) result }
+{
+    for found in pages {
+        keeper.keep(found.place, &found.page)?;
+    }
+    Ok(())
+}
+
+/// Writes an answer, and says the exit status.
+fn written<O: Sink>(answer: &Answer, sink: &mut O) -> u8
+    ensures text { result ≢ 4 → Appends (O.contents sink.old) (O.contents sink.new) (text_of_answer answer.now) }
+    ensures status { result ≢ 4 → result ≡ status_of_answer answer.now }
+    ensures handed_on { result ≢ 4 → O.held_back sink.new ≡ false }
+    ensures failed { result ≡ 4 → O.failed sink.new ≡ true }
+    ensures unfailed { result ≢ 4 → O.failed sink.new ≡ O.failed sink.old }
+{
+    match answer.write(sink) {
+        Ok(()) => answer.status().code(),
+        Err(WriteFault) => Status::Stream.code(),
+    }
+}

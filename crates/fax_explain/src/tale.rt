@@ -1,0 +1,48 @@
+//! What happened at an event.
+use crate::lane::Lane;
+use fax_bits::NoMemory;
+use std::alloc::Global;
+
+/// A thing that happened, in words.
+#[derive(Drop)]
+pub(crate) struct Entry {
+    pub lane: Lane,
+    pub words: String,
+}
+
+/// What happened at an event, in the order in which it happened.
+#[derive(Drop)]
+pub(crate) struct Tale {
+    alloc: Global,
+    entries: Vec<Entry>,
+}
+
+impl Tale {
+    /// Nothing has happened.
+    pub fn new(alloc: Global) -> Self {
+        Tale {
+            alloc,
+            entries: Vec::new(alloc),
+        }
+    }
+
+    /// One thing more happened.
+    pub fn tell(&mut self, lane: Lane, words: &str) -> Result<(), NoMemory> {
+        let words = String::from_str(self.alloc, words)?;
+        self.entries.push(Entry { lane, words })?;
+        Ok(())
+    }
+
+    /// More words of what happened last.
+    pub fn add(&mut self, more: &str) -> Result<(), NoMemory> {
+        if let Some(last) = self.entries.last_mut() {
+            last.words.push_str(more)?;
+        }
+        Ok(())
+    }
+
+    /// What happened.
+    pub fn entries(&self) -> &[Entry] {
+        self.entries.as_slice()
+    }
+}

@@ -1,0 +1,62 @@
+//! The command line of `faxgate explain`.
+use crate::command_line::{preamble_option, redundancy_option, settings_of};
+use clap::{Arg, ArgMatches, Command};
+use fax_gateway::Settings;
+use std::alloc::{AllocError, Global};
+
+/// What is asked of `faxgate explain`.
+#[derive(Clone, Copy, PartialEq, Eq, Debug)]
+pub struct ExplainOptions<'a> {
+    pub settings: Settings,
+    /// What the names of pictures begin with, where pages are to become pictures.
+    pub pages: Option<&'a str>,
+}
+
+/// The command line of `faxgate explain`.
+pub fn explain_command<'a>(alloc: Global) -> Result<Command<'a>, AllocError> {
+    let pages = Arg::new(alloc, "pages")
+        .long("pages")
+        .value_name("PREFIX")
+        .help(
+            "Write each page as a picture: PREFIX-CALL-PAGE.pbm where it was confirmed, PREFIX-CALL-PAGE-sent.pbm where it was sent on; a file that is there is written over",
+        );
+    Command::new(alloc, "explain")
+        .about(
+            "Read a script as faxgate trace does, and print its call as a ladder: a line for each thing that happened, with its moment in milliseconds, from whom to whom, and what it means in T.30's terms",
+        )
+        .after_help(LINES_AND_STATUSES)
+        .arg(redundancy_option(alloc))?
+        .arg(preamble_option(alloc))?
+        .arg(pages)
+}
+
+const LINES_AND_STATUSES: &str = "\
+Reads:
+  A script, as faxgate trace reads it: at most 16,777,216 octets.
+
+Prints, each line at its moment:
+  CNG, CED                     tones
+  DIS, DCS                     what a machine offers, and what was chosen
+  another frame's name         CSI, TSI, NSF, CFR, FTT, MPS, EOP, EOM, MCF, RTN, RTP, DCN, CRP
+  training check good or bad   the longest run of zero octets, how many are wanted, whether it is whole
+  image of N octets            whether it is whole, the datagrams missing in it, and its rows or why it is no page
+  MCF page N of call M         a page that was confirmed; RTN says why one was refused
+  lost                         numbers of datagrams; brought back: their packets came again in a later one
+  again: T2, T4; T1, T2        a timer that repeated something, or gave a call up
+  ring, call, job              what the gateway did; job as faxgate trace prints it, and why it ended so
+  a datagram that repeats the one before it is not told
+
+Statuses:
+  0  the script was explained
+  1  a line tells no event, and the last line tells which: fault line N
+  2  the command line was refused
+  3  memory was wanted and refused: fault memory
+  4  a read, a write or a picture failed, or the script has more than 16,777,216 octets: the standard error tells which";
+
+/// The options that were given to `faxgate explain`, and the defaults of those that were not.
+pub fn explain_options_of<'a>(given: &ArgMatches<'a>) -> ExplainOptions<'a> {
+    ExplainOptions {
+        settings: settings_of(given),
+        pages: given.get_str("pages"),
+    }
+}
