@@ -4,7 +4,7 @@ mod hostile;
 mod memory;
 mod timing;
 
-use fax_answer::{Answerer, State, Step};
+use fax_answer::{Answerer, Confirmed, State, Step};
 use fax_bits::{NoMemory, Octets};
 use fax_frames::{Dcs, Length, Rate};
 use fax_pagestore::{Page, PlainRows, RowStore};
@@ -67,6 +67,8 @@ enum Event<'a> {
     Stands(State),
     /// So many pages were confirmed on the leg.
     Pages(u32),
+    /// The next tick that does something is due at this moment, counted from no ring.
+    Due(Option<u64>),
     /// From here on memory is reserved before each tick.
     Reserves,
 }
@@ -91,6 +93,15 @@ const NOTHING: Told<'static> = Told {
     closes: None,
     ended: false,
 };
+
+/// What a tick answered.
+#[derive(Drop)]
+struct Answered {
+    packet: Option<Octets>,
+    /// Whether a page was confirmed, and closes.
+    closes: Option<bool>,
+    ended: bool,
+}
 
 /// A call is answered: CED, and our DIS behind its preamble.
 const ANSWERED: &[Event<'static>] = &[
@@ -229,6 +240,10 @@ impl Leg {
                 self.expect_pages(rt, pages);
                 Ok(())
             }
+            Event::Due(due) => {
+                self.expect_due(rt, due);
+                Ok(())
+            }
             Event::Reserves => {
                 self.reserves = true;
                 Ok(())
@@ -289,25 +304,32 @@ impl Leg {
         }
     }
 
+    /// Fails unless the next tick that does something is due at this moment.
+    fn expect_due(&self, rt: &impl Abort, due: Option<u64>) {
+        let name = self.name;
+        assert_eq!(rt; self.answerer.next_due(), due, "{name}");
+    }
+
     /// Fails unless a hex text is a datagram, behind which the call has ended or not.
     fn expect_call(&mut self, rt: &impl Abort, text: &str, is_ended: bool) -> Result<(), NoMemory> {
         let datagram = self.text(text, 0, "")?;
         let ended = self.take(datagram.as_slice())?;
+        let is_told = ended == Some(is_ended) && self.is_idle() == is_ended;
         let name = self.name;
-        assert_eq!(rt; ended, Some(is_ended), "{name} at {text}");
-        assert_eq!(rt;
-            self.answerer.state() == State::Idle,
-            is_ended,
-            "{name} at {text}"
-        );
+        assert!(rt; is_told, "{name} at {text}");
         Ok(())
+    }
+
+    /// Whether no call is on.
+    fn is_idle(&self) -> bool {
+        self.answerer.state() == State::Idle
     }
 
     /// Fails unless octets are a datagram, behind which the call goes on.
     fn expect_taken(&mut self, rt: &impl Abort, octets: &[u8]) -> Result<(), NoMemory> {
         let ended = self.take(octets)?;
         let name = self.name;
-        assert_eq!(rt; ended, Some(false), "{name}");
+        assert!(rt; ended == Some(false), "{name}");
         Ok(())
     }
 
@@ -332,13 +354,13 @@ impl Leg {
     /// Fails unless the call stands here.
     fn expect_state(&self, rt: &impl Abort, wanted: State) {
         let name = self.name;
-        assert_eq!(rt; self.answerer.state(), wanted, "{name}");
+        assert!(rt; self.answerer.state() == wanted, "{name}");
     }
 
     /// Fails unless so many pages were confirmed.
     fn expect_pages(&self, rt: &impl Abort, wanted: u32) {
         let name = self.name;
-        assert_eq!(rt; self.pages, wanted, "{name}");
+        assert!(rt; self.pages == wanted, "{name}");
     }
 
     /// Fails unless a tick answers what is told.
@@ -348,27 +370,56 @@ impl Leg {
         moment: u64,
         told: Told<'_>,
     ) -> Result<(), NoMemory> {
-        let step = self.tick(self.rung.saturating_add(moment))?;
+        let answered = self.answered(rt, self.rung.saturating_add(moment))?;
+        let is_told = self.is_told(&answered, told)?;
         let name = self.name;
-        match told.packet {
-            Some(text) => {
-                let wanted = self.text(text, 0, "")?;
-                let given = step.packet.as_ref().map(Octets::as_slice);
-                assert_eq!(rt; given, Some(wanted.as_slice()), "{name} at {moment}");
-            }
-            None => assert!(rt; step.packet.is_none(), "{name} at {moment}"),
-        }
-        let closes = step.confirmed.as_ref().map(|confirmed| confirmed.closes);
-        assert_eq!(rt; closes, told.closes, "{name} at {moment}");
-        if let Some(confirmed) = &step.confirmed {
-            expect_white_row(rt, &confirmed.page);
-            self.pages = self.pages.saturating_add(1);
-        }
-        assert_eq!(rt; step.ended, told.ended, "{name} at {moment}");
-        if step.ended {
-            self.expect_state(rt, State::Idle);
-        }
+        assert!(rt; is_told, "{name} at {moment}");
         Ok(())
+    }
+
+    /// What a tick answers. It fails where a page is confirmed that is not one white row.
+    fn answered(&mut self, rt: &impl Abort, now: u64) -> Result<Answered, NoMemory> {
+        let Step {
+            packet,
+            confirmed,
+            ended,
+        } = self.tick(now)?;
+        let closes = self.keep(rt, confirmed);
+        Ok(Answered {
+            packet,
+            closes,
+            ended,
+        })
+    }
+
+    /// A page is counted where one is confirmed. It answers whether that closes; it fails unless it is one white row.
+    fn keep(&mut self, rt: &impl Abort, confirmed: Option<Confirmed<PlainRows>>) -> Option<bool> {
+        let confirmed = confirmed?;
+        assert!(rt; is_white_row(&confirmed.page));
+        self.pages = self.pages.saturating_add(1);
+        Some(confirmed.closes)
+    }
+
+    /// Whether a tick answered what is told; where the call has ended, the leg is idle.
+    fn is_told(&mut self, answered: &Answered, told: Told<'_>) -> Result<bool, NoMemory> {
+        let is_packet = self.is_packet(&answered.packet, told.packet)?;
+        let is_over = !answered.ended || self.is_idle();
+        Ok(is_packet && is_over && answered.closes == told.closes && answered.ended == told.ended)
+    }
+
+    /// Whether a packet was given that a hex text shows, or none where there is no text.
+    fn is_packet(
+        &mut self,
+        given: &Option<Octets>,
+        text: Option<&str>,
+    ) -> Result<bool, AllocError> {
+        match (given, text) {
+            (Some(given), Some(text)) => {
+                let wanted = self.text(text, 0, "")?;
+                Ok(given.as_slice() == wanted.as_slice())
+            }
+            (given, text) => Ok(given.is_none() && text.is_none()),
+        }
     }
 
     /// Fails unless the ticks of each 40 ms from a moment to another give nothing.
@@ -399,12 +450,10 @@ fn play_each(rt: &impl Abort, alloc: Global, calls: &[Call]) -> Result<(), NoMem
     Ok(())
 }
 
-/// Fails unless a page is one white row of 1728 elements.
-fn expect_white_row(rt: &impl Abort, page: &Page<PlainRows>) {
-    assert_eq!(rt; page.format().width, Width::W1728);
+/// Whether a page is one white row of 1728 elements.
+fn is_white_row(page: &Page<PlainRows>) -> bool {
     let rows = page.rows();
-    assert!(rt; rows.len() == 1);
-    assert!(rt; rows.lend(0).changes().is_empty());
+    page.format().width == Width::W1728 && rows.len() == 1 && rows.lend(0).changes().is_empty()
 }
 
 /// So many zero octets between those of two hex texts.

@@ -26,6 +26,7 @@ const FINE: Format = Format {
 };
 
 /// What happens in a call: a page of that format is confirmed, of this call, and for EOP or not; or the call ends.
+#[derive(Clone, Copy)]
 enum Event {
     Confirms(u32, Format, bool),
     CallEnds,
@@ -114,24 +115,40 @@ fn outcomes_have_numbers_and_names(rt: HostRuntime) -> Result<(), Fail> {
     Ok(())
 }
 
+/// Whether pages have so many rows, and these formats.
+fn has_pages(pages: &[Page<PlainRows>], wanted: &[(u32, Format)]) -> bool {
+    let mut all = pages.len() == wanted.len();
+    for (page, (rows, format)) in pages.iter().zip(wanted) {
+        all = all && page.rows().len() == *rows && page.format() == *format;
+    }
+    all
+}
+
+/// Whether a job has this call, this format and these pages.
+fn is_job(job: &Job<PlainRows>, call: u32, format: Format, pages: &[(u32, Format)]) -> bool {
+    job.call() == call
+        && job.format() == format
+        && job.page_count() as usize == pages.len()
+        && has_pages(job.pages().as_slice(), pages)
+}
+
+/// Adds a page to a job that has fewer than 999, and says how many it had.
+fn add_to(job: &mut Job<PlainRows>, page: Page<PlainRows>) -> Result<u32, &'static str> {
+    let count = job.page_count();
+    if count < 999 {
+        taken(job.add_page(page))?;
+    }
+    Ok(count)
+}
+
 #[test]
 fn jobs_have_their_pages(rt: HostRuntime) -> Result<(), Fail> {
     let first = page_of(rt.alloc(), ONE_ROW, FINE)?;
     let second = page_of(rt.alloc(), TWO_ROWS, FINE)?;
     let mut job = taken(Job::of_page(rt.alloc(), 7, first))?;
-    assert!(rt; job.page_count() == 1);
-    assert!(rt; second.format() == job.format());
-    if job.page_count() < 999 {
-        taken(job.add_page(second))?;
-    }
-    assert!(rt; job.call() == 7);
-    assert!(rt; job.format() == FINE);
-    assert!(rt; job.page_count() == 2);
-    let [first, second] = job.pages().as_slice() else {
-        rt.abort()
-    };
-    assert!(rt; first.rows().len() == 1);
-    assert!(rt; second.rows().len() == 2);
+    let before = add_to(&mut job, second)?;
+    let is_job = is_job(&job, 7, FINE, &[(1, FINE), (2, FINE)]);
+    assert!(rt; before == 1 && is_job);
     Ok(())
 }
 
@@ -162,19 +179,23 @@ fn book_of_two_pages(rt: &impl Abort, alloc: Global) -> Result<Jobs<PlainRows>, 
     Ok(jobs)
 }
 
+/// Sends the job that waits first, of which no page but the first is taken: how many jobs wait then, whether nothing was
+/// reported before, its call, and whether nothing is sent behind it.
+fn refuse_one(jobs: &mut Jobs<PlainRows>) -> Option<(usize, bool, u32, bool)> {
+    if jobs.sending().is_some() {
+        return None;
+    }
+    jobs.next();
+    let waiting = jobs.waiting();
+    let is_unreported = jobs.report(0).is_none();
+    let call = jobs.sending()?.call();
+    jobs.end(Outcome::PageRefused, 1);
+    Some((waiting, is_unreported, call, jobs.sending().is_none()))
+}
+
 #[test]
 fn a_job_goes_through_the_book(rt: HostRuntime) -> Result<(), Fail> {
     let mut jobs = book_of_two_pages(&rt, rt.alloc())?;
-    assert!(rt; jobs.sending().is_none());
-    jobs.next();
-    assert!(rt; jobs.waiting() == 0);
-    assert!(rt; jobs.report(0).is_none());
-    let Some(job) = jobs.sending() else {
-        rt.abort()
-    };
-    assert!(rt; job.call() == 7);
-    jobs.end(Outcome::PageRefused, 1);
-    assert!(rt; jobs.sending().is_none());
     let wanted = Report {
         call: 7,
         format: STANDARD,
@@ -182,9 +203,35 @@ fn a_job_goes_through_the_book(rt: HostRuntime) -> Result<(), Fail> {
         delivered: 1,
         outcome: Outcome::PageRefused,
     };
-    assert_eq!(rt; jobs.report(0), Some(wanted));
-    assert!(rt; jobs.report(1).is_none());
+    assert!(rt; refuse_one(&mut jobs) == Some((0, true, 7, true)));
+    assert!(rt; jobs.report(0) == Some(wanted) && jobs.report(1).is_none());
     Ok(())
+}
+
+/// Confirms a page of call 7, into room that is reserved before.
+fn confirm_with_room(
+    alloc: Global,
+    jobs: &mut Jobs<PlainRows>,
+    octets: &[u8],
+    format: Format,
+) -> Result<(), Fail> {
+    let page = page_of(alloc, octets, format)?;
+    jobs.reserve()?;
+    taken(jobs.confirm(7, page, false))?;
+    Ok(())
+}
+
+/// Whether the call ends, and a job of it with this format and these pages is sent next.
+fn sends(jobs: &mut Jobs<PlainRows>, format: Format, pages: &[(u32, Format)]) -> bool {
+    if jobs.sending().is_some() {
+        return false;
+    }
+    jobs.end_call();
+    jobs.next();
+    match jobs.sending() {
+        Some(job) => is_job(job, 7, format, pages),
+        None => false,
+    }
 }
 
 #[test]
@@ -197,25 +244,11 @@ fn pages_come_into_room_that_is_there(rt: HostRuntime) -> Result<(), Fail> {
         (THREE_ROWS, STANDARD),
         (ONE_ROW, FINE),
     ] {
-        let page = page_of(rt.alloc(), octets, format)?;
-        jobs.reserve()?;
-        taken(jobs.confirm(7, page, false))?;
+        confirm_with_room(rt.alloc(), &mut jobs, octets, format)?;
     }
-    assert!(rt; shown(&jobs) == (0, Some((7, 4))));
-    assert!(rt; jobs.sending().is_none());
-    jobs.end_call();
-    jobs.next();
-    let Some(job) = jobs.sending() else {
-        rt.abort()
-    };
-    let [first, second, third, fourth] = job.pages().as_slice() else {
-        rt.abort()
-    };
-    assert!(rt; job.format() == STANDARD);
-    assert!(rt; fourth.format() == FINE);
-    assert!(rt; first.rows().len() == 1);
-    assert!(rt; second.rows().len() == 2);
-    assert!(rt; third.rows().len() == 3);
+    let shown = shown(&jobs);
+    let pages = [(1, STANDARD), (2, STANDARD), (3, STANDARD), (1, FINE)];
+    assert!(rt; shown == (0, Some((7, 4))) && sends(&mut jobs, STANDARD, &pages));
     Ok(())
 }
 
@@ -309,12 +342,22 @@ fn cuts_calls_into_jobs(rt: HostRuntime) -> Result<(), Fail> {
     Ok(())
 }
 
+/// Confirms a page of a call.
+fn confirm_one(
+    rt: &impl Abort,
+    alloc: Global,
+    jobs: &mut Jobs<PlainRows>,
+    call: u32,
+    closes: bool,
+) -> Result<(), Fail> {
+    tell(rt, alloc, jobs, &Event::Confirms(call, STANDARD, closes))
+}
+
 #[test]
 fn cuts_behind_999_pages(rt: HostRuntime) -> Result<(), Fail> {
     let mut jobs = Jobs::new(rt.alloc())?;
     for _ in 0..1000 {
-        let page = page_of(rt.alloc(), ONE_ROW, STANDARD)?;
-        confirm(&rt, &mut jobs, 7, page, false)?;
+        confirm_one(&rt, rt.alloc(), &mut jobs, 7, false)?;
     }
     assert!(rt; jobs.waiting() == 1);
     jobs.end_call();
@@ -322,22 +365,29 @@ fn cuts_behind_999_pages(rt: HostRuntime) -> Result<(), Fail> {
     Ok(())
 }
 
+/// Whether the reports are those of 64 calls one after another, from this on.
+fn reports_from(jobs: &Jobs<PlainRows>, first: u32) -> bool {
+    let mut all = jobs.report(64).is_none();
+    for i in 0..64u32 {
+        all = all && reported_call(jobs, i as usize) == first.checked_add(i);
+    }
+    all
+}
+
+/// The call of a report.
+fn reported_call(jobs: &Jobs<PlainRows>, i: usize) -> Option<u32> {
+    Some(jobs.report(i)?.call)
+}
+
 #[test]
 fn keeps_the_last_64_reports(rt: HostRuntime) -> Result<(), Fail> {
     let mut jobs = Jobs::new(rt.alloc())?;
     for call in 1..=65 {
-        let page = page_of(rt.alloc(), ONE_ROW, STANDARD)?;
-        confirm(&rt, &mut jobs, call, page, true)?;
+        confirm_one(&rt, rt.alloc(), &mut jobs, call, true)?;
     }
     for call in 1..=65 {
         assert!(rt; send_one(&mut jobs) == Some((call, false, 1)));
     }
-    for i in 0..64usize {
-        let Some(report) = jobs.report(i) else {
-            rt.abort()
-        };
-        assert!(rt; report.call == i as u32 + 2);
-    }
-    assert!(rt; jobs.report(64).is_none());
+    assert!(rt; reports_from(&jobs, 2));
     Ok(())
 }

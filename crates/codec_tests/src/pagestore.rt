@@ -472,6 +472,15 @@ fn octets_of(alloc: Global, digits: Digits, texts: &[&str]) -> Result<Octets, No
     Ok(writer.finish())
 }
 
+/// Feeds a piece. Behind it others come, and are taken back.
+fn feed_and_take_back(reader: &mut PageReader<PackedRows>, piece: &[u8]) -> Result<(), PageFault> {
+    reader.feed(piece)?;
+    let mark = reader.mark()?;
+    reader.feed(&[0x5a, 0x00, 0x15])?;
+    reader.back(mark);
+    Ok(())
+}
+
 /// Reads the page that comes in pieces of so many octets. Behind each of them others come, and are taken
 /// back.
 fn feed_in(
@@ -483,10 +492,7 @@ fn feed_in(
 ) -> Result<Page<PackedRows>, PageFault> {
     let mut reader = PageReader::new(alloc, format, coding);
     for piece in octets.chunks(cut.max(1)) {
-        reader.feed(piece)?;
-        let mark = reader.mark()?;
-        reader.feed(&[0x5a, 0x00, 0x15])?;
-        reader.back(mark);
+        feed_and_take_back(&mut reader, piece)?;
     }
     reader.check()?;
     reader.finish()
@@ -494,10 +500,10 @@ fn feed_in(
 
 /// Fails unless both stores have rows of the same changes.
 fn expect_same(rt: &impl Abort, packed: &PackedRows, plain: &PlainRows) {
-    assert_eq!(rt; packed.len(), plain.len());
+    assert!(rt; packed.len() == plain.len());
     for i in 0..plain.len() {
         let (row, same) = (packed.lend(i), plain.lend(i));
-        assert_eq!(rt; row.changes(), same.changes(), "in row {i}");
+        assert!(rt; row.changes() == same.changes(), "in row {i}");
     }
 }
 
@@ -510,24 +516,36 @@ fn read_each_way(
     coding: Coding,
 ) -> Result<Page<PlainRows>, PageFault> {
     let page: Page<PlainRows> = read_page(alloc, octets, format, coding)?;
-    let packed: Page<PackedRows> = read_page(alloc, octets, format, coding)?;
+    read_packed_and_in_pieces(rt, alloc, octets, coding, &page)?;
+    Ok(page)
+}
+
+/// Reads a page again, into the packed store and in pieces, and fails unless the rows are the same.
+fn read_packed_and_in_pieces(
+    rt: &impl Abort,
+    alloc: Global,
+    octets: &[u8],
+    coding: Coding,
+    page: &Page<PlainRows>,
+) -> Result<(), PageFault> {
+    let packed: Page<PackedRows> = read_page(alloc, octets, page.format(), coding)?;
     expect_same(rt, packed.rows(), page.rows());
     for cut in CUTS {
-        let fed = feed_in(alloc, octets, cut, format, coding)?;
+        let fed = feed_in(alloc, octets, cut, page.format(), coding)?;
         expect_same(rt, fed.rows(), page.rows());
     }
-    Ok(page)
+    Ok(())
 }
 
 /// Fails unless the rows have this width, and change colour at these places.
 fn expect_rows(rt: &impl Abort, rows: &PlainRows, width: Width, wanted: &[&[u16]]) {
-    assert_eq!(rt; rows.len() as usize, wanted.len());
+    assert!(rt; rows.len() as usize == wanted.len());
     let mut n = 0;
     for changes in wanted {
         if n < rows.len() {
             let row = rows.lend(n);
-            assert_eq!(rt; row.width(), width.elements());
-            assert_eq!(rt; row.changes(), *changes, "in row {n}");
+            let is_row = row.width() == width.elements() && row.changes() == *changes;
+            assert!(rt; is_row, "in row {n}");
             n += 1;
         }
     }
@@ -540,10 +558,10 @@ fn expect_fault(rt: &impl Abort, alloc: Global, octets: &[u8], coding: Coding, f
         fine: true,
     };
     let read: Result<Page<PlainRows>, PageFault> = read_page(alloc, octets, format, coding);
-    assert_eq!(rt; read.err(), Some(fault), "at {octets:?}");
+    assert!(rt; read.err() == Some(fault), "at {octets:?}");
     for cut in CUTS {
         let fed = feed_in(alloc, octets, cut, format, coding);
-        assert_eq!(rt; fed.err(), Some(fault), "at {cut} of {octets:?}");
+        assert!(rt; fed.err() == Some(fault), "at {cut} of {octets:?}");
     }
 }
 
@@ -577,10 +595,10 @@ fn expect_written(
     wanted: &[u8],
 ) -> Result<(), NoMemory> {
     let whole = write_page(alloc, page, coding, least_bits)?;
-    assert_eq!(rt; whole.as_slice(), wanted);
+    assert!(rt; whole.as_slice() == wanted);
     for n in [1, 7, 100] {
         let text = write_in_pieces(alloc, page, coding, least_bits, n)?;
-        assert_eq!(rt; text.as_slice(), wanted, "in pieces of {n}");
+        assert!(rt; text.as_slice() == wanted, "in pieces of {n}");
     }
     Ok(())
 }
@@ -607,25 +625,25 @@ fn expect_changes<S: RowStore>(
 ) -> Result<(), NoMemory> {
     assert!(rt; i < rows.len());
     let row = rows.row(i)?;
-    assert_eq!(rt; row.changes(), changes, "in row {i}");
-    assert_eq!(rt; rows.lend(i).changes(), changes, "in row {i}");
+    let are_same = row.changes() == changes && rows.lend(i).changes() == changes;
+    assert!(rt; are_same, "in row {i}");
     Ok(())
 }
 
 /// Keeps rows in a store, cuts it, and adds others behind the rows that stay.
 fn keep_rows<S: RowStore>(rt: &impl Abort, mut rows: S, alloc: Global) -> Result<(), RowFault> {
-    assert_eq!(rt; rows.len(), 0);
+    assert!(rt; rows.len() == 0);
     for (runs, _) in ROWS {
         push_twice(rt, alloc, &mut rows, runs)?;
     }
-    assert_eq!(rt; rows.len(), 10);
+    assert!(rt; rows.len() == 10);
     for i in 0..10 {
         expect_changes(rt, &rows, i, ROWS[i as usize / 2].1)?;
     }
     assert!(rt; rows.len() >= 3);
     rows.cut(3);
     push_twice(rt, alloc, &mut rows, ROWS[3].0)?;
-    assert_eq!(rt; rows.len(), 5);
+    assert!(rt; rows.len() == 5);
     for (i, changes) in [
         (1, ROWS[0].1),
         (2, ROWS[1].1),
@@ -655,7 +673,7 @@ fn reads_sample_pages_in_pieces(rt: HostRuntime) -> Result<(), Fail> {
         let octets = octets_of(rt.alloc(), Digits::Hex, texts)?;
         let format = Format { width, fine: true };
         let page = read_each_way(&rt, rt.alloc(), octets.as_slice(), format, coding)?;
-        assert_eq!(rt; page.rows().len(), count);
+        assert!(rt; page.rows().len() == count);
     }
     Ok(())
 }
@@ -689,29 +707,51 @@ fn put_digits(writer: &mut BitWriter, text: &str) -> Result<(), NoMemory> {
     Ok(())
 }
 
+/// The format of pages of white rows.
+const STANDARD: Format = Format {
+    width: Width::W1728,
+    fine: false,
+};
+
+/// How many rows a page of these octets has.
+fn rows_of(alloc: Global, octets: &[u8]) -> Result<u32, PageFault> {
+    let page: Page<PackedRows> = read_page(alloc, octets, STANDARD, Coding::Mh)?;
+    Ok(page.rows().len())
+}
+
+/// The same of one that comes in pieces.
+fn rows_in_pieces_of(alloc: Global, octets: &[u8]) -> Result<u32, PageFault> {
+    let page = feed_in(alloc, octets, 4096, STANDARD, Coding::Mh)?;
+    Ok(page.rows().len())
+}
+
+/// Whether a page of these octets is written as them.
+fn is_written_as_read(alloc: Global, octets: &[u8]) -> Result<bool, PageFault> {
+    let page: Page<PackedRows> = read_page(alloc, octets, STANDARD, Coding::Mh)?;
+    let written = write_page(alloc, &page, Coding::Mh, 0)?;
+    Ok(written.as_slice() == octets)
+}
+
+/// Fails unless a page of so many white rows has so many, whole and in pieces.
+fn expect_count(
+    rt: &impl Abort,
+    alloc: Global,
+    count: u32,
+    wanted: Result<u32, PageFault>,
+) -> Result<(), NoMemory> {
+    let octets = white_rows(alloc, count)?;
+    let whole = rows_of(alloc, octets.as_slice());
+    let in_pieces = rows_in_pieces_of(alloc, octets.as_slice());
+    assert!(rt; whole == wanted && in_pieces == wanted);
+    Ok(())
+}
+
 #[test]
 fn a_page_has_at_most_65_535_rows(rt: HostRuntime) -> Result<(), Fail> {
-    let format = Format {
-        width: Width::W1728,
-        fine: false,
-    };
-    let octets = white_rows(rt.alloc(), 65_535)?;
-    let most: Page<PackedRows> = read_page(rt.alloc(), octets.as_slice(), format, Coding::Mh)?;
-    assert_eq!(rt; most.rows().len(), MOST_ROWS);
-    let written = write_page(rt.alloc(), &most, Coding::Mh, 0)?;
-    assert!(rt; written.as_slice() == octets.as_slice());
-    let fed = feed_in(rt.alloc(), octets.as_slice(), 4096, format, Coding::Mh)?;
-    assert_eq!(rt; fed.rows().len(), MOST_ROWS);
-    let octets = white_rows(rt.alloc(), 65_536)?;
-    let more: Result<Page<PackedRows>, PageFault> = read_page(
-        rt.alloc(),
-        octets.as_slice(),
-        format,
-        Coding::Mh,
-    );
-    assert_eq!(rt; more.err(), Some(PageFault::TooManyRows));
-    let fed = feed_in(rt.alloc(), octets.as_slice(), 4096, format, Coding::Mh);
-    assert_eq!(rt; fed.err(), Some(PageFault::TooManyRows));
+    expect_count(&rt, rt.alloc(), 65_535, Ok(MOST_ROWS))?;
+    expect_count(&rt, rt.alloc(), 65_536, Err(PageFault::TooManyRows))?;
+    let most = white_rows(rt.alloc(), 65_535)?;
+    assert!(rt; is_written_as_read(rt.alloc(), most.as_slice()) == Ok(true));
     Ok(())
 }
 
@@ -756,11 +796,16 @@ fn gives_five_octets_at_a_time(rt: HostRuntime) -> Result<(), Fail> {
     let page: Page<PlainRows> = read_page(rt.alloc(), &text, format, Coding::Mh)?;
     let mut writer = PageWriter::new(rt.alloc(), page.format(), Coding::Mh, 48);
     for piece in pieces {
-        assert_eq!(rt; writer.ended(), piece.is_empty());
-        let given = writer.next(&page, 5)?;
-        assert_eq!(rt; given.as_slice(), piece);
+        assert!(rt; gives(&mut writer, &page, piece)?);
     }
     Ok(())
+}
+
+/// Whether the next five octets of a page at most are these, and it has ended before where they are none.
+fn gives(writer: &mut PageWriter, page: &Page<PlainRows>, piece: &[u8]) -> Result<bool, NoMemory> {
+    let has_ended = writer.ended();
+    let given = writer.next(page, 5)?;
+    Ok(has_ended == piece.is_empty() && given.as_slice() == piece)
 }
 
 #[test]
@@ -773,7 +818,7 @@ fn faults_have_numbers(rt: HostRuntime) {
         (PageFault::TooManyRows, 5),
         (PageFault::NoMemory, 6),
     ] {
-        assert_eq!(rt; fault.number(), number);
+        assert!(rt; fault.number() == number);
     }
 }
 

@@ -3,12 +3,13 @@ ghost use Rattle.std.specs.Prelude.{◌≤◌};
 
 use fax_command::{Output, PageOptions, StdSink, StdSource, run_page};
 use fax_gateway::{Settings, Side, Wire, WireFault};
-use fax_loop::{UdpWire, run_loop};
+use fax_jobs::Outcome;
+use fax_loop::{Ending, UdpWire, play_loop, run_loop};
 use fax_pagestore::{Coding, Format};
 use fax_runcodes::Width;
 use std::alloc::{AllocError, Global};
 use std::io;
-use std::net::{IpAddr, Ipv4Addr, Net, SocketAddr, UdpSocket};
+use std::net::{IpAddr, Ipv4Addr, Net, SocketAddr, TcpListener, TcpStream, UdpSocket};
 use std::process::Abort;
 use std::test::Fail;
 
@@ -42,10 +43,51 @@ fn texts_are_answered(rt: HostRuntime) {
         for redundancy in [0, 3, 8] {
             assert!(rt; redundancy <= 8);
             let (found, text) = run_over(&rt, rt.alloc(), input.as_bytes(), redundancy);
-            assert_eq!(rt; found, status, "at {input:?}");
-            assert_eq!(rt; text.as_slice(), wanted.as_bytes(), "at {input:?}");
+            let is_answer = found == status && text.as_slice() == wanted.as_bytes();
+            assert!(rt; is_answer, "at {input:?}");
         }
     }
+}
+
+/// A system without a network.
+struct NoNetwork;
+
+impl Net for NoNetwork {
+    type Stream = TcpStream;
+
+    type Listener = TcpListener;
+
+    fn bind(&self, _addr: SocketAddr) -> io::Result<TcpListener> {
+        Err(io::Error::from(io::ErrorKind::Unsupported))
+    }
+
+    fn connect(&self, _addr: SocketAddr) -> io::Result<TcpStream> {
+        Err(io::Error::from(io::ErrorKind::Unsupported))
+    }
+}
+
+/// How a run over an input ends, and its text.
+fn play_over<R: Net>(net: &R, alloc: Global, input: &[u8]) -> (Ending, Vec<u8>) {
+    let mut text = Vec::new(alloc);
+    let mut source = StdSource::new(input);
+    let mut sink = StdSink::new(&mut text);
+    let ending = play_loop(net, alloc, &mut source, &mut sink, Settings::default());
+    (ending, text)
+}
+
+#[test]
+fn runs_tell_how_they_ended(rt: HostRuntime) {
+    let page = b"0014d9a8008008008008008008";
+    let (ending, text) = play_over(&rt, rt.alloc(), page);
+    assert!(rt; matches!(ending, Ending::Reported(Outcome::Delivered)));
+    assert!(rt; text.starts_with(b"job 0 1728 "));
+    let (ending, text) = play_over(&NoNetwork, rt.alloc(), page);
+    assert!(rt;
+        matches!(ending, Ending::Socket(error) if error.kind() == io::ErrorKind::Unsupported)
+    );
+    assert!(rt; text.is_empty());
+    let (ending, _) = play_over(&NoNetwork, rt.alloc(), b"0014d9a");
+    assert!(rt; matches!(ending, Ending::Fault));
 }
 
 /// Strokes of black on white, over 100 picture elements.
@@ -70,10 +112,8 @@ fn lines_of_text(alloc: Global, twice: u32) -> Result<Vec<u8>, AllocError> {
     Ok(lines)
 }
 
-/// A page of a thousand rows comes as it was sent.
-#[test]
-fn a_page_of_text(rt: HostRuntime) -> Result<(), Fail> {
-    let lines = lines_of_text(rt.alloc(), 500)?;
+/// The exit status and the hex text of the page that these lines tell, in one-dimensional lines.
+fn page_of(alloc: Global, lines: &[u8]) -> (u8, Vec<u8>) {
     let options = PageOptions {
         format: Format {
             width: Width::W1728,
@@ -83,19 +123,29 @@ fn a_page_of_text(rt: HostRuntime) -> Result<(), Fail> {
         least_bits: 0,
         output: Output::Octets,
     };
-    let mut page = Vec::new(rt.alloc());
-    let mut source = StdSource::new(lines.as_slice());
+    let mut page = Vec::new(alloc);
+    let mut source = StdSource::new(lines);
     let mut sink = StdSink::new(&mut page);
-    assert_eq!(rt; run_page(rt.alloc(), &mut source, &mut sink, options), 0);
-    let (status, text) = run_over(&rt, rt.alloc(), page.as_slice(), 3);
-    assert_eq!(rt; status, 0);
-    match text
-        .as_slice()
-        .strip_prefix(b"job 0 1728 standard 1 1 Delivered\n")
-    {
-        Some(rows) => assert!(rt; rows == lines.as_slice()),
-        None => assert!(rt; false),
+    let status = run_page(alloc, &mut source, &mut sink, options);
+    (status, page)
+}
+
+/// Whether a text tells one page that was delivered, and then just these lines.
+fn delivers(text: &[u8], lines: &[u8]) -> bool {
+    match text.strip_prefix(b"job 0 1728 standard 1 1 Delivered\n") {
+        Some(rows) => rows == lines,
+        None => false,
     }
+}
+
+/// A page of a thousand rows comes as it was sent.
+#[test]
+fn a_page_of_text(rt: HostRuntime) -> Result<(), Fail> {
+    let lines = lines_of_text(rt.alloc(), 500)?;
+    let (written, page) = page_of(rt.alloc(), lines.as_slice());
+    let (status, text) = run_over(&rt, rt.alloc(), page.as_slice(), 3);
+    let delivers = delivers(text.as_slice(), lines.as_slice());
+    assert!(rt; written == 0 && status == 0 && delivers);
     Ok(())
 }
 
@@ -115,29 +165,69 @@ fn socket_pair<R: Net>(net: &R) -> io::Result<(UdpSocket, UdpSocket)> {
     Ok((here, there))
 }
 
+/// Whether the next receive on a leg brings these octets.
+fn brings(wire: &mut UdpWire, side: Side, octets: &[u8]) -> bool {
+    let mut buffer = [0; 100];
+    match wire.receive(side, &mut buffer) {
+        Ok(Some(count)) => is_in_front(&buffer, count, octets),
+        _ => false,
+    }
+}
+
+/// Whether it brings none.
+fn brings_none(wire: &mut UdpWire, side: Side) -> bool {
+    wire.receive(side, &mut [0; 100]) == Ok(None)
+}
+
+/// Whether these octets come to a socket.
+fn comes_to(socket: &UdpSocket, octets: &[u8]) -> io::Result<bool> {
+    let mut buffer = [0; 100];
+    let count = socket.recv(&mut buffer)?;
+    Ok(is_in_front(&buffer, count, octets))
+}
+
+/// Whether so many octets in front of others are these.
+fn is_in_front(all: &[u8], count: usize, octets: &[u8]) -> bool {
+    match all.get(..count) {
+        Some(front) => front == octets,
+        None => false,
+    }
+}
+
+/// Whether datagrams go over a wire on their legs, to these peers and from them.
+fn goes_both_ways(
+    wire: &mut UdpWire,
+    caller: &UdpSocket,
+    answerer: &UdpSocket,
+) -> io::Result<bool> {
+    let begins_still = brings_none(wire, Side::Calling);
+    caller.send(b"first")?;
+    caller.send(b"")?;
+    answerer.send(b"third")?;
+    let calling_brings = brings(wire, Side::Calling, b"first")
+        && brings(wire, Side::Calling, b"")
+        && brings_none(wire, Side::Calling);
+    let called_brings = brings(wire, Side::Called, b"third");
+    let is_sent = wire.send(Side::Called, b"back") == Ok(()) && comes_to(answerer, b"back")?;
+    Ok(begins_still && calling_brings && called_brings && is_sent)
+}
+
+/// Whether a datagram of the called leg is sent, and the system tells of it at the next receive.
+fn is_told_of_a_loss(wire: &mut UdpWire) -> bool {
+    wire.send(Side::Called, b"lost") == Ok(())
+        && wire.receive(Side::Called, &mut [0; 100]) == Err(WireFault)
+}
+
 /// Datagrams go over a wire on their legs; a receive that fails is counted.
 #[test]
 fn a_wire_over_sockets(rt: HostRuntime) -> Result<(), Fail> {
     let (calling, caller) = socket_pair(&rt)?;
     let (called, answerer) = socket_pair(&rt)?;
     let mut wire = UdpWire::new(calling, called)?;
-    let mut buffer = [0; 100];
-    assert_eq!(rt; wire.receive(Side::Calling, &mut buffer), Ok(None));
-    caller.send(b"first")?;
-    caller.send(b"")?;
-    answerer.send(b"third")?;
-    assert_eq!(rt; wire.receive(Side::Calling, &mut buffer), Ok(Some(5)));
-    assert_eq!(rt; &buffer[..5], b"first".as_slice());
-    assert_eq!(rt; wire.receive(Side::Calling, &mut buffer), Ok(Some(0)));
-    assert_eq!(rt; wire.receive(Side::Calling, &mut buffer), Ok(None));
-    assert_eq!(rt; wire.receive(Side::Called, &mut buffer), Ok(Some(5)));
-    assert_eq!(rt; &buffer[..5], b"third".as_slice());
-    assert_eq!(rt; wire.send(Side::Called, b"back"), Ok(()));
-    assert_eq!(rt; answerer.recv(&mut buffer)?, 4);
-    assert_eq!(rt; &buffer[..4], b"back".as_slice());
+    let goes = goes_both_ways(&mut wire, &caller, &answerer);
     // where the peer is gone, the system tells it of the next datagram
     drop(answerer);
-    assert_eq!(rt; wire.send(Side::Called, b"lost"), Ok(()));
-    assert_eq!(rt; wire.receive(Side::Called, &mut buffer), Err(WireFault));
+    let is_told = is_told_of_a_loss(&mut wire);
+    assert!(rt; goes? && is_told);
     Ok(())
 }

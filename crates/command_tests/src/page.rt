@@ -2,7 +2,7 @@
 mod samples;
 
 use fax_bits::BitWriter;
-use fax_command::{Output, PageOptions, StdSink, StdSource, run_page};
+use fax_command::{Output, PageOptions, StdSink, StdSource, fault_of_streams, run_page};
 use fax_mhcode::write_line_1d;
 use fax_pagestore::{Coding, Format};
 use fax_runcodes::{Row, Width};
@@ -110,6 +110,21 @@ impl Write for Broken {
     }
 }
 
+/// A reader that gives an octet a time, so many times.
+#[derive(Drop)]
+struct Trickle(u32);
+
+impl Read for Trickle {
+    fn read(&mut self, buf: &mut [u8]) -> io::Result<usize> {
+        if self.0 == 0 || buf.is_empty() {
+            return Ok(0);
+        }
+        self.0 -= 1;
+        buf[0] = b' ';
+        Ok(1)
+    }
+}
+
 /// The exit status and the text of a run over a reader.
 fn run_over<R: Read + Drop>(alloc: Global, reader: R, options: PageOptions) -> (u8, Vec<u8>) {
     let mut text = Vec::new(alloc);
@@ -117,6 +132,25 @@ fn run_over<R: Read + Drop>(alloc: Global, reader: R, options: PageOptions) -> (
     let mut sink = StdSink::new(&mut text);
     let status = run_page(alloc, &mut source, &mut sink, options);
     (status, text)
+}
+
+/// The exit statuses of two runs over one source, and their text.
+fn run_twice(alloc: Global) -> ([u8; 2], Vec<u8>) {
+    let octets: &[u8] = b"0014d9a8008008008008008008\n";
+    let mut text = Vec::new(alloc);
+    let mut source = StdSource::new(octets);
+    let mut sink = StdSink::new(&mut text);
+    let first = run_page(alloc, &mut source, &mut sink, READ);
+    let second = run_page(alloc, &mut source, &mut sink, READ);
+    ([first, second], text)
+}
+
+/// The exit status of a run whose text can't be written.
+fn run_to(alloc: Global, writer: Broken) -> u8 {
+    let octets: &[u8] = b"0014d9a8008008008008008008\n";
+    let mut source = StdSource::new(octets);
+    let mut sink = StdSink::new(writer);
+    run_page(alloc, &mut source, &mut sink, READ)
 }
 
 /// That a run over an input ends with a status and writes a text.
@@ -128,8 +162,8 @@ fn expect_run(
     text: &[u8],
 ) {
     let (found_status, found_text) = run_over(rt.alloc(), input, options);
-    assert_eq!(rt; found_status, status, "at {input:?}");
-    assert_eq!(rt; found_text.as_slice(), text, "at {input:?}");
+    let is_run = found_status == status && found_text.as_slice() == text;
+    assert!(rt; is_run, "at {input:?}");
 }
 
 /// Text, so many times.
@@ -291,49 +325,70 @@ fn reads_may_fail(rt: HostRuntime) {
             reads_left: reads,
             interrupted: false,
         };
+        let (wanted, rows) = if reads < 28 { (4, "") } else { (0, "1728\n") };
         let (status, text) = run_over(rt.alloc(), reader, READ);
-        if reads < 28 {
-            assert_eq!(rt; status, 4, "after {reads} reads");
-            assert!(rt; text.is_empty());
-        } else {
-            assert_eq!(rt; status, 0, "after {reads} reads");
-            assert_eq!(rt; text.as_slice(), b"1728\n".as_slice());
-        }
+        let is_run = status == wanted && text.as_slice() == rows.as_bytes();
+        assert!(rt; is_run, "after {reads} reads");
     }
 }
 
 #[test]
 fn writes_may_fail(rt: HostRuntime) {
     for writes in [false, true] {
-        let octets: &[u8] = b"0014d9a8008008008008008008\n";
-        let mut source = StdSource::new(octets);
-        let mut sink = StdSink::new(Broken { writes });
-        let status = run_page(rt.alloc(), &mut source, &mut sink, READ);
-        assert_eq!(rt; status, 4);
+        assert!(rt; run_to(rt.alloc(), Broken { writes }) == 4);
     }
 }
 
 #[test]
 fn inputs_are_bounded(rt: HostRuntime) {
-    let (status, text) = run_over(rt.alloc(), Spaces(16_777_216), READ);
-    assert_eq!(rt; status, 1);
-    assert_eq!(rt; text.as_slice(), b"fault 1 NoEol\n".as_slice());
-    let (status, text) = run_over(rt.alloc(), Spaces(16_777_217), READ);
-    assert_eq!(rt; status, 4);
-    assert!(rt; text.is_empty());
+    for (spaces, wanted, told) in [(16_777_216, 1, "fault 1 NoEol\n"), (16_777_217, 4, "")] {
+        let (status, text) = run_over(rt.alloc(), Spaces(spaces), READ);
+        assert!(rt; status == wanted && text.as_slice() == told.as_bytes());
+    }
+}
+
+/// That a run from a reader to a writer fails, and its streams tell this.
+fn expect_failure<R: Read + Drop, W: Write + Drop>(
+    rt: &(impl Abort + AllocGlobal),
+    reader: R,
+    writer: W,
+    wanted: &str,
+) -> Result<(), Fail> {
+    let mut source = StdSource::new(reader);
+    let mut sink = StdSink::new(writer);
+    assert_eq!(rt; run_page(rt.alloc(), &mut source, &mut sink, READ), 4);
+    let fault = fault_of_streams(&source, &sink).ok_or("no fault")?;
+    let told = format!(in rt.alloc(); "{fault}")?;
+    assert_eq!(rt; told.as_str(), wanted);
+    Ok(())
+}
+
+/// The words of the system's errors are those of Rust.
+#[test]
+fn streams_tell_what_failed(rt: HostRuntime) -> Result<(), Fail> {
+    let unread = Halting {
+        octets: b"00",
+        at_once: 1,
+        reads_left: 1,
+        interrupted: false,
+    };
+    let read = "the input cannot be read: other error";
+    let written = "the standard output cannot be written: broken pipe";
+    let long = "the input has more than 16,777,216 octets";
+    let slow = "the input takes more than 1,048,576 reads";
+    expect_failure(&rt, unread, Broken { writes: true }, read)?;
+    expect_failure(&rt, Spaces(9), Broken { writes: false }, written)?;
+    expect_failure(&rt, Spaces(9), Broken { writes: true }, written)?;
+    expect_failure(&rt, Spaces(16_777_217), Broken { writes: true }, long)?;
+    expect_failure(&rt, Trickle(1_048_577), Broken { writes: true }, slow)?;
+    Ok(())
 }
 
 #[test]
 fn a_source_is_read_again(rt: HostRuntime) {
-    let octets: &[u8] = b"0014d9a8008008008008008008\n";
-    let mut text = Vec::new(rt.alloc());
-    let mut source = StdSource::new(octets);
-    let mut sink = StdSink::new(&mut text);
-    for status in [0, 1] {
-        let found = run_page(rt.alloc(), &mut source, &mut sink, READ);
-        assert_eq!(rt; found, status);
-    }
-    assert_eq!(rt; text.as_slice(), b"1728\nfault 1 NoEol\n".as_slice());
+    let (statuses, text) = run_twice(rt.alloc());
+    let wanted = b"1728\nfault 1 NoEol\n".as_slice();
+    assert!(rt; statuses == [0, 1] && text.as_slice() == wanted);
 }
 
 #[test]

@@ -1,7 +1,9 @@
 //! Scripts over streams in memory: whole calls, and what is wrong with a script.
 ghost use Rattle.std.specs.Prelude.{◌≤◌};
+ghost use Rattle.fax_gateway.specs.Setups.{AreAllowed};
 
 mod formats;
+mod memory;
 mod pauses;
 
 use fax_command::{StdSink, StdSource};
@@ -338,23 +340,21 @@ const TWO_PAGES: &[&str] = &[
 #[test]
 fn datagrams_repeat_as_many_packets_as_is_set(rt: HostRuntime) -> Result<(), Fail> {
     let script = script_of(rt.alloc(), &[STANDARD, TRAINS])?;
-    for (redundancy, wanted) in [
-        (0, "a 000101060000"),
-        (
-            8,
-            "a 000409c002800002ffc82140000401060cc002800005ffc80100775e4001060104",
-        ),
-    ] {
-        assert!(rt; redundancy <= 8);
-        let (status, text) = run_with(rt.alloc(), script.as_slice(), redundancy);
-        assert_eq!(rt; status, 0);
-        let mut lines = text.as_slice().split(|octet| *octet == b'\n');
-        assert!(rt;
-            lines.any(|line| line == wanted.as_bytes()),
-            "at {redundancy}"
-        );
-    }
+    let none = "a 000101060000";
+    let eight = "a 000409c002800002ffc82140000401060cc002800005ffc80100775e4001060104";
+    let tells = tells(rt.alloc(), script.as_slice(), 0, none)
+        && tells(rt.alloc(), script.as_slice(), 8, eight);
+    assert!(rt; tells);
     Ok(())
+}
+
+/// Whether a script is played to its end with this redundancy, and one of the lines that are told is this.
+fn tells(alloc: Global, script: &[u8], redundancy: u8, wanted: &str) -> bool
+    requires { redundancy ≤ 8 }
+{
+    let (status, text) = run_with(alloc, script, redundancy);
+    let mut lines = text.as_slice().split(|octet| *octet == b'\n');
+    status == 0 && lines.any(|line| line == wanted.as_bytes())
 }
 
 /// A caller whose call nobody answers is asked again after 3 seconds, and given up after 35.
@@ -402,8 +402,8 @@ fn texts_are_told(rt: HostRuntime) -> Result<(), Fail> {
         ("R\n\nR\n", 1, "ring 0\nfault line 2\n"),
     ] {
         let (found, told) = run_over(rt.alloc(), script.as_bytes());
-        assert_eq!(rt; found, status, "at {script:?}");
-        assert_eq!(rt; told.as_slice(), text.as_bytes(), "at {script:?}");
+        let is_told = found == status && told.as_slice() == text.as_bytes();
+        assert!(rt; is_told, "at {script:?}");
     }
     Ok(())
 }
@@ -438,12 +438,8 @@ fn lines_that_tell_no_event(rt: HostRuntime) {
         "T 18446744073709551616",
     ] {
         let (status, told) = run_over(rt.alloc(), line.as_bytes());
-        assert_eq!(rt; status, 1, "at {line:?}");
-        assert_eq!(rt;
-            told.as_slice(),
-            b"fault line 1\n".as_slice(),
-            "at {line:?}"
-        );
+        let is_fault = status == 1 && told.as_slice() == b"fault line 1\n".as_slice();
+        assert!(rt; is_fault, "at {line:?}");
     }
 }
 
@@ -456,15 +452,14 @@ fn run_over(alloc: Global, script: &[u8]) -> (u8, Vec<u8>) {
 fn run_with(alloc: Global, script: &[u8], redundancy: u8) -> (u8, Vec<u8>)
     requires { redundancy ≤ 8 }
 {
-    let mut text = Vec::new(alloc);
-    let mut source = StdSource::new(script);
-    let mut sink = StdSink::new(&mut text);
-    let settings = Settings {
-        redundancy,
-        preamble_ms: 40,
-    };
-    let status = run_trace(alloc, &mut source, &mut sink, settings);
-    (status, text)
+    run_set(
+        alloc,
+        script,
+        Settings {
+            redundancy,
+            preamble_ms: 40,
+        },
+    )
 }
 
 /// The same of the usual redundancy, and of this pause behind a preamble.
@@ -472,13 +467,23 @@ fn run_paused(alloc: Global, script: &[u8], preamble_ms: u16) -> (u8, Vec<u8>)
     requires least { 40 ≤ preamble_ms }
     requires most { preamble_ms ≤ 2000 }
 {
+    run_set(
+        alloc,
+        script,
+        Settings {
+            redundancy: 3,
+            preamble_ms,
+        },
+    )
+}
+
+/// The same of these settings.
+fn run_set(alloc: Global, script: &[u8], settings: Settings) -> (u8, Vec<u8>)
+    requires { AreAllowed settings }
+{
     let mut text = Vec::new(alloc);
     let mut source = StdSource::new(script);
     let mut sink = StdSink::new(&mut text);
-    let settings = Settings {
-        redundancy: 3,
-        preamble_ms,
-    };
     let status = run_trace(alloc, &mut source, &mut sink, settings);
     (status, text)
 }
@@ -492,10 +497,17 @@ fn expect_lines(
 ) -> Result<(), AllocError> {
     let script = script_of(rt.alloc(), parts)?;
     let (status, text) = run_over(rt.alloc(), script.as_slice());
-    assert_eq!(rt; status, 0);
+    // behind the last line feed there is nothing
+    let told = (lines.saturating_add(1), begin.len());
+    assert!(rt; status == 0 && told_in(text.as_slice(), begin) == told);
+    Ok(())
+}
+
+/// How many lines there are, and how many of these beginnings are found among them, in this order.
+fn told_in(text: &[u8], begin: &[&str]) -> (usize, usize) {
     let mut told = 0usize;
     let mut found = 0usize;
-    for line in text.as_slice().split(|octet| *octet == b'\n') {
+    for line in text.split(|octet| *octet == b'\n') {
         told = told.saturating_add(1);
         if begin
             .get(found)
@@ -504,21 +516,23 @@ fn expect_lines(
             found = found.saturating_add(1);
         }
     }
-    // behind the last line feed there is nothing
-    assert_eq!(rt; told, lines.saturating_add(1));
-    assert_eq!(rt; found, begin.len());
-    Ok(())
+    (told, found)
 }
 
 /// The script of some parts.
 fn script_of(alloc: Global, parts: &[&[Part]]) -> Result<Vec<u8>, AllocError> {
     let mut script = Vec::new(alloc);
+    push_parts(alloc, &mut script, parts)?;
+    Ok(script)
+}
+
+fn push_parts(alloc: Global, script: &mut Vec<u8>, parts: &[&[Part]]) -> Result<(), AllocError> {
     for some in parts {
         for part in *some {
-            push_part(alloc, &mut script, *part)?;
+            push_part(alloc, script, *part)?;
         }
     }
-    Ok(script)
+    Ok(())
 }
 
 fn push_part(alloc: Global, script: &mut Vec<u8>, part: Part) -> Result<(), AllocError> {

@@ -414,9 +414,14 @@ fn octets_of(control: u8, field: u8, info: [u8; 3]) -> [u8; 6] {
     [0xFF, control, field, first, second, third]
 }
 
+/// The frame that octets are.
+fn frame_of(octets: &[u8]) -> Option<Frame> {
+    Frame::read(octets)
+}
+
 /// The frame with this facsimile control field and three octets of information.
 fn read(field: u8, info: [u8; 3]) -> Option<Frame> {
-    Frame::read(&octets_of(0xC8, field, info))
+    frame_of(&octets_of(0xC8, field, info))
 }
 
 /// The DIS of these 24 bits.
@@ -456,7 +461,7 @@ fn frame_named(field: u8) -> Frame {
 fn our_dis_is_written(rt: HostRuntime) {
     let frame = write_dis(&OUR_DIS);
     assert!(rt; frame.as_slice() == b"\xFF\xC8\x01\x00\x77\x5E".as_slice());
-    assert!(rt; Frame::read(frame.as_slice()) == Some(Frame::Dis(OUR_DIS)));
+    assert!(rt; frame_of(frame.as_slice()) == Some(Frame::Dis(OUR_DIS)));
 }
 
 #[test]
@@ -471,25 +476,22 @@ fn dcs_are_chosen(rt: HostRuntime) {
             length: Length::A4,
             ..dcs
         };
-        assert!(rt; Frame::read(octets) == Some(Frame::Dcs(read_dcs)));
+        assert!(rt; frame_of(octets) == Some(Frame::Dcs(read_dcs)));
     }
+}
+
+/// Whether a DCS has this time for a row, these least bits and this format.
+fn has_times(dcs: Dcs, scan_ms: u8, least_bits: u32, format: Format) -> bool {
+    dcs.scan_ms == scan_ms && dcs.least_bits() == least_bits && dcs.format() == format
 }
 
 #[test]
 fn times_are_those_of_the_resolution(rt: HostRuntime) {
     let standard = chosen(&rt, 0x00_42_06, STANDARD, 0);
-    assert!(rt; standard.scan_ms == 10);
-    assert!(rt; standard.least_bits() == 24);
-    assert!(rt; standard.format() == STANDARD);
-    assert!(rt; standard.coding() == Coding::Mh);
-    let fine = chosen(&rt, 0x00_42_06, FINE, 0);
-    assert!(rt; fine.scan_ms == 5);
-    assert!(rt; fine.least_bits() == 12);
-    assert!(rt; fine.format() == FINE);
+    assert!(rt; has_times(standard, 10, 24, STANDARD) && standard.coding() == Coding::Mh);
+    assert!(rt; has_times(chosen(&rt, 0x00_42_06, FINE, 0), 5, 12, FINE));
     let ours = chosen(&rt, 0x00_77_5E, WIDEST, 0);
-    assert!(rt; ours.least_bits() == 0);
-    assert!(rt; ours.coding() == Coding::Mr);
-    assert!(rt; ours.format() == WIDEST);
+    assert!(rt; has_times(ours, 0, 0, WIDEST) && ours.coding() == Coding::Mr);
 }
 
 #[test]
@@ -525,8 +527,9 @@ fn refusals_have_numbers(rt: HostRuntime) {
 fn fields_name_frames(rt: HostRuntime) {
     for field in 0..=255 {
         let frame = frame_named(field);
-        assert!(rt; read(field, [0, 0, 0]) == Some(frame));
-        assert!(rt; Frame::read(&octets_of(0xC0, field, [0, 0, 0])) == Some(frame));
+        let is_read = read(field, [0, 0, 0]) == Some(frame)
+            && frame_of(&octets_of(0xC0, field, [0, 0, 0])) == Some(frame);
+        assert!(rt; is_read);
     }
 }
 
@@ -534,14 +537,14 @@ fn fields_name_frames(rt: HostRuntime) {
 fn plain_frames_are_written(rt: HostRuntime) {
     for (plain, got_dis, octets, frame) in PLAIN_FRAMES {
         assert!(rt; write_plain(*plain, *got_dis).as_slice() == *octets);
-        assert!(rt; Frame::read(octets) == Some(*frame));
+        assert!(rt; frame_of(octets) == Some(*frame));
     }
 }
 
 #[test]
 fn octets_are_read(rt: HostRuntime) {
     for (name, octets, frame) in READINGS {
-        assert!(rt; Frame::read(octets) == *frame, "{name}");
+        assert!(rt; frame_of(octets) == *frame, "{name}");
     }
 }
 
@@ -555,8 +558,9 @@ fn rates_of_a_dcs(rt: HostRuntime) {
             }),
             None => Frame::Other,
         };
-        assert!(rt; read(0x41, [0x00, *second, 0x00]) == Some(frame));
-        assert!(rt; read(0xC1, [0x00, *second | 0x40, 0x00]) == Some(frame));
+        let is_read = read(0x41, [0x00, *second, 0x00]) == Some(frame)
+            && read(0xC1, [0x00, *second | 0x40, 0x00]) == Some(frame);
+        assert!(rt; is_read);
     }
 }
 
@@ -585,9 +589,12 @@ fn rates_of_a_dis(rt: HostRuntime) {
 fn widths_of_a_dis(rt: HostRuntime) {
     for (third, wider, widest) in DIS_WIDTHS {
         let dis = dis_of(*third);
-        assert!(rt; dis.has_width(Width::W1728));
-        assert!(rt; dis.has_width(Width::W2048) == *wider);
-        assert!(rt; dis.has_width(Width::W2432) == *widest);
+        let has = [
+            dis.has_width(Width::W1728),
+            dis.has_width(Width::W2048),
+            dis.has_width(Width::W2432),
+        ];
+        assert!(rt; has == [true, *wider, *widest]);
     }
 }
 
@@ -602,8 +609,7 @@ fn lengths_of_a_dis(rt: HostRuntime) {
 fn times_of_a_dis(rt: HostRuntime) {
     for (third, standard_ms, fine_ms) in DIS_TIMES {
         let dis = dis_of(*third);
-        assert!(rt; dis.scan_ms(false) == *standard_ms);
-        assert!(rt; dis.scan_ms(true) == *fine_ms);
+        assert!(rt; [dis.scan_ms(false), dis.scan_ms(true)] == [*standard_ms, *fine_ms]);
     }
 }
 
@@ -611,28 +617,25 @@ fn times_of_a_dis(rt: HostRuntime) {
 fn flags_of_a_dis(rt: HostRuntime) {
     for (bits, receiver, fine, two_d) in DIS_FLAGS {
         let dis = dis_of(*bits);
-        assert!(rt; dis.is_receiver() == *receiver);
-        assert!(rt; dis.has_fine() == *fine);
-        assert!(rt; dis.has_two_d() == *two_d);
+        let flags = [dis.is_receiver(), dis.has_fine(), dis.has_two_d()];
+        assert!(rt; flags == [*receiver, *fine, *two_d]);
     }
 }
 
 #[test]
 fn caps_are_flags(rt: HostRuntime) {
     let caps = dis_of(0x00_77_5E).caps;
-    assert!(rt; caps == OUR_DIS.caps);
-    assert!(rt; caps.contains(Caps::RECEIVER | Caps::WIDTH_2432 | Caps::LENGTH_UNLIMITED));
-    assert!(rt; !caps.contains(Caps::EXTEND));
-    assert!(rt; caps.bits() == 0x00_77_5E);
+    assert!(rt; caps == OUR_DIS.caps && caps.bits() == 0x00_77_5E);
+    let has_some = caps.contains(Caps::RECEIVER | Caps::WIDTH_2432 | Caps::LENGTH_UNLIMITED);
+    assert!(rt; has_some && !caps.contains(Caps::EXTEND));
     assert!(rt; Caps::flags().len() == 15);
 }
 
 #[test]
 fn rates_have_their_numbers(rt: HostRuntime) {
     for (rate, bits, short, long, kind) in RATES {
-        assert!(rt; rate.bits() == *bits);
-        assert!(rt; rate.training(false) == *short);
-        assert!(rt; rate.training(true) == *long);
-        assert!(rt; rate.kind() == *kind);
+        let trainings = [rate.training(false), rate.training(true)];
+        assert!(rt; trainings == [*short, *long]);
+        assert!(rt; rate.bits() == *bits && rate.kind() == *kind);
     }
 }

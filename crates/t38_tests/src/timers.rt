@@ -1,5 +1,58 @@
 //! Moments of a call, and the end of the range.
-use fax_timers::{Clock, Pace, T1_MS, T2_MS, T4_MS, Timer};
+use fax_timers::{Clock, Pace, T1_MS, T2_MS, T4_MS, Timer, earlier};
+
+/// At which moment a timer is set for how many milliseconds, another moment, and whether it is due then.
+const SET: [(u64, u64, u64, bool); 11] = [
+    (1000, T2_MS, 0, false),
+    (1000, T2_MS, 1000, false),
+    (1000, T2_MS, 6999, false),
+    (1000, T2_MS, 7000, true),
+    (1000, T2_MS, 7001, true),
+    (7000, T4_MS, 9999, false),
+    (7000, T4_MS, 10_000, true),
+    (10_000, T1_MS, 44_999, false),
+    (10_000, T1_MS, 45_000, true),
+    (10, 5, 14, false),
+    (10, 5, 15, true),
+];
+
+/// The same at the end of the range.
+const SET_LAST: [(u64, u64, u64, bool); 5] = [
+    (u64::MAX - 5, 6000, u64::MAX - 1, false),
+    (u64::MAX - 5, 6000, u64::MAX, true),
+    (u64::MAX - 1, 5, u64::MAX - 1, false),
+    (u64::MAX - 1, 5, u64::MAX, true),
+    (0, 0, 0, true),
+];
+
+/// The moment at which a packet is given, two others, and what is shown behind it.
+const GIVEN: [(u64, [u64; 2], (Option<u64>, bool, bool)); 5] = [
+    (1000, [0, 1000], (Some(1040), false, false)),
+    (1000, [1039, 1040], (Some(1040), false, true)),
+    (1000, [1039, u64::MAX], (Some(1040), false, true)),
+    (
+        u64::MAX - 40,
+        [u64::MAX - 1, u64::MAX],
+        (Some(u64::MAX), false, true),
+    ),
+    (u64::MAX - 39, [0, u64::MAX], (None, false, false)),
+];
+
+/// From when on a pace lets a packet through, and whether it does at these moments.
+fn shown(pace: &Pace, first: u64, second: u64) -> (Option<u64>, bool, bool) {
+    (pace.allowed_from(), pace.allows(first), pace.allows(second))
+}
+
+/// The same behind a packet that is given at a moment.
+fn shown_behind(pace: &mut Pace, at: u64, first: u64, second: u64) -> (Option<u64>, bool, bool) {
+    pace.given(false, at);
+    shown(pace, first, second)
+}
+
+/// The moment of a timer, and whether it is due at the first one and at the last.
+fn ends_of(timer: &Timer) -> (Option<u64>, bool, bool) {
+    (timer.moment(), timer.due(0), timer.due(u64::MAX))
+}
 
 #[test]
 fn clocks_never_go_back(rt: HostRuntime) {
@@ -15,71 +68,52 @@ fn clocks_never_go_back(rt: HostRuntime) {
         (u64::MAX, u64::MAX),
         (7, u64::MAX),
     ] {
-        assert_eq!(rt; clock.read(now), moment);
+        assert!(rt; clock.read(now) == moment);
     }
 }
 
 #[test]
 fn timers_fall_due(rt: HostRuntime) {
     let mut timer = Timer::new();
-    assert!(rt; !timer.due(0));
-    assert!(rt; !timer.due(u64::MAX));
-    timer.set(1000, T2_MS);
-    for (now, due) in [
-        (0, false),
-        (1000, false),
-        (6999, false),
-        (7000, true),
-        (7001, true),
-    ] {
-        assert_eq!(rt; timer.due(now), due);
+    assert!(rt; ends_of(&timer) == (None, false, false));
+    for (at, ms, now, due) in SET {
+        timer.set(at, ms);
+        assert!(rt; timer.due(now) == due);
     }
-    timer.set(7000, T4_MS);
-    assert!(rt; !timer.due(9999));
-    assert!(rt; timer.due(10_000));
-    timer.set(10_000, T1_MS);
-    assert!(rt; !timer.due(44_999));
-    assert!(rt; timer.due(45_000));
-    timer.set(10, 5);
-    assert!(rt; !timer.due(14));
-    assert!(rt; timer.due(15));
+    assert!(rt; timer.moment() == Some(15));
     timer.clear();
-    assert!(rt; !timer.due(u64::MAX));
+    assert!(rt; ends_of(&timer) == (None, false, false));
 }
 
 #[test]
 fn moments_stop_at_the_last_one(rt: HostRuntime) {
     let mut timer = Timer::new();
-    for (now, ms) in [(u64::MAX - 5, 6000), (u64::MAX - 1, 5)] {
-        timer.set(now, ms);
-        assert!(rt; !timer.due(u64::MAX - 1));
-        assert!(rt; timer.due(u64::MAX));
+    for (at, ms, now, due) in SET_LAST {
+        timer.set(at, ms);
+        assert!(rt; timer.due(now) == due);
     }
-    timer.set(0, 0);
-    assert!(rt; timer.due(0));
+}
+
+#[test]
+fn the_earlier_moment(rt: HostRuntime) {
+    for (one, other, first) in [
+        (None, None, None),
+        (Some(5), None, Some(5)),
+        (None, Some(5), Some(5)),
+        (Some(3), Some(5), Some(3)),
+        (Some(5), Some(3), Some(3)),
+    ] {
+        assert_eq!(rt; earlier(one, other), first);
+    }
 }
 
 #[test]
 fn packets_are_40_milliseconds_apart(rt: HostRuntime) {
     let mut pace = Pace::new(1000);
-    assert!(rt; pace.allows(0));
-    assert!(rt; pace.allows(u64::MAX));
-    pace.given(false, 1000);
-    for (now, allowed) in [
-        (0, false),
-        (1000, false),
-        (1039, false),
-        (1040, true),
-        (u64::MAX, true),
-    ] {
-        assert_eq!(rt; pace.allows(now), allowed);
+    assert!(rt; shown(&pace, 0, u64::MAX) == (Some(0), true, true));
+    for (at, [first, second], wanted) in GIVEN {
+        assert!(rt; shown_behind(&mut pace, at, first, second) == wanted);
     }
-    pace.given(false, u64::MAX - 40);
-    assert!(rt; !pace.allows(u64::MAX - 1));
-    assert!(rt; pace.allows(u64::MAX));
-    pace.given(false, u64::MAX - 39);
-    assert!(rt; !pace.allows(0));
-    assert!(rt; !pace.allows(u64::MAX));
 }
 
 #[test]
@@ -98,9 +132,9 @@ fn the_packet_behind_a_preamble_waits_for_the_pause(rt: HostRuntime) {
     ] {
         let mut pace = Pace::new(pause);
         pace.given(true, at);
-        assert_eq!(rt; pace.allows(now), allowed, "a pause of {pause}");
+        assert!(rt; pace.allows(now) == allowed, "a pause of {pause}");
         pace.given(false, 0);
-        assert!(rt; !pace.allows(39));
-        assert!(rt; pace.allows(40));
+        let (_, early, late) = shown(&pace, 39, 40);
+        assert!(rt; !early && late);
     }
 }

@@ -172,9 +172,9 @@ fn expect_slots(
     let Ok(decided) = receiver.take(octets) else {
         rt.abort()
     };
-    assert!(rt; decided.from() == from);
-    assert!(rt; decided.lost() == lost);
-    assert!(rt; decided.is_empty() == (lost == 0 && wanted.is_empty()));
+    let is_empty = lost == 0 && wanted.is_empty();
+    let is_decided = decided.from() == from && decided.lost() == lost;
+    assert!(rt; is_decided && decided.is_empty() == is_empty);
     expect_packets(rt, decided.packets(), wanted);
     expect_packets(rt, decided.packets(), wanted);
 }
@@ -201,8 +201,7 @@ fn reads_a_number_and_packets(rt: HostRuntime) {
     let Ok(datagram) = read(b"\x01\x02\x01\x08\x00\x02\x01\x06\x02\x04\x05") else {
         rt.abort()
     };
-    assert!(rt; datagram.number() == 0x0102);
-    assert!(rt; datagram.primary() == b"\x08".as_slice());
+    assert!(rt; datagram.number() == 0x0102 && datagram.primary() == b"\x08".as_slice());
     expect_secondaries(&rt, datagram.secondaries(), &[b"\x06", b"\x04\x05"]);
     expect_secondaries(&rt, datagram.secondaries(), &[b"\x06", b"\x04\x05"]);
 }
@@ -213,8 +212,8 @@ fn reads_no_error_correction_and_no_rest(rt: HostRuntime) {
         let Ok(datagram) = read(octets) else {
             rt.abort()
         };
-        assert!(rt; datagram.number() == 5);
-        assert!(rt; datagram.primary() == b"\x06".as_slice());
+        let is_read = datagram.number() == 5 && datagram.primary() == b"\x06".as_slice();
+        assert!(rt; is_read);
         expect_secondaries(&rt, datagram.secondaries(), &[]);
     }
 }
@@ -396,12 +395,11 @@ fn takes_the_longest_datagram(rt: HostRuntime) -> Result<(), Fail> {
     let Ok(decided) = Receiver::new().take(octets.as_slice()) else {
         rt.abort()
     };
-    assert!(rt; decided.from() == 0xd23d);
-    assert!(rt; decided.lost() == 0);
+    assert!(rt; decided.from() == 0xd23d && decided.lost() == 0);
     // the primary comes behind these
-    assert!(rt; places_left(16_375, decided.packets()) == 0);
+    let left = places_left(16_375, decided.packets());
+    assert!(rt; left == 0 && count_of(decided.packets()) == 16_376);
     assert!(rt; decided.packets().last() == Some(b"\x06".as_slice()));
-    assert!(rt; count_of(decided.packets()) == 16_376);
     Ok(())
 }
 
@@ -493,8 +491,7 @@ fn expect_front(
     assert!(rt; packet.len() <= 16_383);
     let sent = Sender::new(alloc, 3)?.send(packet)?;
     let octets = sent.as_slice();
-    assert!(rt; octets.starts_with(front));
-    assert!(rt; octets.len() == length);
+    assert!(rt; octets.starts_with(front) && octets.len() == length);
     let Ok(datagram) = read(octets) else {
         rt.abort()
     };
@@ -516,22 +513,16 @@ fn writes_lengths_of_one_and_two_octets(rt: HostRuntime) -> Result<(), Fail> {
 #[test]
 fn sends_into_room_that_is_there(rt: HostRuntime) -> Result<(), Fail> {
     let mut sender = Sender::new(rt.alloc(), 3)?;
-    let sent = sender.send(b"\x06")?;
-    assert_eq!(rt; sent.as_slice(), b"\x00\x00\x01\x06\x00\x00".as_slice());
+    let first = b"\x00\x00\x01\x06\x00\x00";
+    expect_datagram(&rt, &mut sender, b"\x06", first)?;
     // room for more than is sent, and then for less
     sender.reserve(200)?;
     sender.reserve(1)?;
-    let sent = sender.send(b"\x08\x09")?;
-    assert_eq!(rt;
-        sent.as_slice(),
-        b"\x00\x01\x02\x08\x09\x00\x01\x01\x06".as_slice()
-    );
+    let second = b"\x00\x01\x02\x08\x09\x00\x01\x01\x06";
+    expect_datagram(&rt, &mut sender, b"\x08\x09", second)?;
     sender.reserve(0)?;
-    let sent = sender.send(b"\x04")?;
-    assert_eq!(rt;
-        sent.as_slice(),
-        b"\x00\x02\x01\x04\x00\x02\x02\x08\x09\x01\x06".as_slice()
-    );
+    let third = b"\x00\x02\x01\x04\x00\x02\x02\x08\x09\x01\x06";
+    expect_datagram(&rt, &mut sender, b"\x04", third)?;
     Ok(())
 }
 
@@ -583,8 +574,8 @@ fn expect_side(
         let Ok(decided) = receiver.take(octets.as_slice()) else {
             rt.abort()
         };
-        assert!(rt; usize::from(decided.from()) == decided_so_far);
-        assert!(rt; decided.lost() == 0);
+        let goes_on = usize::from(decided.from()) == decided_so_far && decided.lost() == 0;
+        assert!(rt; goes_on);
         decided_so_far = decided_so_far.saturating_add(count_of(decided.packets()));
     }
     assert!(rt; decided_so_far == packets);

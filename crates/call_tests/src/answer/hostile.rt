@@ -161,6 +161,25 @@ fn go_on(leg: &mut Leg) -> Result<(), NoMemory> {
     Ok(())
 }
 
+/// The datagrams of the call come, and other octets in the place of one.
+fn hear_all(leg: &mut Leg, place: usize, octets: &[u8]) -> Result<(), NoMemory> {
+    for (number, (head, zeros, tail)) in DATAGRAMS.iter().enumerate() {
+        if number == place {
+            hear(leg, octets)?;
+        } else {
+            let datagram = leg.text(head, *zeros, tail)?;
+            hear(leg, datagram.as_slice())?;
+        }
+    }
+    Ok(())
+}
+
+/// Whether no page is confirmed at the end of time.
+fn ends_still(leg: &mut Leg) -> Result<bool, NoMemory> {
+    let late = leg.tick(u64::MAX)?;
+    Ok(late.confirmed.is_none())
+}
+
 /// How many pages are confirmed in a call with one page in which other octets come in the place of a datagram.
 fn pages_with(
     rt: &impl Abort,
@@ -169,16 +188,8 @@ fn pages_with(
     octets: &[u8],
 ) -> Result<u32, NoMemory> {
     let mut leg = play(rt, alloc, &[ANSWERED])?;
-    for (number, (head, zeros, tail)) in DATAGRAMS.iter().enumerate() {
-        if number == place {
-            hear(&mut leg, octets)?;
-        } else {
-            let datagram = leg.text(head, *zeros, tail)?;
-            hear(&mut leg, datagram.as_slice())?;
-        }
-    }
-    let late = leg.tick(u64::MAX)?;
-    assert!(rt; late.confirmed.is_none());
+    hear_all(&mut leg, place, octets)?;
+    assert!(rt; ends_still(&mut leg)?);
     Ok(leg.pages)
 }
 
@@ -190,10 +201,10 @@ fn expect_whole_datagram(
     datagram: &[u8],
 ) -> Result<(), NoMemory> {
     let pages = pages_with(rt, alloc, place, datagram)?;
-    assert_eq!(rt; pages, 1, "the datagram {place}");
+    assert!(rt; pages == 1, "the datagram {place}");
     for length in 0..datagram.len() {
         let pages = pages_with(rt, alloc, place, &datagram[..length])?;
-        assert_eq!(rt; pages, 0, "{length} octets of the datagram {place}");
+        assert!(rt; pages == 0, "{length} octets of the datagram {place}");
     }
     Ok(())
 }
@@ -209,7 +220,7 @@ fn expect_whole_packet(
     for length in 0..packet.len() {
         let datagram = datagram_of(alloc, number, &packet[..length])?;
         let pages = pages_with(rt, alloc, place, datagram.as_slice())?;
-        assert_eq!(rt; pages, 0, "{length} octets of the packet {place}");
+        assert!(rt; pages == 0, "{length} octets of the packet {place}");
     }
     Ok(())
 }

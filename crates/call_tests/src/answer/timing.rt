@@ -12,9 +12,11 @@ const CALLS: &[Call] = &[
         scripts: &[
             ANSWERED,
             &[
+                Event::Due(Some(3080)),
                 Event::AllQuiet(120, 3040),
                 Event::Quiet(3079),
                 Event::Gives(3080, PREAMBLE),
+                Event::Due(Some(3120)),
                 Event::Gives(3120, DIS),
                 Event::AllQuiet(3160, 6080),
                 Event::Stands(State::Identify),
@@ -28,6 +30,7 @@ const CALLS: &[Call] = &[
             &[
                 Event::Gives(35_000, PREAMBLE),
                 Event::Ends(35_040, DCN),
+                Event::Due(None),
                 Event::AllQuiet(35_080, 80_000),
                 Event::Stands(State::Idle),
             ],
@@ -42,6 +45,7 @@ const CALLS: &[Call] = &[
             EOP,
             CONFIRMED,
             &[
+                Event::Due(Some(6240)),
                 Event::AllQuiet(280, 6200),
                 Event::Quiet(6239),
                 Event::Gives(6240, PREAMBLE),
@@ -132,6 +136,7 @@ const CALLS: &[Call] = &[
                 Event::Gives(35_000, PREAMBLE),
                 Event::Ends(35_040, DCN),
                 Event::Ring(35_050),
+                Event::Due(Some(35_080)),
                 Event::Quiet(0),
                 Event::Quiet(29),
                 Event::Gives(30, CED),
@@ -142,13 +147,14 @@ const CALLS: &[Call] = &[
     Call {
         name: "ticks at the end of time",
         scripts: &[
-            &[Event::Quiet(u64::MAX)],
+            &[Event::Due(None), Event::Quiet(u64::MAX)],
             ANSWERED,
             &[
                 Event::Gives(u64::MAX, PREAMBLE),
                 Event::Quiet(u64::MAX),
                 Event::Comes("00000cc002800005ffc8c1004000400000"),
                 Event::Quiet(u64::MAX),
+                Event::Due(None),
                 Event::Stands(State::Closing),
             ],
         ],

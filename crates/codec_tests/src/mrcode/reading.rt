@@ -67,21 +67,26 @@ const FAULTS: [(&[u16], &[u8], u128, LineFault); 13] = [
     (&[1728], &[0x26, 0xb3], 13, LineFault::BadPlace),
 ];
 
+/// What a call answers, and where the reader stands then.
+type Answer = (Result<(), LineFault>, u128);
+
 /// Reads a line against the row of such runs into a builder that is cleared before.
 fn read_into(
     line: &mut RowBuilder,
-    reader: &mut BitReader,
     alloc: Global,
     runs: &[u16],
-) -> Result<Result<(), LineFault>, RowFault> {
+    octets: &[u8],
+) -> Result<Answer, RowFault> {
     let reference = Row::from_runs(alloc, runs)?;
+    let mut reader = BitReader::new(octets);
     line.clear();
-    Ok(read_line_2d_into(line, reader, &reference.lend()))
+    let result = read_line_2d_into(line, &mut reader, &reference.lend());
+    Ok((result, reader.place()))
 }
 
 /// The row of 1728 elements that a builder has.
 fn row_of(rt: &impl Abort, line: &RowBuilder) -> Result<Row, NoMemory> {
-    assert_eq!(rt; line.len(), 1728);
+    assert!(rt; line.len() == 1728);
     line.row()
 }
 
@@ -95,8 +100,7 @@ fn expect_line(
     changes: &[u16],
 ) -> Result<Row, LineFault> {
     let row = read_line_2d(alloc, reader, reference)?;
-    assert_eq!(rt; reader.place(), place);
-    assert_eq!(rt; row.changes(), changes);
+    assert!(rt; reader.place() == place && row.changes() == changes);
     Ok(row)
 }
 
@@ -104,12 +108,12 @@ fn expect_line(
 fn reads_line_after_line_into_one_builder(rt: HostRuntime) -> Result<(), Fail> {
     let mut line = RowBuilder::new(rt.alloc())?;
     for (runs, octets, bits, changes) in LINES {
-        let mut reader = BitReader::new(octets);
-        let result = read_into(&mut line, &mut reader, rt.alloc(), runs)?;
-        assert_eq!(rt; result, Ok(()), "at {octets:?}");
-        assert_eq!(rt; reader.place(), bits, "at {octets:?}");
+        let read = read_into(&mut line, rt.alloc(), runs, octets)?;
         let row = row_of(&rt, &line)?;
-        assert_eq!(rt; row.changes(), changes, "at {octets:?}");
+        assert!(rt;
+            read == (Ok(()), bits) && row.changes() == changes,
+            "at {octets:?}"
+        );
     }
     Ok(())
 }
@@ -118,11 +122,8 @@ fn reads_line_after_line_into_one_builder(rt: HostRuntime) -> Result<(), Fail> {
 fn says_why_it_reads_no_line(rt: HostRuntime) -> Result<(), Fail> {
     let mut line = RowBuilder::new(rt.alloc())?;
     for (runs, octets, _, fault) in FAULTS {
-        let mut reader = BitReader::new(octets);
-        let result = read_into(&mut line, &mut reader, rt.alloc(), runs)?;
-        assert_eq!(rt; result, Err(fault), "at {octets:?}");
-        assert_eq!(rt; reader.place(), 0, "at {octets:?}");
-        assert_eq!(rt; line.len(), 0, "at {octets:?}");
+        let read = read_into(&mut line, rt.alloc(), runs, octets)?;
+        assert!(rt; read == (Err(fault), 0) && line.len() == 0, "at {octets:?}");
     }
     Ok(())
 }
@@ -134,23 +135,35 @@ fn reads_rows_of_their_own(rt: HostRuntime) -> Result<(), Fail> {
     let mut reader = BitReader::new(&[0x09, 0x78, 0x30]);
     let first = Row::from_runs(rt.alloc(), &[4, 1, 1723])?;
     let second = expect_line(&rt, rt.alloc(), &mut reader, &first, 10, &[2, 4])?;
-    assert_eq!(rt; second.width(), 1728);
-    expect_line(&rt, rt.alloc(), &mut reader, &second, 13, &[2, 4])?;
-    let white = Row::from_runs(rt.alloc(), &[2432])?;
-    let fault = read_line_2d(rt.alloc(), &mut reader, &white).err();
-    assert_eq!(rt; fault, Some(LineFault::BadPlace));
-    assert_eq!(rt; reader.place(), 13);
+    let third = expect_line(&rt, rt.alloc(), &mut reader, &second, 13, &[2, 4])?;
+    assert!(rt; second.width() == 1728 && third.width() == 1728);
+    let fault = fault_behind_white(rt.alloc(), &mut reader)?;
+    assert!(rt; fault == Some(LineFault::BadPlace) && reader.place() == 13);
     Ok(())
+}
+
+/// Why no line is read behind a white row of 2432 elements.
+fn fault_behind_white(
+    alloc: Global,
+    reader: &mut BitReader,
+) -> Result<Option<LineFault>, RowFault> {
+    let white = Row::from_runs(alloc, &[2432])?;
+    Ok(read_line_2d(alloc, reader, &white).err())
+}
+
+/// Passes a line against the row of such runs, and says where the reader stands then.
+fn pass(alloc: Global, runs: &[u16], octets: &[u8]) -> Result<Answer, RowFault> {
+    let reference = Row::from_runs(alloc, runs)?;
+    let mut reader = BitReader::new(octets);
+    let result = pass_line_2d(&mut reader, &reference.lend());
+    Ok((result, reader.place()))
 }
 
 #[test]
 fn passes_lines_without_their_rows(rt: HostRuntime) -> Result<(), Fail> {
     for (runs, octets, bits, _) in LINES {
-        let reference = Row::from_runs(rt.alloc(), runs)?;
-        let mut reader = BitReader::new(octets);
-        let result = pass_line_2d(&mut reader, &reference.lend());
-        assert_eq!(rt; result, Ok(()), "at {octets:?}");
-        assert_eq!(rt; reader.place(), bits, "at {octets:?}");
+        let passed = pass(rt.alloc(), runs, octets)?;
+        assert!(rt; passed == (Ok(()), bits), "at {octets:?}");
     }
     Ok(())
 }
@@ -158,13 +171,16 @@ fn passes_lines_without_their_rows(rt: HostRuntime) -> Result<(), Fail> {
 #[test]
 fn says_why_it_passes_no_line(rt: HostRuntime) -> Result<(), Fail> {
     for (runs, octets, bits, fault) in FAULTS {
-        let reference = Row::from_runs(rt.alloc(), runs)?;
-        let mut reader = BitReader::new(octets);
-        let result = pass_line_2d(&mut reader, &reference.lend());
-        assert_eq!(rt; result, Err(fault), "at {octets:?}");
-        assert_eq!(rt; reader.place(), bits, "at {octets:?}");
+        let passed = pass(rt.alloc(), runs, octets)?;
+        assert!(rt; passed == (Err(fault), bits), "at {octets:?}");
     }
     Ok(())
+}
+
+/// Passes a line against a row, and says where the reader stands then.
+fn pass_behind(reader: &mut BitReader, row: &Row) -> Answer {
+    let result = pass_line_2d(reader, &row.lend());
+    (result, reader.place())
 }
 
 #[test]
@@ -172,12 +188,12 @@ fn passes_line_after_line(rt: HostRuntime) -> Result<(), Fail> {
     // Against a white row V0, then horizontal with white 0 and black 3 and V0, then pass to the width.
     let white = Row::from_runs(rt.alloc(), &[1728])?;
     let mut reader = BitReader::new(&[0x93, 0x5a, 0x20]);
-    assert_eq!(rt; pass_line_2d(&mut reader, &white.lend()), Ok(()));
-    assert_eq!(rt; reader.place(), 1);
-    assert_eq!(rt; pass_line_2d(&mut reader, &white.lend()), Ok(()));
-    assert_eq!(rt; reader.place(), 15);
-    let fault = pass_line_2d(&mut reader, &white.lend());
-    assert_eq!(rt; fault, Err(LineFault::BadPlace));
-    assert_eq!(rt; reader.place(), 15);
+    let passed = [
+        pass_behind(&mut reader, &white),
+        pass_behind(&mut reader, &white),
+        pass_behind(&mut reader, &white),
+    ];
+    let wanted = [(Ok(()), 1), (Ok(()), 15), (Err(LineFault::BadPlace), 15)];
+    assert!(rt; passed == wanted);
     Ok(())
 }

@@ -191,7 +191,7 @@ fn expect_line(
     let reference = Row::from_runs(alloc, reference)?;
     let row = Row::from_runs(alloc, runs)?;
     let octets = octets_of_line(rt, alloc, &reference, &row)?;
-    assert_eq!(rt; octets.as_slice(), want, "at {runs:?}");
+    assert!(rt; octets.as_slice() == want, "at {runs:?}");
     Ok(())
 }
 
@@ -283,6 +283,6 @@ fn writes_a_lent_row(rt: HostRuntime) -> Result<(), Fail> {
     let row = Row::from_runs(rt.alloc(), &[2, 2, 1724])?;
     let octets = octets_of_lent_line(&rt, rt.alloc(), &reference.lend(), &row.lend())?;
     // 101, VL2, VL1, V0
-    assert_eq!(rt; octets.as_slice(), [0xa1, 0x28].as_slice());
+    assert!(rt; octets.as_slice() == [0xa1, 0x28].as_slice());
     Ok(())
 }

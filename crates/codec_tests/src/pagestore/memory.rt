@@ -3,7 +3,7 @@
 ghost use Rattle.std.specs.Prelude.{◌≡◌, IfOk};
 ghost use Rattle.fax_pagestore.specs.Readers.{mark_of};
 
-use fax_bits::NoMemory;
+use fax_bits::{NoMemory, Octets};
 use fax_pagestore::{
     Coding, Format, Mark, PackedRows, Page, PageFault, PageReader, PageWriter, RowStore,
 };
@@ -36,6 +36,38 @@ fn mark_again(reader: &PageReader<PackedRows>, refused: &mut u32) -> Result<Mark
     }
 }
 
+/// Feeds a piece, once more where that is refused memory, which is counted and changes nothing.
+fn feed_again(
+    rt: &impl Abort,
+    reader: &mut PageReader<PackedRows>,
+    piece: &[u8],
+    refused: &mut u32,
+) -> Result<(), PageFault> {
+    let before = reader.check();
+    if reader.feed(piece).is_err() {
+        *refused = refused.saturating_add(1);
+        assert!(rt; reader.check() == before);
+        reader.feed(piece)?;
+    }
+    Ok(())
+}
+
+/// All of the page comes once more, and is taken back. What is refused memory is counted.
+fn feed_and_take_back(
+    reader: &mut PageReader<PackedRows>,
+    refused: &mut u32,
+) -> Result<(), NoMemory> {
+    let mark = mark_again(reader, refused)?;
+    match reader.feed(&PAGE) {
+        Ok(()) => reader.back(mark),
+        Err(_) => {
+            *refused = refused.saturating_add(1);
+            reader.back(mark);
+        }
+    }
+    Ok(())
+}
+
 /// Reads the page in pieces. Behind each of them all of it comes once more, and is taken back. What is refused
 /// memory is made again, and counted.
 fn read_again(
@@ -45,20 +77,8 @@ fn read_again(
 ) -> Result<Page<PackedRows>, PageFault> {
     let mut reader = PageReader::new(alloc, FORMAT, Coding::Mr);
     for piece in PAGE.chunks(3) {
-        let before = reader.check();
-        if reader.feed(piece).is_err() {
-            *refused = refused.saturating_add(1);
-            assert_eq!(rt; reader.check(), before);
-            reader.feed(piece)?;
-        }
-        let mark = mark_again(&reader, refused)?;
-        match reader.feed(&PAGE) {
-            Ok(()) => reader.back(mark),
-            Err(_) => {
-                *refused = refused.saturating_add(1);
-                reader.back(mark);
-            }
-        }
+        feed_again(rt, &mut reader, piece, refused)?;
+        feed_and_take_back(&mut reader, refused)?;
     }
     reader.finish()
 }
@@ -72,25 +92,34 @@ fn write_again(
 ) -> Result<(), NoMemory> {
     let mut writer = PageWriter::new(alloc, FORMAT, Coding::Mr, 0);
     for piece in PAGE.chunks(5) {
-        assert!(rt; !writer.ended());
-        let given = match writer.next(page, 5) {
-            Ok(given) => given,
-            Err(_) => {
-                *refused = refused.saturating_add(1);
-                writer.next(page, 5)?
-            }
-        };
-        assert_eq!(rt; given.as_slice(), piece);
+        let has_more = !writer.ended();
+        let given = next_again(&mut writer, page, refused)?;
+        assert!(rt; has_more && given.as_slice() == piece);
     }
     assert!(rt; writer.ended());
     Ok(())
+}
+
+/// The next five octets, asked for once more where they are refused memory, which is counted.
+fn next_again(
+    writer: &mut PageWriter,
+    page: &Page<PackedRows>,
+    refused: &mut u32,
+) -> Result<Octets, NoMemory> {
+    match writer.next(page, 5) {
+        Ok(given) => Ok(given),
+        Err(_) => {
+            *refused = refused.saturating_add(1);
+            writer.next(page, 5)
+        }
+    }
 }
 
 #[test]
 fn a_page_that_is_refused_memory(rt: HostRuntime) -> Result<(), Fail> {
     let mut count = 0;
     let page = read_again(&rt, rt.alloc(), &mut count)?;
-    assert_eq!(rt; page.rows().len(), 2);
+    assert!(rt; page.rows().len() == 2);
     write_again(&rt, rt.alloc(), &page, &mut count)?;
     let refused = match count {
         0 => "nothing",

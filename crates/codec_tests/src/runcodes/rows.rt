@@ -69,9 +69,8 @@ fn expect_runs(rt: &impl Abort, row: &Row, runs: &[u16]) -> Result<(), NoMemory>
 
 /// Fails unless a row begins and ends with these colours.
 fn expect_ends(rt: &impl Abort, row: &Row, first: Colour, last: Colour) {
-    assert!(rt; row.width() > 0);
-    assert!(rt; row.colour_at(0) == first);
-    assert!(rt; row.colour_at(row.width() - 1) == last);
+    expect_colour(rt, row, 0, first);
+    expect_colour(rt, row, row.width().saturating_sub(1), last);
 }
 
 /// Fails unless a row has the colour at a place.
@@ -114,8 +113,8 @@ fn expect_put(
     let Some(front) = runs.get_mut(..room) else {
         rt.abort()
     };
-    assert!(rt; builder.lend().put_runs(front) == count);
-    assert!(rt; runs == wanted);
+    let put = builder.lend().put_runs(front);
+    assert!(rt; put == count && runs == wanted);
 }
 
 #[test]
@@ -152,10 +151,9 @@ fn gives_places_and_colours(rt: HostRuntime) -> Result<(), Fail> {
 
 #[test]
 fn numbers_colours_and_widths(rt: HostRuntime) -> Result<(), Fail> {
-    assert!(rt; RowFault::BadRuns.number() == 1);
-    assert!(rt; RowFault::NoMemory.number() == 2);
-    assert!(rt; White.other() == Black);
-    assert!(rt; Black.other() == White);
+    let numbers = [RowFault::BadRuns.number(), RowFault::NoMemory.number()];
+    assert!(rt; numbers == [1, 2]);
+    assert!(rt; White.other() == Black && Black.other() == White);
     for changes in [0, 2, 2431] {
         let colour = if changes == 2431 { Black } else { White };
         assert!(rt; Colour::after_changes(changes) == colour);
@@ -226,18 +224,25 @@ fn turns_elements(rt: HostRuntime) -> Result<(), Fail> {
     Ok(())
 }
 
+/// Paints the row in front of run lengths, and says how many of them it took and how many elements there are then.
+fn paint_row(builder: &mut RowBuilder, runs: &[u16], width: Width) -> (Option<usize>, u16) {
+    let count = builder.paint_row(runs, width);
+    (count, builder.len())
+}
+
 #[test]
 fn paints_the_row_in_front(rt: HostRuntime) -> Result<(), Fail> {
     let mut builder = RowBuilder::new(rt.alloc())?;
     builder.paint(Black, 3);
     for (runs, width, wanted) in IN_FRONT {
-        let count = builder.paint_row(runs, *width);
+        let painted = paint_row(&mut builder, runs, *width);
         if wanted.is_empty() {
-            assert!(rt; count.is_none(), "at {runs:?}");
-            assert!(rt; builder.len() == 0, "at {runs:?}");
+            assert!(rt; painted == (None, 0), "at {runs:?}");
         } else {
-            assert!(rt; count == Some(wanted.len()), "at {runs:?}");
-            assert!(rt; builder.len() == width.elements(), "at {runs:?}");
+            assert!(rt;
+                painted == (Some(wanted.len()), width.elements()),
+                "at {runs:?}"
+            );
             expect_runs(&rt, &row_of(&rt, &builder)?, wanted)?;
         }
     }
@@ -267,14 +272,22 @@ fn puts_pixels(rt: HostRuntime) -> Result<(), Fail> {
     Ok(())
 }
 
+/// Fails unless the row of a lent one has such runs.
+fn expect_lent(
+    rt: &(impl Abort + AllocGlobal),
+    lent: &RowRef<'_>,
+    runs: &[u16],
+) -> Result<(), NoMemory> {
+    expect_runs(rt, &lent.to_row(rt.alloc())?, runs)
+}
+
 #[test]
 fn lends_rows(rt: HostRuntime) -> Result<(), Fail> {
     let row = Row::from_runs(rt.alloc(), &[3, 5, 2040])?;
     let lent = row.lend();
-    assert!(rt; lent.width() == 2048);
-    assert!(rt; lent.changes() == [3, 8].as_slice());
-    expect_runs(&rt, &lent.to_row(rt.alloc())?, &[3, 5, 2040])?;
+    assert!(rt; lent.width() == 2048 && lent.changes() == [3, 8].as_slice());
     let again = RowRef::from_changes(lent.changes(), lent.width());
-    expect_runs(&rt, &again.to_row(rt.alloc())?, &[3, 5, 2040])?;
+    expect_lent(&rt, &lent, &[3, 5, 2040])?;
+    expect_lent(&rt, &again, &[3, 5, 2040])?;
     Ok(())
 }

@@ -105,14 +105,17 @@ fn reads_each_run_that_is_written(rt: HostRuntime) -> Result<(), Fail> {
 #[test]
 fn looks_up_a_word(rt: HostRuntime) {
     let window = 0b0111 << 52;
-    assert_eq!(rt; word_at(White, window), CodeWord { run: 2, bits: 4 });
-    assert_eq!(rt; word_at(Black, window), CodeWord { run: 4, bits: 3 });
+    assert!(rt; word_at(White, window) == CodeWord { run: 2, bits: 4 });
+    assert!(rt; word_at(Black, window) == CodeWord { run: 4, bits: 3 });
     assert!(rt; word_at(Black, 0).is_none());
 }
 
 #[test]
 fn numbers_the_faults(rt: HostRuntime) {
-    assert_eq!(rt; RunFault::NoWord.number(), 1);
-    assert_eq!(rt; RunFault::TooLong.number(), 2);
-    assert_eq!(rt; RunFault::End.number(), 3);
+    let numbers = [
+        RunFault::NoWord.number(),
+        RunFault::TooLong.number(),
+        RunFault::End.number(),
+    ];
+    assert!(rt; numbers == [1, 2, 3]);
 }

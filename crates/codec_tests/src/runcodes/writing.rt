@@ -15,16 +15,13 @@ fn writes_runs_where_there_is_room(rt: HostRuntime) -> Result<(), Fail> {
     // black 1728 + 63
     put_run(&mut roomy, Black, 1791);
     writer = roomy.into_writer();
-    assert_eq!(rt; writer.bits(), 9 + 16 + 25);
+    assert!(rt; writer.bits() == 9 + 16 + 25);
     let octets = writer.finish();
-    assert_eq!(rt;
-        octets.as_slice(),
-        [
+    assert!(rt; octets.as_slice() == [
             // 001 11 1000 11011 00110101 010 0000001100101 000001100111
             0b0011_1100, 0b0110_1100, 0b1101_0101, 0b0000_0001, 0b1001_0100, 0b0001_1001,
             0b1100_0000,
         ]
-        .as_slice()
-    );
+        .as_slice());
     Ok(())
 }

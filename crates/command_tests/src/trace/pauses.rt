@@ -106,25 +106,34 @@ impl Played {
     }
 }
 
+/// The call with this pause.
+fn played_with(alloc: Global, pause: u16) -> Result<Played, AllocError> {
+    let mut played = Played::new(alloc)?;
+    for step in STEPS {
+        played.step(*step, u64::from(pause))?;
+    }
+    Ok(played)
+}
+
+/// Whether there are just as many lines as these, each begins so, and those alone are empty of which nothing is wanted.
+fn are_told(text: &[u8], wanted: &[&str]) -> bool {
+    let mut rest = wanted.iter();
+    let mut all = true;
+    for line in text.split(|octet| *octet == b'\n') {
+        let begin = rest.next().copied().unwrap_or_default();
+        all = all && line.starts_with(begin.as_bytes()) && line.is_empty() == begin.is_empty();
+    }
+    all && rest.next().is_none()
+}
+
 #[test]
 fn the_packet_behind_a_preamble_waits_for_the_pause(rt: HostRuntime) -> Result<(), Fail> {
     for pause in [40u16, 1000, 2000] {
         assert!(rt; 40 <= pause && pause <= 2000);
-        let mut played = Played::new(rt.alloc())?;
-        for step in STEPS {
-            played.step(*step, u64::from(pause))?;
-        }
+        let played = played_with(rt.alloc(), pause)?;
         let (status, text) = run_paused(rt.alloc(), played.script.as_slice(), pause);
-        assert_eq!(rt; status, 0);
-        let mut wanted = played.wanted.as_slice().iter();
-        for line in text.as_slice().split(|octet| *octet == b'\n') {
-            let begin = wanted.next().copied().unwrap_or_default();
-            assert!(rt;
-                line.starts_with(begin.as_bytes()) && line.is_empty() == begin.is_empty(),
-                "{begin:?} with {pause}"
-            );
-        }
-        assert!(rt; wanted.next().is_none(), "with {pause}");
+        let are_told = are_told(text.as_slice(), played.wanted.as_slice());
+        assert!(rt; status == 0 && are_told, "with {pause}");
     }
     Ok(())
 }

@@ -49,8 +49,8 @@ const FIELD_TYPES: &[(u8, FieldType)] = &[
 #[test]
 fn indicators_have_the_codes_of_the_standard(rt: HostRuntime) {
     for (code, indicator) in INDICATORS {
-        assert!(rt; indicator.code() == *code);
-        assert!(rt; Indicator::from_code(*code) == Some(*indicator));
+        let named = Indicator::from_code(*code);
+        assert!(rt; indicator.code() == *code && named == Some(*indicator));
     }
     assert!(rt; Indicator::from_code(16).is_none());
 }
@@ -58,8 +58,8 @@ fn indicators_have_the_codes_of_the_standard(rt: HostRuntime) {
 #[test]
 fn data_types_have_the_codes_of_the_standard(rt: HostRuntime) {
     for (code, kind) in DATA_TYPES {
-        assert!(rt; kind.code() == *code);
-        assert!(rt; DataType::from_code(*code) == Some(*kind));
+        let named = DataType::from_code(*code);
+        assert!(rt; kind.code() == *code && named == Some(*kind));
     }
     assert!(rt; DataType::from_code(9).is_none());
 }
@@ -67,8 +67,8 @@ fn data_types_have_the_codes_of_the_standard(rt: HostRuntime) {
 #[test]
 fn field_types_have_the_codes_of_the_standard(rt: HostRuntime) {
     for (code, what) in FIELD_TYPES {
-        assert!(rt; what.code() == *code);
-        assert!(rt; FieldType::from_code(*code) == Some(*what));
+        let named = FieldType::from_code(*code);
+        assert!(rt; what.code() == *code && named == Some(*what));
     }
     assert!(rt; FieldType::from_code(8).is_none());
 }

@@ -117,7 +117,7 @@ fn expect_pieces(rt: &impl Abort, pieces: &Pieces<'_>, told: &[Told<'_>], from: 
     let mut place = from;
     for piece in pieces.as_slice() {
         let is_told = told.get(place).is_some_and(|told| is_told(piece, told));
-        assert!(rt; is_told, "{piece:?} at {place}");
+        assert!(rt; is_told, "at {place}");
         place = place.saturating_add(1);
     }
     place
@@ -136,7 +136,7 @@ fn expect(
         let pieces = signals.slot(*slot)?;
         place = expect_pieces(rt, &pieces, told, place);
     }
-    assert_eq!(rt; place, told.len());
+    assert!(rt; place == told.len());
     Ok(())
 }
 
@@ -426,7 +426,7 @@ fn expect_next(
 ) -> Result<(), NoMemory> {
     let pieces = signals.slot(slot)?;
     let place = expect_pieces(rt, &pieces, told, 0);
-    assert_eq!(rt; place, told.len());
+    assert!(rt; place == told.len());
     Ok(())
 }
 
@@ -435,7 +435,7 @@ fn frames_have_at_most_256_octets(rt: HostRuntime) -> Result<(), Fail> {
     let longest = long_frame(rt.alloc(), 256)?;
     let too_long = long_frame(rt.alloc(), 257)?;
     let octets = longest.as_slice().get(5..261).unwrap_or(&[]);
-    assert_eq!(rt; octets.len(), 256);
+    assert!(rt; octets.len() == 256);
     let mut signals = Signals::new(rt.alloc());
     let good = Slot::Packet(longest.as_slice());
     let bad = Slot::Packet(too_long.as_slice());
@@ -445,22 +445,48 @@ fn frames_have_at_most_256_octets(rt: HostRuntime) -> Result<(), Fail> {
     Ok(())
 }
 
-#[test]
-fn copies_go_their_own_way(rt: HostRuntime) -> Result<(), Fail> {
-    let mut signals = Signals::new(rt.alloc());
+/// Signals in which an image and a frame have begun.
+fn begun(alloc: Global) -> Result<Signals, NoMemory> {
+    let mut signals = Signals::new(alloc);
     for slot in [TRAINING, FIRST_PART, HEAD] {
         let _ = signals.slot(slot)?;
     }
-    let mut copy = signals.copy();
-    expect_next(&rt, &mut copy, Slot::Lost, &[Told::Gap])?;
-    expect_next(&rt, &mut copy, TAIL, &[])?;
-    let mut other = signals.copy();
-    let frame = [Told::Frame(&[0xff, 0xc8, 0x21])];
+    Ok(signals)
+}
+
+/// Fails unless the frame and the image go on to their ends, of which the image's is not whole.
+fn expect_ends(rt: &impl Abort, signals: &mut Signals) -> Result<(), NoMemory> {
+    expect_next(rt, signals, TAIL, &[WORKED_FRAME])?;
     let end = [Told::Octets(&[0xdd]), Told::End(false)];
-    expect_next(&rt, &mut other, TAIL, &frame)?;
-    expect_next(&rt, &mut other, LAST_PART, &end)?;
-    expect_next(&rt, &mut signals, TAIL, &frame)?;
-    expect_next(&rt, &mut signals, LAST_PART, &end)?;
+    expect_next(rt, signals, LAST_PART, &end)
+}
+
+#[test]
+fn copies_go_their_own_way(rt: HostRuntime) -> Result<(), Fail> {
+    let mut signals = begun(rt.alloc())?;
+    expect_frame_lost(&rt, &mut signals.copy())?;
+    expect_ends(&rt, &mut signals.copy())?;
+    expect_ends(&rt, &mut signals)?;
+    Ok(())
+}
+
+/// Fails unless a lost slot loses the frame.
+fn expect_frame_lost(rt: &impl Abort, signals: &mut Signals) -> Result<(), NoMemory> {
+    expect_next(rt, signals, Slot::Lost, &[Told::Gap])?;
+    expect_next(rt, signals, TAIL, &[])
+}
+
+/// Fails unless a slot gives the pieces, put into a list that had others.
+fn expect_into<'a>(
+    rt: &impl Abort,
+    signals: &mut Signals,
+    pieces: &mut Pieces<'a>,
+    slot: Slot<'a>,
+    told: &[Told<'_>],
+) -> Result<(), NoMemory> {
+    signals.slot_into(slot, pieces)?;
+    let place = expect_pieces(rt, pieces, told, 0);
+    assert!(rt; place == told.len());
     Ok(())
 }
 
@@ -475,9 +501,7 @@ fn expect_in_one_list<'a>(
     let mut pieces = Pieces::new(alloc);
     assert!(rt; pieces.as_slice().is_empty());
     for (slot, told) in slots.iter().zip(told) {
-        signals.slot_into(*slot, &mut pieces)?;
-        let place = expect_pieces(rt, &pieces, told, 0);
-        assert_eq!(rt; place, told.len());
+        expect_into(rt, &mut signals, &mut pieces, *slot, told)?;
     }
     Ok(())
 }
@@ -513,22 +537,27 @@ fn expect_lost(rt: &impl Abort, signals: &mut Signals) -> Result<(), NoMemory> {
     expect_next(rt, signals, LAST_PART, &end)
 }
 
+/// Fails unless three slots are lost one by one.
+fn expect_lost_one_by_one(rt: &impl Abort, signals: &mut Signals) -> Result<(), NoMemory> {
+    for _ in 0..3 {
+        expect_next(rt, signals, Slot::Lost, &[Told::Gap])?;
+    }
+    expect_lost(rt, signals)
+}
+
+/// Fails unless so many are lost at once.
+fn expect_lost_at_once(rt: &impl Abort, signals: &mut Signals, count: u16) -> Result<(), NoMemory> {
+    signals.lose(count);
+    expect_lost(rt, signals)
+}
+
 #[test]
 fn loses_slots_in_a_row(rt: HostRuntime) -> Result<(), Fail> {
-    let mut begun = Signals::new(rt.alloc());
-    for slot in [TRAINING, FIRST_PART, HEAD] {
-        let _ = begun.slot(slot)?;
-    }
-    // three one by one, three at once, and the most that one datagram tells
-    let mut one_by_one = begun.copy();
-    for _ in 0..3 {
-        expect_next(&rt, &mut one_by_one, Slot::Lost, &[Told::Gap])?;
-    }
-    expect_lost(&rt, &mut one_by_one)?;
+    let begun = begun(rt.alloc())?;
+    expect_lost_one_by_one(&rt, &mut begun.copy())?;
+    // three at once, and the most that one datagram tells
     for count in [3, 32_767] {
-        let mut signals = begun.copy();
-        signals.lose(count);
-        expect_lost(&rt, &mut signals)?;
+        expect_lost_at_once(&rt, &mut begun.copy(), count)?;
     }
     Ok(())
 }
