@@ -2,7 +2,7 @@
 RT ?= rt
 PROGRAM = crates/faxgate/out/faxgate
 
-.PHONY: all demo test wrong-bodies format memory bench interop serve-interop tables check-docs
+.PHONY: all demo test wrong-bodies format memory bench load interop serve-interop tables check-docs
 
 # Proves and builds the program, and says where it lies.
 all:
@@ -26,7 +26,7 @@ wrong-bodies:
 format:
 	for crate in crates/*/; do (cd "$$crate" && $(RT) fmt) || exit 1; done
 
-# Refuses each allocation of a run in turn, both ways and in both codings, of a script, of a page over sockets, and each of a
+# Refuses each allocation of a run in turn, both ways and in both codings, of scripts, of a page over sockets, and each of a
 # page that is read and written in pieces, of faults that the calls for C tell without memory, of a whole call of the
 # answering and of the calling side, of one through the gateway, and of one that is driven over a wire. It wants a C
 # compiler, and a minute at most behind the proofs of the crates.
@@ -38,6 +38,8 @@ memory: all
 	tools/refuse-memory $(PROGRAM) samples/text-mr.runs page --back --coding mr --fine --least 96
 	tools/refuse-memory $(PROGRAM) samples/call.trace trace
 	tools/refuse-memory $(PROGRAM) samples/hello.hex loop
+	cd crates/command_tests && $(RT) test > /dev/null
+	tools/refuse-test-memory crates/command_tests/out/command_tests_tests trace::memory::a_script_that_is_refused_memory
 	cd crates/codec_tests && $(RT) test > /dev/null
 	tools/refuse-test-memory crates/codec_tests/out/codec_tests_tests pagestore::memory::a_page_that_is_refused_memory
 	cd crates/fax_c && $(RT) test > /dev/null
@@ -93,3 +95,20 @@ tools/serve_interop: tools/serve_interop.c tools/terminals.h
 
 serve-interop: all tools/serve_interop
 	tools/serve_interop $(PROGRAM)
+
+# Many lines of `faxgate serve` at once, in real time over UDP on this host: pages at 14,400 bit/s through 1, 100, 1,000 and
+# 2,000 lines, through two processes of 1,000, and idle lines. See docs/PERFORMANCE.md. It wants a C compiler, more than 8,200
+# open files (`ulimit -n`), and some eight minutes; figures of time want a machine that does nothing else, or
+# LOAD="cores=2,3 priority=50" as root: the core of the machines, that of the servers, and real-time scheduling.
+tools/load/load: tools/load/load.c tools/load/*.h
+	$(CC) -O2 -Wall -Wextra -o $@ tools/load/load.c -lpthread
+
+tools/load/sockets: tools/load/sockets.c
+	$(CC) -O2 -Wall -Wextra -o $@ tools/load/sockets.c
+
+load: all tools/load/load tools/load/sockets
+	tools/load/sockets 4000
+	for lines in 1 100 1000 2000; do tools/load/load $(PROGRAM) $$lines $(LOAD) || exit 1; done
+	tools/load/load $(PROGRAM) 2000 processes=2 $(LOAD)
+	tools/load/load $(PROGRAM) 4000 pages=0 $(LOAD)
+	tools/load/load $(PROGRAM) 10000 pages=0 processes=4 $(LOAD)
