@@ -1,6 +1,7 @@
 //! The book of jobs.
 ghost use Rattle.std.specs.Prelude.{◌≡◌, ◌≤◌, None, length, slice_get, option_copied, IfOk, IfErr, OnOk, OnErr, IsSome};
 ghost use Rattle.fax_jobs.specs.Books.{new_book, opened, added, closed, taken, ended, confirmed, joins, TakesPage};
+ghost use Rattle.fax_jobs.specs.Newest.{newest_job, newest_page};
 
 use crate::{Job, Outcome, Report};
 use circular_buffer::HeapCircularBuffer;
@@ -218,11 +219,32 @@ impl<S: RowStore> Jobs<S> {
         self.waiting.len()
     }
 
+    /// The page that joined last, for as long as its job is open, waits or is being sent.
+    pub fn newest_page(&self) -> Option<&Page<S>>
+        ensures { option_copied result ≡ newest_page self.now.book }
+    {
+        let job = self.newest_job()?;
+        job.pages().as_slice().last()
+    }
+
     /// Report i of those that are kept, counted from 0, the oldest.
     pub fn report(&self, i: usize) -> Option<Report>
         ensures { result ≡ slice_get self.now.book.reports i }
     {
         self.reports.get(i).copied()
+    }
+
+    /// The job that has the page that joined last.
+    fn newest_job(&self) -> Option<&Job<S>>
+        ensures { option_copied result ≡ newest_job self.now.book }
+    {
+        if let Some(job) = &self.open_job {
+            return Some(job);
+        }
+        match self.waiting.back() {
+            Some(job) => Some(job),
+            None => self.sending.as_ref(),
+        }
     }
 
     /// Whether a page of the call of this number joins the open job.
