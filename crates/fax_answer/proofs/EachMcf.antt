@@ -18,7 +18,7 @@ use Rattle.fax_answer.specs.Table.{Reading, has_zero_run, judged, is_one_image, 
 use Rattle.fax_answer.specs.Replies.{ConfirmedPage, is_last, Waiting, reply_to, is_waiting, mcf_packet}
 use Rattle.fax_answer.specs.Calls.{Answering, rung, came, asked, says_goodbye, identifies_again, identifies_anew, timed_in, timed, Ticked, given_first, ticked, CallEvent, Comes, Ticks, after_events}
 use Rattle.fax_ifp.specs.WrittenPackets.{written_behind}
-use Rattle.fax_answer.specs.Confirmation.{IfAsked, AreRead, IsRepeatedIn, EachMcfAnswers}
+use Rattle.fax_answer.specs.Confirmation.{AreRead, IsRepeatedIn, EachMcfAnswers}
 use Rattle.fax_answer.proofs.Confirmations.{KnowsDcs, InCall, events_keep, rung_in_call, timed_history}
 use Rattle.fax_answer.specs.Following.{Rests}
 use Rattle.fax_answer.proofs.Rests.{NoneIf, none_if, rests_after, ticked_rests}

@@ -1,5 +1,5 @@
 -- Each RTN given refuses the last command.
-use Rattle.std.proofs.Common.{eq-eqb, ◌≡◌, ℕ, ◌/◌, Bool, true, false, not, ◌&&◌, List, [], ◌∷◌, ◌++◌, Option, Some, None, ◌⊎◌, inl, inr, refl, sym, ◌∙◌, ap, subst, nat_eq, if◌then◌else◌}
+use Rattle.std.proofs.Common.{eq-eqb, ◌≡◌, ℕ, Bool, true, false, ◌&&◌, List, [], ◌∷◌, ◌++◌, Option, Some, None, ◌⊎◌, inl, inr, refl, sym, ◌∙◌, ap, subst, nat_eq, if◌then◌else◌}
 use Rattle.fax_frames.specs.declared.dcs.Dcs.{Dcs}
 use Rattle.fax_ifp.specs.Pieces as pieces
 use Rattle.fax_ifp.specs.WrittenPackets.{written_behind}
@@ -15,17 +15,17 @@ use Rattle.fax_answer.specs.History.{Entry, Decision, PassesOver, Trains, HangsU
 use Rattle.fax_answer.specs.Table.{Reading, on_order, decision}
 use Rattle.fax_answer.specs.Replies.{Waiting, reply_to, is_waiting}
 use Rattle.fax_answer.specs.Calls.{Answering, rung, came, says_goodbye, identifies_again, identifies_anew, timed_in, timed, Ticked, given_first, ticked, CallEvent, Comes, Ticks, after_events}
-use Rattle.fax_answer.specs.EachRtn.{rtn_packet, IsPassed, ArePassed, IsRefusedIn, EachRtnRefuses}
+use Rattle.fax_answer.specs.EachRtn.{rtn_packet, IsPassed, IsRefusedIn, EachRtnRefuses}
 use Rattle.fax_answer.proofs.Confirmations.{timed_history}
 use Rattle.fax_answer.proofs.Judging.{judges_each_command}
 
 -- whether octets are the packet of an RTN, by a test
-abbrev same_octets : List ℕ → List ℕ → Bool
+abbrev pub same_octets : List ℕ → List ℕ → Bool
 same_octets [] [] = true
 same_octets (x ∷ xs) (y ∷ ys) = nat_eq x y && same_octets xs ys
 same_octets xs ys = false
 
-abbrev has_rtn : List ℕ → Bool
+abbrev pub has_rtn : List ℕ → Bool
 has_rtn packet = same_octets packet rtn_packet
 
 abbrev IsOk : List Entry → Waiting → Type 0
@@ -210,7 +210,7 @@ events_ok core start [] = rung_ok core start
 events_ok core start (Comes piece now read ∷ before) = came_ok read (after_events (rung core start) before) piece now (events_ok core start before)
 events_ok core start (Ticks now ∷ before) = (ticked_ok (after_events (rung core start) before) now (events_ok core start before)).core
 
-is_same : (xs : List ℕ) → same_octets xs xs ≡ true
+pub is_same : (xs : List ℕ) → same_octets xs xs ≡ true
 is_same [] = refl
 is_same (x ∷ xs) = ap (λ (b : Bool). b && same_octets xs xs) (eq-eqb x x refl) ∙ is_same xs
 

@@ -1,5 +1,5 @@
 -- The pieces that come are those of the core that an answering side stands for.
-use Rattle.std.proofs.Common.{◌≡◌, ℕ, ◌/◌, ◌&&◌, not, Bool, true, false, List, [], ◌∷◌, Option, Some, None, ◌⊎◌, inl, inr, refl, sym, ◌∙◌, ap, subst, if◌then◌else◌}
+use Rattle.std.proofs.Common.{◌≡◌, ℕ, ◌/◌, ◌&&◌, not, Bool, true, false, List, [], ◌∷◌, Option, None, ◌⊎◌, inl, inr, refl, sym, ◌∙◌, ap, subst, if◌then◌else◌}
 use Rattle.fax_ifp.specs.Pieces.{Piece, Frame, Start, Octets, End, Gap}
 use Rattle.fax_answer.specs.declared.image.Accepted.{Accepted}
 use Rattle.fax_answer.specs.declared.state.State.{State}
@@ -21,7 +21,10 @@ use Rattle.fax_answer.specs.declared.procedure.Procedure.{Procedure}
 use Rattle.fax_answer.specs.Kept.{verdict_of}
 use Rattle.fax_answer.specs.Confirmation.{IfAsked}
 use Rattle.fax_answer.specs.Reached.{Holds, Kept, Stands, Takes}
+use Rattle.fax_answer.specs.declared.refusal.Refusal.{Refusal}
+use Rattle.fax_answer.specs.Refusals.{HasReason, IsWhy}
 use Rattle.fax_answer.proofs.Held.{holds_start, holds_octets, holds_end, holds_gap, confirms_begun, confirms_fed}
+use Rattle.fax_answer.proofs.Refused.{end_at, reason_after, reason_over}
 use Rattle.fax_answer.proofs.Rests.{rests_after}
 
 -- WHAT CAN BE DECIDED
@@ -61,9 +64,10 @@ trained s waits before whole dcs b e h =
 pub taken : (core : Answering) (piece : Piece) (now : ℕ) (read : Reading) (new : Kept) (c : Option ConfirmedPage) → IfAsked (asked core piece) read
     → (let d : Decision = decision read core.state (is_waiting core.waiting) core.history piece in Confirms new.image.accepted new.image.readers new.confirmed c
     → Follows (decided core piece d now) c new.procedure
+    → HasReason (decided core piece d now) new.refused
     → Holds (state_after core.state d) (record { piece = piece; decision = d } ∷ core.history) new.image
     → Takes piece now core new)
-taken core piece now read new c right confirms f h = record { read = read; right = right; stands = record { confirmed = c; confirms = confirms; follows = f; holds = h } }
+taken core piece now read new c right confirms f r h = record { read = read; right = right; stands = record { confirmed = c; confirms = confirms; follows = f; reason = r; holds = h } }
 
 -- a piece that is passed over
 pub over_can : (core : Answering) → Rests core.state core.waiting → CanDecide core PassesOver
@@ -82,9 +86,10 @@ pub rests_shown : (core : Answering) (c : Option ConfirmedPage) (p : Procedure) 
 rests_shown core c p f e = ap is_waiting (sym f.waiting) ∙ ap (λ (x : Pending). is_waiting (waiting_of x c)) e
 
 -- EACH PIECE, as it is heard: what is new of what is kept
-pub record Heard (old new : Kept) (procedure : Procedure) (image : ImageValue) : Type 0 where
+pub record Heard (old new : Kept) (procedure : Procedure) (image : ImageValue) (told : Option Refusal) : Type 0 where
   pub procedure_is : new.procedure ≡ procedure
   pub confirmed : new.confirmed ≡ old.confirmed
+  pub refused : new.refused ≡ told
   pub image_is : new.image ≡ image
 
 abbrev pub begun_image : State → ImageValue → ImageValue
@@ -96,9 +101,12 @@ follows_now core c procedure new e f = subst (Follows core c) (sym e) f
 pub confirms_now : (i : ImageValue) (old new : Kept) (c : Option ConfirmedPage) → new.confirmed ≡ old.confirmed → new.image ≡ i → Confirms i.accepted i.readers old.confirmed c → Confirms new.image.accepted new.image.readers new.confirmed c
 confirms_now i old new c e f k = subst (λ (j : ImageValue). Confirms j.accepted j.readers new.confirmed c) (sym f) (subst (λ (o : Option ConfirmedPage). Confirms i.accepted i.readers o c) (sym e) k)
 
+pub reason_now : (core : Answering) (told : Option Refusal) (new : Kept) → new.refused ≡ told → HasReason core told → HasReason core new.refused
+reason_now core told new e r = subst (HasReason core) (sym e) r
+
 pub hears_start : (core : Answering) (kind now : ℕ) (piece : Piece) (old new : Kept) (procedure : Procedure) → piece ≡ Start kind → (s : Stands core old)
     → (CanDecide core PassesOver → Follows (decided core (Start kind) PassesOver now) s.confirmed procedure)
-    → Heard old new procedure (begun_image procedure.state old.image)
+    → Heard old new procedure (begun_image procedure.state old.image) old.refused
     → Takes piece now core new
 hears_start core kind now piece old new procedure e s f n =
     let g : Follows (decided core (Start kind) PassesOver now) s.confirmed procedure = f (over_can core s.follows.rests) in
@@ -108,12 +116,13 @@ hears_start core kind now piece old new procedure e s f n =
     (taken core (Start kind) now None new s.confirmed tt
     (confirms_now i old new s.confirmed n.confirmed is (confirms_begun core.state old.image.accepted old.image.readers old.confirmed s.confirmed s.confirms))
     (follows_now (decided core (Start kind) PassesOver now) s.confirmed procedure new n.procedure_is g)
+    (reason_now (decided core (Start kind) PassesOver now) old.refused new n.refused (reason_over core (Start kind) now old.refused s.reason))
     (subst (λ (j : ImageValue). Holds core.state (record { piece = Start kind; decision = PassesOver } ∷ core.history) j) (sym is) (holds_start core.state core.history old.image kind)))
 
 pub hears_octets : (core : Answering) (octets : List ℕ) (now : ℕ) (piece : Piece) (old new : Kept) (procedure : Procedure) (image : ImageValue) → piece ≡ Octets octets → (s : Stands core old)
     → (CanDecide core PassesOver → Follows (decided core (Octets octets) PassesOver now) s.confirmed procedure)
     → TakesIn old.procedure.state octets old.image image
-    → Heard old new procedure image
+    → Heard old new procedure image old.refused
     → Takes piece now core new
 hears_octets core octets now piece old new procedure image e s f t n =
     let g : Follows (decided core (Octets octets) PassesOver now) s.confirmed procedure = f (over_can core s.follows.rests) in
@@ -124,11 +133,12 @@ hears_octets core octets now piece old new procedure image e s f t n =
     (taken core (Octets octets) now None new s.confirmed tt
     (confirms_now image old new s.confirmed n.confirmed n.image_is k)
     (follows_now (decided core (Octets octets) PassesOver now) s.confirmed procedure new n.procedure_is g)
+    (reason_now (decided core (Octets octets) PassesOver now) old.refused new n.refused (reason_over core (Octets octets) now old.refused s.reason))
     (subst (λ (j : ImageValue). Holds core.state (record { piece = Octets octets; decision = PassesOver } ∷ core.history) j) (sym n.image_is) (holds_octets core.state core.history old.image image octets s.holds u)))
 
 pub hears_end : (core : Answering) (whole : Bool) (now : ℕ) (piece : Piece) (old new : Kept) (procedure : Procedure) → piece ≡ End whole → (s : Stands core old)
     → (let d : Decision = decision None core.state (is_waiting core.waiting) core.history (End whole) in CanDecide core d → Follows (decided core (End whole) d now) (confirmed_behind d s.confirmed) procedure)
-    → Heard old new procedure (begun_image procedure.state old.image)
+    → Heard old new procedure (begun_image procedure.state old.image) old.refused
     → Takes piece now core new
 hears_end core whole now piece old new procedure e s f n =
     let d : Decision = decision None core.state (is_waiting core.waiting) core.history (End whole) in
@@ -140,6 +150,8 @@ hears_end core whole now piece old new procedure e s f n =
     (taken core (End whole) now None new s.confirmed tt
     (confirms_now i old new s.confirmed n.confirmed is (confirms_begun (state_after core.state d) old.image.accepted old.image.readers old.confirmed s.confirmed s.confirms))
     (follows_now (decided core (End whole) d now) s.confirmed procedure new n.procedure_is (subst (λ (c : Option ConfirmedPage). Follows (decided core (End whole) d now) c procedure) page g))
+    (reason_now (decided core (End whole) d now) old.refused new n.refused
+    (reason_after core (End whole) d now old.refused (can_decide None core (End whole) s.follows.rests) (end_at core.state (is_waiting core.waiting) core.history whole (IsWhy core.state core.history old.refused)) s.reason))
     (subst (λ (j : ImageValue). Holds (state_after core.state d) (record { piece = End whole; decision = d } ∷ core.history) j) (sym is) (holds_end core.state core.history old.image whole d old.confirmed s.confirmed s.holds s.confirms)))
   where
     check_keeps : (b : Bool) (dcs : Dcs) (c : Option ConfirmedPage) → confirmed_behind (if b then GivesCfr dcs else GivesFtt) c ≡ c
@@ -156,11 +168,12 @@ hears_end core whole now piece old new procedure e s f n =
     end_keeps Closing waits before whole c = refl
 
 pub hears_gap : (core : Answering) (now : ℕ) (piece : Piece) (old new : Kept) (procedure : Procedure) → piece ≡ Gap → (s : Stands core old)
-    → (CanDecide core PassesOver → Follows (decided core Gap PassesOver now) s.confirmed procedure) → Heard old new procedure old.image
+    → (CanDecide core PassesOver → Follows (decided core Gap PassesOver now) s.confirmed procedure) → Heard old new procedure old.image old.refused
     → Takes piece now core new
 hears_gap core now piece old new procedure e s f n =
     subst (λ (p : Piece). Takes p now core new) (sym e)
     (taken core Gap now None new s.confirmed tt
     (confirms_now old.image old new s.confirmed n.confirmed n.image_is s.confirms)
     (follows_now (decided core Gap PassesOver now) s.confirmed procedure new n.procedure_is (f (over_can core s.follows.rests)))
+    (reason_now (decided core Gap PassesOver now) old.refused new n.refused (reason_over core Gap now old.refused s.reason))
     (subst (λ (i : ImageValue). Holds core.state (record { piece = Gap; decision = PassesOver } ∷ core.history) i) (sym n.image_is) (holds_gap core.state core.history old.image s.holds)))

@@ -1,12 +1,12 @@
 -- What is held of images while pieces come.
-use Rattle.std.proofs.Common.{◌≡◌, ℕ, zero, suc, ◌+◌, ◌-◌, ◌<◌, ◌≤◌, ◌&&◌, nat_eq, nat_le, max, min, not, Bool, true, false, List, [], ◌∷◌, ◌++◌, length, take, Option, Some, None, refl, sym, ◌∙◌, ap, subst, arith, zero-add, if◌then◌else◌}
+use Rattle.std.proofs.Common.{◌≡◌, ℕ, zero, suc, ◌+◌, ◌<◌, ◌≤◌, ◌&&◌, nat_eq, nat_le, max, min, not, Bool, true, false, List, [], ◌∷◌, ◌++◌, length, Option, Some, None, refl, sym, ◌∙◌, ap, subst, arith, zero-add, if◌then◌else◌}
 use Rattle.std.proofs.lemmas.List.{length-append}
 use Rattle.fax_frames.specs.declared.dcs.Dcs.{Dcs}
 use Rattle.fax_frames.specs.Capabilities.{format_of, coding_of}
 use Rattle.fax_pagestore.specs.Pages.{PageValue}
-use Rattle.fax_pagestore.specs.Readers.{ReaderValue, HasRead, new_reader}
+use Rattle.fax_pagestore.specs.Readers.{ReaderValue, new_reader}
 use Rattle.fax_pagestore.proofs.ReaderLemmas.{nothing_read}
-use Rattle.fax_ifp.specs.Pieces.{Piece, Frame, Start, Octets, End, Gap}
+use Rattle.fax_ifp.specs.Pieces.{Frame, Start, Octets, End, Gap}
 use Rattle.fax_answer.specs.declared.command.Command.{Command}
 use Rattle.fax_answer.specs.declared.command.Command.TheVariants.{Eom, Mps, Eop}
 use Rattle.fax_answer.specs.declared.command.Order.{Order}
@@ -16,9 +16,9 @@ use Rattle.fax_answer.specs.declared.state.State.{State}
 use Rattle.fax_answer.specs.declared.state.State.TheVariants.{Idle, Identify, Listen, Train, Page, Again, Closing}
 use Rattle.fax_answer.specs.Orders.{order_of}
 use Rattle.fax_answer.specs.History.{Entry, Decision, PassesOver, Trains, HangsUp, GivesCfr, GivesFtt, GivesMcf, GivesRtn, is_answer, since_answer, images, gap, octets_since, last_image, last_whole}
-use Rattle.fax_answer.specs.Table.{Reading, zeros, longest_zeros, is_one_image, is_quiet, is_repeat, judged, on_command_again, on_order, decision, state_after}
+use Rattle.fax_answer.specs.Table.{Reading, zeros, longest_zeros, is_one_image, is_quiet, is_repeat, judged, on_order, decision, state_after}
 use Rattle.fax_answer.specs.Replies.{ConfirmedPage}
-use Rattle.fax_answer.specs.Images.{ImageValue, IsReaderOf, HasOpen, HasEnded, begun, Feeds, FeedsIn, TakesIn, MeansAt, Confirms, run_behind, longest_behind, most_counted}
+use Rattle.fax_answer.specs.Images.{ImageValue, IsReaderOf, HasOpen, HasEnded, begun, Feeds, FeedsIn, TakesIn, MeansAt, Confirms, run_behind, longest_behind}
 use Rattle.fax_answer.specs.Reached.{Holds, HoldsPage}
 use Rattle.fax_answer.proofs.ImageLemmas.{run_behind-append, longest_behind-append}
 

@@ -1,12 +1,12 @@
 -- Readers of images as they go on, and runs of zero octets as they are counted.
-use Rattle.std.proofs.Common.{◌≡◌, ℕ, zero, suc, ◌+◌, ◌-◌, ◌≤◌, max, min, List, [], ◌∷◌, ◌++◌, length, take, drop, reverse, get_or, ◌<◌, refl, sym, ◌∙◌, ap, subst, arith, append_assoc}
-use Rattle.std.proofs.lemmas.List.{take_more, append-nil, reverse-append}
+use Rattle.std.proofs.Common.{◌≡◌, ℕ, ◌+◌, max, List, [], ◌∷◌, ◌++◌, length, take, get_or, ◌<◌, refl, sym, ◌∙◌, ap, subst, append_assoc}
+use Rattle.std.proofs.lemmas.List.{take_more, append-nil}
 use Rattle.fax_runcodes.specs.Rows.{Elements}
 use Rattle.fax_frames.specs.Capabilities.{format_of, coding_of}
 use Rattle.fax_pagestore.specs.Readers.{ReaderValue, new_reader}
 use Rattle.fax_answer.specs.declared.state.State.{State}
 use Rattle.fax_answer.specs.declared.state.State.TheVariants.{Idle, Identify, Listen, Train, Page, Again, Closing}
-use Rattle.fax_answer.specs.Images.{run_with, run_behind, longest_behind, Extends, GoesOn, Feeds, FeedsIn, FedWith, begun}
+use Rattle.fax_answer.specs.Images.{run_with, run_behind, longest_behind, Extends, GoesOn, Feeds, FeedsIn, begun}
 
 -- ZERO OCTETS
 pub run_behind-append : (run : ℕ) (xs ys : List ℕ) → run_behind run (xs ++ ys) ≡ run_behind (run_behind run xs) ys

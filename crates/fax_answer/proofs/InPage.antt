@@ -1,13 +1,13 @@
 -- In Page all octets of the image under way came since the last CFR.
-use Rattle.std.proofs.Common.{◌≡◌, ℕ, Bool, true, false, List, [], ◌∷◌, Option, refl, sym, ◌∙◌, ap, subst, if◌then◌else◌}
+use Rattle.std.proofs.Common.{◌≡◌, ℕ, Bool, true, false, List, [], ◌∷◌, refl, sym, ◌∙◌, ap, if◌then◌else◌}
 use Rattle.fax_frames.specs.declared.dcs.Dcs.{Dcs}
 use Rattle.fax_ifp.specs.Pieces.{Piece, Frame, Start, Octets, End, Gap}
 use Rattle.fax_answer.specs.declared.state.State.{State}
 use Rattle.fax_answer.specs.declared.state.State.TheVariants.{Page}
 use Rattle.fax_answer.specs.History.{Entry, Decision, PassesOver, Trains, HangsUp, GivesCfr, GivesFtt, GivesMcf, GivesRtn, octets_with, octets_since}
-use Rattle.fax_answer.specs.Table.{Reading, decision, state_after}
+use Rattle.fax_answer.specs.Table.{Reading, decision}
 use Rattle.fax_answer.specs.Replies.{is_waiting}
-use Rattle.fax_answer.specs.Calls.{Answering, rung, came, ticked, CallEvent, Comes, Ticks, after_event, after_events}
+use Rattle.fax_answer.specs.Calls.{Answering, rung, came, ticked, CallEvent, Comes, Ticks, after_events}
 use Rattle.fax_answer.specs.InPage.{is_cfr, since_cfr, BeginsInPage}
 use Rattle.fax_answer.proofs.Confirmations.{ticked_history}
 use Rattle.fax_answer.proofs.Held.{IsNoCfr, in_page, frame_no_cfr}

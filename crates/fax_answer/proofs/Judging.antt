@@ -14,7 +14,7 @@ use Rattle.fax_answer.specs.declared.state.State.{State}
 use Rattle.fax_answer.specs.declared.state.State.TheVariants.{Idle, Identify, Listen, Train, Page, Again, Closing}
 use Rattle.fax_answer.specs.Orders.{order_of}
 use Rattle.fax_answer.specs.History.{Entry, Decision, PassesOver, Trains, HangsUp, GivesCfr, GivesFtt, GivesMcf, GivesRtn, since_answer, images, gap, last_image, repeat_with, repeated, trained_dcs, dcs_with, answered_dcs}
-use Rattle.fax_answer.specs.Table.{Reading, Question, judged, is_one_image, is_quiet, same_command, is_repeat, on_command, on_command_again, on_order, decision, order_asks, asked_of}
+use Rattle.fax_answer.specs.Table.{Reading, Question, judged, is_one_image, same_command, is_repeat, on_command, on_command_again, on_order, decision, order_asks, asked_of}
 use Rattle.fax_answer.specs.Replies.{is_waiting}
 use Rattle.fax_answer.specs.Calls.{Answering, rung, CallEvent, Comes, Ticks, after_events}
 use Rattle.fax_answer.specs.Confirmation.{IsRight, IfAsked, AreRead}

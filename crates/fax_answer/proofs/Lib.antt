@@ -9,10 +9,12 @@ mod Held
 mod ImageLemmas
 mod Places
 mod InPage
-mod Judging
+pub mod Judging
 mod Neat
+mod OneReason
 mod PacketLemmas
 mod ReachedLemmas
+mod Refused
 pub mod Readings
 pub mod Rests
 mod SlotsLemmas

@@ -1,6 +1,6 @@
 -- Readers of images in their list, which the code has the oldest first.
 use Rattle.std.proofs.Common.{◌≡◌, ℕ, zero, suc, ◌+◌, ◌-◌, ◌≤◌, ◌<◌, List, [], ◌∷◌, ◌++◌, length, take, drop, reverse, get_or, Option, Some, None, Result, Ok, Err, refl, sym, ◌∙◌, ap, subst, arith, append_assoc}
-use Rattle.std.proofs.lemmas.List.{append-nil, reverse-append, reverse-reverse, length-reverse, length-append, get_or_at, take_at, drop_at, drop_all, drop-append-le}
+use Rattle.std.proofs.lemmas.List.{reverse-append, reverse-reverse, length-reverse, length-append, get_or_at, take_at, drop_at, drop_all, drop-append-le}
 use Rattle.fax_runcodes.specs.Rows.{Elements}
 use Rattle.fax_runcodes.specs.Widths.{elements_of}
 use Rattle.fax_runcodes.specs.declared.format.Format.{Format}
@@ -108,11 +108,11 @@ ended_means xs readers place r dcs octets e p at checked h =
 
 pub ended_fails : (xs readers : List ReaderValue) (place : ℕ) (r : ReaderValue) (dcs : Dcs) (octets : List ℕ) (fault : PageFault) → reverse xs ≡ readers → place ≡ length xs - 2 → r ≡ get_or xs place r
     → ((os : List ℕ) → HasRead os r → FailsPage (elements_of r.format.width) r.coding os fault) → HasEnded dcs octets readers
-    → (f : PageFault) × FailsPage (elements_of (format_of dcs).width) (coding_of dcs) octets f
+    → FailsPage (elements_of (format_of dcs).width) (coding_of dcs) octets fault
 ended_fails xs readers place r dcs octets fault e p at checked h =
     let parts = ended_at xs readers place r dcs octets e p at h in
     let of : IsReaderOf dcs octets r = parts.4 in
-    (fault, subst (λ (f : Format). FailsPage (elements_of f.width) (coding_of dcs) octets fault) of.format (subst (λ (k : Coding). FailsPage (elements_of r.format.width) k octets fault) of.coding (checked octets of.read)))
+    subst (λ (f : Format). FailsPage (elements_of f.width) (coding_of dcs) octets fault) of.format (subst (λ (k : Coding). FailsPage (elements_of r.format.width) k octets fault) of.coding (checked octets of.read))
 
 -- THE PAGE that is accepted
 pub accepted_reader : (xs readers : List ReaderValue) (place : ℕ) (page : PageValue) (r : ReaderValue) → reverse xs ≡ readers → (at : MeansAt readers place page) → r ≡ get_or xs place r

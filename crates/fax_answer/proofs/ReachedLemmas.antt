@@ -1,5 +1,5 @@
 -- What an answering side keeps stands for the core of its call.
-use Rattle.std.proofs.Common.{◌≡◌, ℕ, Bool, true, false, ◌&&◌, List, [], ◌∷◌, Option, Some, None, IsSome, refl, sym, ◌∙◌, ap, subst, arith, if◌then◌else◌}
+use Rattle.std.proofs.Common.{◌≡◌, ℕ, Bool, true, false, ◌&&◌, List, [], ◌∷◌, Option, Some, None, IsSome, refl, sym, ◌∙◌, ap, subst, if◌then◌else◌}
 use Rattle.fax_answer.specs.History.{Entry}
 use Rattle.fax_frames.specs.declared.dcs.Dcs.{Dcs}
 use Rattle.fax_pagestore.specs.Readers.{ReaderValue}
@@ -19,8 +19,13 @@ use Rattle.fax_answer.specs.Calls.{Answering, Ticked, ticked, timed, timed_in, g
 use Rattle.fax_answer.specs.Pending.{packet_text}
 use Rattle.fax_answer.specs.Following.{Follows, GivesNext, gives_now, confirmed_left, confirmed_with}
 use Rattle.fax_answer.specs.Reached.{Holds, Kept, Stands, IsReached}
+use Rattle.fax_answer.specs.declared.refusal.Refusal.{Refusal}
+use Rattle.fax_answer.specs.Refusals.{HasReason}
+use Rattle.fax_answer.specs.declared.pending.Reply.TheVariants.{Plain}
+use Rattle.fax_frames.specs.declared.writing.Plain.TheVariants.{Rtn}
 use Rattle.fax_answer.specs.Shown.{IsStep, packet_in, confirmed_in, confirmed_shown}
 use Rattle.fax_answer.proofs.Held.{holds_none, holds_on}
+use Rattle.fax_answer.proofs.Refused.{first_tells, reason_left, reason_timed}
 use Rattle.fax_answer.proofs.FollowingLemmas.{ticked_rests, ticked_gives, timed_history, given_history}
 
 -- AT REST
@@ -38,11 +43,12 @@ settled_follows heard core kept r =
 abbrev pub no_image : ImageValue
 no_image = record { readers = []; accepted = None; run = 0; longest = 0 }
 
-pub stands_new : (core : Answering) (kept : Kept) → ((dcs : Dcs) → core.state ≡ Page dcs → ⊥) → core.history ≡ [] → kept.image ≡ no_image → Follows core kept.confirmed kept.procedure → Stands core kept
-stands_new core kept n h i f = record {
+pub stands_new : (core : Answering) (kept : Kept) → ((dcs : Dcs) → core.state ≡ Page dcs → ⊥) → core.history ≡ [] → kept.image ≡ no_image → Follows core kept.confirmed kept.procedure → HasReason core kept.refused → Stands core kept
+stands_new core kept n h i f r = record {
   confirmed = kept.confirmed;
   confirms = subst (λ (x : ImageValue). Confirms x.accepted x.readers kept.confirmed kept.confirmed) (sym i) refl;
   follows = f;
+  reason = r;
   holds = subst (λ (x : ImageValue). Holds core.state core.history x) (sym i) (subst (λ (x : List Entry). Holds core.state x no_image) (sym h) (holds_none core.state n));
 }
 
@@ -95,33 +101,34 @@ ticked_page a now dcs e = timed_page a now dcs (by (pace_allows (timed a now).pa
 -- A TICK that gives nothing
 pub reached_rests : (heard : List Slot) (core : Answering) (now : ℕ) (old : Kept) (procedure : Procedure) → IsReached heard core old → Follows (timed core now) old.confirmed procedure
     → gives_now (timed core now) now ≡ false
-    → IsReached heard (ticked core now).core (record { tracked = old.tracked; procedure = procedure; image = old.image; confirmed = old.confirmed; spare = old.spare })
+    → IsReached heard (ticked core now).core (record { tracked = old.tracked; procedure = procedure; image = old.image; confirmed = old.confirmed; refused = old.refused; spare = old.spare })
 reached_rests heard core now old procedure r f none =
-    let new : Kept = record { tracked = old.tracked; procedure = procedure; image = old.image; confirmed = old.confirmed; spare = old.spare } in
+    let new : Kept = record { tracked = old.tracked; procedure = procedure; image = old.image; confirmed = old.confirmed; refused = old.refused; spare = old.spare } in
     let there : IsReached heard (timed core now) new = record {
       tracked = r.tracked;
       stands = record {
         confirmed = old.confirmed;
         confirms = settled_confirms old.image.accepted old.image.readers old.confirmed r.settled;
         follows = f;
+        reason = reason_timed core now old.refused r.stands.reason;
         holds = holds_on core.state (timed core now).state core.history (timed core now).history old.image (timed_page core now) (timed_history core now) r.stands.holds;
       };
       settled = r.settled;
     } in
     subst (λ (t : Ticked). IsReached heard t.core new) (sym (ticked_rests core now none)) there
 
-pub step_rests : {S : Type 0} → (core : Answering) (now : ℕ) → gives_now (timed core now) now ≡ false → IsStep {S = S} (ticked core now) (record { packet = None; confirmed = None; ended = false })
+pub step_rests : {S : Type 0} → (core : Answering) (now : ℕ) → gives_now (timed core now) now ≡ false → IsStep {S = S} (ticked core now) (record { packet = None; confirmed = None; refused = None; ended = false })
 step_rests {S = S} core now none =
-    let s : Step S = record { packet = None; confirmed = None; ended = false } in
-    subst (λ (t : Ticked). IsStep {S = S} t s) (sym (ticked_rests core now none)) (record { packet = refl; confirmed = refl; ends = refl })
+    let s : Step S = record { packet = None; confirmed = None; refused = None; ended = false } in
+    subst (λ (t : Ticked). IsStep {S = S} t s) (sym (ticked_rests core now none)) (record { packet = refl; confirmed = refl; refused = record { rtn = λ h. absurd h; silent = λ off. refl }; ends = refl })
 
 -- and one that gives a packet
 pub reached_gives : (heard : List Slot) (core : Answering) (now : ℕ) (old : Kept) (acted procedure : Procedure) (ended : Bool) (spare : ℕ) → IsReached heard core old
     → GivesNext (timed core now) old.confirmed now acted procedure ended → gives_now (timed core now) now ≡ true
-    → IsReached heard (ticked core now).core (record { tracked = old.tracked; procedure = procedure; image = old.image; confirmed = confirmed_left procedure.pending old.confirmed; spare = spare })
+    → IsReached heard (ticked core now).core (record { tracked = old.tracked; procedure = procedure; image = old.image; confirmed = confirmed_left procedure.pending old.confirmed; refused = old.refused; spare = spare })
 reached_gives heard core now old acted procedure ended spare r n gives =
     let a : Answering = timed core now in
-    let new : Kept = record { tracked = old.tracked; procedure = procedure; image = old.image; confirmed = confirmed_left procedure.pending old.confirmed; spare = spare } in
+    let new : Kept = record { tracked = old.tracked; procedure = procedure; image = old.image; confirmed = confirmed_left procedure.pending old.confirmed; refused = old.refused; spare = spare } in
     let same = given_history a now a.waiting ∙ timed_history core now in
     let there : IsReached heard (given_first a now a.waiting).core new = record {
       tracked = r.tracked;
@@ -129,20 +136,23 @@ reached_gives heard core now old acted procedure ended spare r n gives =
         confirmed = confirmed_left procedure.pending old.confirmed;
         confirms = settled_confirms old.image.accepted old.image.readers (confirmed_left procedure.pending old.confirmed) r.settled;
         follows = n.follows;
+        reason = reason_left a now old.refused (reason_timed core now old.refused r.stands.reason);
         holds = holds_on core.state (given_first a now a.waiting).core.state core.history (given_first a now a.waiting).core.history old.image (λ dcs e. timed_page core now dcs (given_page a now a.waiting dcs e)) same r.stands.holds;
       };
       settled = r.settled;
     } in
     subst (λ (t : Ticked). IsReached heard t.core new) (sym (ticked_gives core now gives)) there
 
-pub step_gives : {S : Type 0} → (core : Answering) (now : ℕ) (confirmed : Option ConfirmedPage) (acted procedure : Procedure) (step : Step S) → GivesNext (timed core now) confirmed now acted procedure step.ended → gives_now (timed core now) now ≡ true
+pub step_gives : {S : Type 0} → (core : Answering) (now : ℕ) (confirmed : Option ConfirmedPage) (refused : Option Refusal) (acted procedure : Procedure) (step : Step S) → HasReason core refused → GivesNext (timed core now) confirmed now acted procedure step.ended → gives_now (timed core now) now ≡ true
     → step.packet ≡ Some (packet_text acted.pending) → confirmed_shown step.confirmed ≡ confirmed_with procedure.pending confirmed
+    → (acted.pending ≡ Frame (Plain Rtn) → step.refused ≡ refused) → ((acted.pending ≡ Frame (Plain Rtn) → ⊥) → step.refused ≡ None)
     → IsStep {S = S} (ticked core now) step
-step_gives {S = S} core now confirmed acted procedure step n gives packet page =
+step_gives {S = S} core now confirmed refused acted procedure step r n gives packet page rtn other =
     let a : Answering = timed core now in
     subst (λ (t : Ticked). IsStep {S = S} t step) (sym (ticked_gives core now gives)) (record {
       packet = packet ∙ sym (ap packet_in n.given);
       confirmed = page ∙ sym (ap confirmed_in n.given);
+      refused = first_tells a now acted.pending refused step.refused (confirmed_with procedure.pending confirmed) (reason_timed core now refused r) n.given rtn other;
       ends = n.ends;
     })
 

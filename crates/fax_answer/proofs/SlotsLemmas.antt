@@ -30,7 +30,10 @@ use Rattle.fax_answer.specs.Kept.{seen}
 use Rattle.fax_answer.specs.Images.{ImageValue, HasOpen, HasEnded, MeansAt, Confirms}
 use Rattle.fax_answer.specs.Following.{Rests, Follows, readers_wanted}
 use Rattle.fax_answer.specs.Reached.{Kept, Holds, HoldsPage, Stands, IsReached, Takes, TakesAll, Hears, HearsSo}
+use Rattle.fax_answer.specs.declared.refusal.Refusal.{Refusal}
+use Rattle.fax_answer.specs.Refusals.{HasReason}
 use Rattle.fax_answer.proofs.Held.{holds_gap}
+use Rattle.fax_answer.proofs.Refused.{reason_over}
 use Rattle.fax_answer.proofs.ReachedLemmas.{settled_follows}
 use Rattle.fax_answer.proofs.Readings.{readings_join}
 
@@ -63,6 +66,10 @@ came_gaps (suc n) core now = (None, tt, came_gaps n (decided core Gap PassesOver
 holds_gaps : (n : ℕ) (core : Answering) (now : ℕ) (i : ImageValue) → Holds core.state core.history i → Holds (gaps n core now).state (gaps n core now).history i
 holds_gaps zero core now i h = h
 holds_gaps (suc n) core now i h = holds_gaps n (decided core Gap PassesOver now) now i (holds_gap core.state core.history i h)
+
+reason_gaps : (n : ℕ) (core : Answering) (now : ℕ) (told : Option Refusal) → HasReason core told → HasReason (gaps n core now) told
+reason_gaps zero core now told r = r
+reason_gaps (suc n) core now told r = reason_gaps n (decided core Gap PassesOver now) now told (reason_over core Gap now told r)
 
 and_false : (b : Bool) → (b && false) ≡ false
 and_false true = refl
@@ -111,8 +118,8 @@ followed zero now core old new f l = subst (λ (p : Procedure). Follows core old
 followed (suc n) now core old new f l = gaps_follow n core now old.confirmed new.procedure (l.1 (omega arith))
 
 pub loses : (count now : ℕ) (heard : List Slot) (core : Answering) (old new : Kept) → IsReached heard core old → TracksRun (lost_slots count) old.tracked new.tracked → GivesRun (lost_slots count) old.tracked (replicate count Gap)
-    → new.image ≡ old.image → new.confirmed ≡ old.confirmed → LosesSo count now core old new → HearsSo (lost_slots count) now heard core new
-loses count now heard core old new r tracks gives image confirmed l =
+    → new.image ≡ old.image → new.confirmed ≡ old.confirmed → new.refused ≡ old.refused → LosesSo count now core old new → HearsSo (lost_slots count) now heard core new
+loses count now heard core old new r tracks gives image confirmed refused l =
     let back : reverse (lost_slots count) ≡ lost_slots count = reversed_lost count in
     record {
       given = replicate count Gap;
@@ -125,6 +132,7 @@ loses count now heard core old new r tracks gives image confirmed l =
         confirms = subst (λ (i : ImageValue). Confirms i.accepted i.readers new.confirmed old.confirmed) (sym image)
             (subst (λ (a : Option Accepted). Confirms a old.image.readers new.confirmed old.confirmed) (sym r.settled) (sym confirmed));
         follows = followed count now core old new (settled_follows heard core old r) l;
+        reason = subst (HasReason (gaps count core now)) (sym refused) (reason_gaps count core now old.refused r.stands.reason);
         holds = subst (λ (i : ImageValue). Holds (gaps count core now).state (gaps count core now).history i) (sym image) (holds_gaps count core now old.image r.stands.holds);
       };
     }

@@ -4,7 +4,7 @@ use Rattle.std.specs.Prelude.{◌≡◌, ◌≢◌, ◌⊎◌, ℕ, ◌<◌, ◌
 use Rattle.fax_timers.specs.Moments.{is_due, on_clock, earlier}
 use Rattle.fax_timers.specs.Paces.{allowed_from}
 use Rattle.fax_answer.specs.declared.state.State.{State}
-use Rattle.fax_answer.specs.declared.state.State.TheVariants.{Idle, Identify, Listen, Train, Page, Again, Closing}
+use Rattle.fax_answer.specs.declared.state.State.TheVariants.{Idle, Identify, Closing}
 use Rattle.fax_answer.specs.declared.timers.Timers.{Timers}
 use Rattle.fax_answer.specs.Replies.{is_waiting}
 use Rattle.fax_answer.specs.Calls.{Answering, Ticked, ticked}

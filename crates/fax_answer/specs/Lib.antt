@@ -10,6 +10,7 @@ pub mod Images
 pub mod Judging
 pub mod EachCommand
 pub mod EachRtn
+pub mod Refusals
 pub mod Kept
 pub mod Reached
 pub mod Shown

@@ -1,19 +1,24 @@
 -- What an answering side keeps that a call has led to.
 use Rattle.std.specs.Prelude.{◌≡◌, ℕ, ◌+◌, ◌<◌, true, List, ◌++◌, reverse, length, Option, Some, None}
+use Rattle.fax_runcodes.specs.Widths.{elements_of}
 use Rattle.fax_frames.specs.declared.dcs.Dcs.{Dcs}
+use Rattle.fax_frames.specs.Capabilities.{format_of, coding_of}
+use Rattle.fax_pagestore.specs.PageFaults.{FailsPage}
 use Rattle.fax_pagestore.specs.Readers.{ReaderValue}
 use Rattle.fax_ifp.specs.Elements.{Slot}
 use Rattle.fax_ifp.specs.Pieces.{Piece, pieces}
 use Rattle.fax_ifp.specs.Tracked.{Tracked, IsTracked}
 use Rattle.fax_answer.specs.declared.command.Command.{Command}
 use Rattle.fax_answer.specs.declared.command.Order.TheVariants.{Judge}
-use Rattle.fax_answer.specs.declared.decision.Decision as code
+use Rattle.fax_answer.specs.declared.answer.Answer.{Answer}
 use Rattle.fax_answer.specs.declared.image.Accepted.{Accepted}
+use Rattle.fax_answer.specs.declared.refusal.Refusal.{Refusal}
+use Rattle.fax_answer.specs.declared.refusal.Refusal.TheVariants.{Fault}
 use Rattle.fax_answer.specs.declared.procedure.Procedure.{Procedure}
 use Rattle.fax_answer.specs.declared.state.State.{State}
-use Rattle.fax_answer.specs.declared.state.State.TheVariants.{Page}
+use Rattle.fax_answer.specs.declared.state.State.TheVariants.{Page, Again}
 use Rattle.fax_answer.specs.Orders.{order_of}
-use Rattle.fax_answer.specs.History.{Entry, since_answer, octets_since, last_image}
+use Rattle.fax_answer.specs.History.{Entry, Decision, GivesRtn, since_answer, octets_since, last_image}
 use Rattle.fax_answer.specs.Table.{Reading, is_one_image, judged, on_command, on_command_again, on_order, order_asks}
 use Rattle.fax_answer.specs.Replies.{ConfirmedPage}
 use Rattle.fax_answer.specs.Calls.{Answering, asked, came, first_asked, came_all}
@@ -22,14 +27,16 @@ use Rattle.fax_answer.specs.Readings.{CameSo}
 use Rattle.fax_answer.specs.Kept.{verdict_of}
 use Rattle.fax_answer.specs.Images.{ImageValue, HasOpen, HasEnded, Confirms, run_behind, longest_behind}
 use Rattle.fax_answer.specs.Following.{Follows, confirmed_behind}
+use Rattle.fax_answer.specs.Refusals.{HasReason, IsWhy}
 
 -- what is left of the slots for frames and images to come, the procedure, the images, the page that the MCF that waits
--- confirms, and for how many packets memory is reserved
+-- confirms, why a page is refused by the RTN that waits, and for how many packets memory is reserved
 pub record Kept : Type 0 where
   pub tracked : Tracked
   pub procedure : Procedure
   pub image : ImageValue
   pub confirmed : Option ConfirmedPage
+  pub refused : Option Refusal
   pub spare : ℕ
 
 -- In Page, under this DCS: the image under way is read, and the last that ended where a command may ask what it means. The
@@ -51,6 +58,7 @@ pub record Stands (core : Answering) (kept : Kept) : Type 0 where
   pub confirmed : Option ConfirmedPage
   pub confirms : Confirms kept.image.accepted kept.image.readers kept.confirmed confirmed
   pub follows : Follows core confirmed kept.procedure
+  pub reason : HasReason core kept.refused
   pub holds : Holds core.state core.history kept.image
 
 -- These slots of the call, the newest first, and this core led to it. No page that is confirmed is in a reader any more.
@@ -88,28 +96,43 @@ pub record TakesAll (given : List Piece) (now : ℕ) (core : Answering) (new : K
   pub came : CameSo core given now behind
   pub stands : Stands behind new
 
--- what is decided of an image by some reading of it that is right, and the image, among these readers, of the page that is
--- confirmed
-pub record AnswersImage (octets : List ℕ) (dcs : Dcs) (command : Command) (readers : List ReaderValue) (verdict : code.Decision) (found : Option Accepted) : Type 0 where
+-- the fault that an image meets under this DCS
+abbrev pub IsFaultOf : List ℕ → Dcs → Option Refusal → Type 0
+IsFaultOf octets dcs (Some (Fault fault)) = FailsPage (elements_of (format_of dcs).width) (coding_of dcs) octets fault
+IsFaultOf octets dcs refused = ⊥
+
+-- where RTN is decided, this holds
+abbrev pub AtRtn : Decision → Type 0 → Type 0
+AtRtn GivesRtn P = P
+AtRtn decision P = Unit {0}
+
+-- What is decided of an image by some reading of it that is right, the image, among these readers, of the page that is
+-- confirmed, and the fault for which it is refused
+pub record AnswersImage (octets : List ℕ) (dcs : Dcs) (command : Command) (readers : List ReaderValue) (answer : Answer) : Type 0 where
   pub read : Reading
   pub right : IsRight (record { octets = octets; dcs = dcs }) read
-  pub verdict_is : verdict_of (judged command read) ≡ verdict
-  pub page_is : Confirms found readers None (confirmed_behind (judged command read) None)
+  pub verdict_is : verdict_of (judged command read) ≡ answer.decision
+  pub page_is : Confirms answer.found readers None (confirmed_behind (judged command read) None)
+  pub why : AtRtn (judged command read) (IsFaultOf octets dcs answer.refused)
 
 -- the same at a command in Page
-pub record AnswersCommand (dcs : Dcs) (command : Command) (history : List Entry) (readers : List ReaderValue) (verdict : code.Decision) (found : Option Accepted) : Type 0 where
+pub record AnswersCommand (dcs : Dcs) (command : Command) (history : List Entry) (readers : List ReaderValue) (answer : Answer) : Type 0 where
   pub read : Reading
   pub right : IfAsked (order_asks (Page dcs) history (Judge command)) read
-  pub verdict_is : verdict_of (on_command read history command) ≡ verdict
-  pub page_is : Confirms found readers None (confirmed_behind (on_command read history command) None)
+  pub verdict_is : verdict_of (on_command read history command) ≡ answer.decision
+  pub page_is : Confirms answer.found readers None (confirmed_behind (on_command read history command) None)
+  pub why : AtRtn (on_command read history command) (IsWhy (Page dcs) history answer.refused)
 
 -- what is decided at a command in Again
-abbrev pub AnswersAgain : Command → List Entry → code.Decision → Type 0
-AnswersAgain command history verdict = verdict_of (on_command_again history command) ≡ verdict
+pub record AnswersAgain (command : Command) (history : List Entry) (readers : List ReaderValue) (answer : Answer) : Type 0 where
+  pub verdict_is : verdict_of (on_command_again history command) ≡ answer.decision
+  pub page_is : Confirms answer.found readers None (confirmed_behind (on_command_again history command) None)
+  pub why : AtRtn (on_command_again history command) (IsWhy Again history answer.refused)
 
 -- the same as in Page at a frame where no packet waits
-pub record Answers (octets : List ℕ) (core : Answering) (readers : List ReaderValue) (verdict : code.Decision) (found : Option Accepted) : Type 0 where
+pub record Answers (octets : List ℕ) (core : Answering) (readers : List ReaderValue) (answer : Answer) : Type 0 where
   pub read : Reading
   pub right : IfAsked (order_asks core.state core.history (order_of octets)) read
-  pub verdict_is : verdict_of (on_order read core.state core.history (order_of octets)) ≡ verdict
-  pub page_is : Confirms found readers None (confirmed_behind (on_order read core.state core.history (order_of octets)) None)
+  pub verdict_is : verdict_of (on_order read core.state core.history (order_of octets)) ≡ answer.decision
+  pub page_is : Confirms answer.found readers None (confirmed_behind (on_order read core.state core.history (order_of octets)) None)
+  pub why : AtRtn (on_order read core.state core.history (order_of octets)) (IsWhy core.state core.history answer.refused)

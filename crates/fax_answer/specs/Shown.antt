@@ -4,6 +4,7 @@ use Rattle.fax_answer.specs.declared.step.Confirmed.{Confirmed}
 use Rattle.fax_answer.specs.declared.step.Step.{Step}
 use Rattle.fax_answer.specs.Replies.{ConfirmedPage, Waiting}
 use Rattle.fax_answer.specs.Calls.{Ticked}
+use Rattle.fax_answer.specs.Refusals.{TellsWhy}
 
 abbrev pub page_shown : {S : Type 0} → Confirmed S → ConfirmedPage
 page_shown c = record { page = c.page; closes = c.closes }
@@ -25,4 +26,5 @@ confirmed_in (Some w) = w.confirmed
 pub record IsStep {S : Type 0} (t : Ticked) (step : Step S) : Type 0 where
   pub packet : step.packet ≡ packet_in t.given
   pub confirmed : confirmed_shown step.confirmed ≡ confirmed_in t.given
+  pub refused : TellsWhy t step.refused
   pub ends : step.ended ≡ t.ended

@@ -8,10 +8,13 @@ ghost use Rattle.fax_answer.specs.Shown.{IsStep};
 
 use crate::State;
 use crate::image::Image;
+use crate::pending::{Pending, Reply};
 use crate::procedure::Procedure;
+use crate::refusal::Refusal;
 use crate::room::Room;
 use crate::step::{Confirmed, Step};
 use fax_bits::NoMemory;
+use fax_frames::Plain;
 use fax_ifp::Signals;
 use fax_pagestore::RowStore;
 use std::alloc::Global;
@@ -27,6 +30,8 @@ pub struct Answerer<S: RowStore> {
     pub(crate) image: Image<S>,
     /// The page that the MCF confirms that waits.
     pub(crate) confirmed: Option<Confirmed<S>>,
+    /// Why a page is refused, where the RTN waits.
+    pub(crate) refused: Option<Refusal>,
     /// The room for the packet of the next tick.
     pub(crate) room: Room,
 }
@@ -37,7 +42,7 @@ impl<S: RowStore> Model for Answerer<S> {
 
     ghost Value = { Kept };
 
-    ghost view = { λ a. record { tracked = a.signals; procedure = a.procedure; image = a.image; confirmed = confirmed_shown a.confirmed; spare = a.room } };
+    ghost view = { λ a. record { tracked = a.signals; procedure = a.procedure; image = a.image; confirmed = confirmed_shown a.confirmed; refused = a.refused; spare = a.room } };
 }
 
 impl<S: RowStore> Answerer<S> {
@@ -52,6 +57,7 @@ impl<S: RowStore> Answerer<S> {
             procedure: Procedure::new(preamble_ms),
             image: Image::new(alloc),
             confirmed: None,
+            refused: None,
             room: Room::none(),
         }
     }
@@ -67,6 +73,7 @@ impl<S: RowStore> Answerer<S> {
         self.procedure.ring(now);
         self.image = Image::new(self.alloc);
         self.confirmed = None;
+        self.refused = None;
     }
 
     /// Where the call stands.
@@ -96,8 +103,9 @@ impl<S: RowStore> Answerer<S> {
     }
 
     /// Time goes on: where no packet waits a timer that is due acts, and then at most one packet is given, where one waits
-    /// and the pace allows. The MCF that confirms a page is given with the page. It takes memory for the packet where none
-    /// is reserved, and none where no packet is given. A packet has at most 12 octets. An `Err` changes nothing.
+    /// and the pace allows. The MCF that confirms a page is given with the page, and an RTN with the reason for it, each time
+    /// that one is given. It takes memory for the packet where none is reserved, and none where no packet is given. A packet
+    /// has at most 12 octets. An `Err` changes nothing.
     pub fn tick(&mut self, now: u64) -> Result<Step<S>, NoMemory>
         ensures ticked { IfOk result (λ step. (heard : List SlotShown) (core : Answering) → IsReached heard core self.old
             → IsReached heard (ticked core now).core self.new × IsStep (ticked core now) step) }
@@ -114,19 +122,33 @@ impl<S: RowStore> Answerer<S> {
             return Ok(Step {
                 packet: None,
                 confirmed: None,
+                refused: None,
                 ended: false,
             });
         }
         let room = self.room.take(self.alloc)?;
         let packet = procedure.pending.packet(room);
+        let refused = self.refusal_in(procedure.pending);
         let ended = procedure.give(now);
         let confirmed = take_if(&mut self.confirmed, !procedure.is_waiting());
         self.procedure = procedure;
         Ok(Step {
             packet: Some(packet),
             confirmed,
+            refused,
             ended,
         })
+    }
+
+    /// Why a page is refused, where this is the packet of the RTN frame.
+    fn refusal_in(&self, pending: Pending) -> Option<Refusal>
+        ensures rtn { pending ≡ Pending.Frame (Reply.Plain Plain.Rtn) → result ≡ self.now.refused }
+        ensures other { (pending ≡ Pending.Frame (Reply.Plain Plain.Rtn) → ⊥) → result ≡ None }
+    {
+        match pending {
+            Pending::Frame(Reply::Plain(Plain::Rtn)) => self.refused,
+            _ => None,
+        }
     }
 }
 

@@ -1,12 +1,15 @@
 //! What is counted of a call in place of its history.
-ghost use Rattle.std.specs.Prelude.{◌≡◌, [], ◌∷◌, List};
+ghost use Rattle.std.specs.Prelude.{◌≡◌, [], ◌∷◌, List, false};
 ghost use Rattle.fax_ifp.specs.Shown.{piece_of};
 ghost use Rattle.fax_answer.specs.History.{Entry, since_answer};
 ghost use Rattle.fax_answer.specs.Table.{is_one_image, is_quiet, is_repeat};
 ghost use Rattle.fax_answer.specs.Kept.{counts_of, verdict_of};
+ghost use Rattle.fax_answer.specs.Refusals.{IsReasonInAgain, IsReasonInPage};
+ghost use Rattle.fax_frames.specs.declared.dcs.Dcs.{Dcs};
 
 use crate::Command;
 use crate::decision::Decision;
+use crate::refusal::Refusal;
 use fax_ifp::Piece;
 
 /// How many images ended since the last CFR or MCF.
@@ -121,6 +124,29 @@ impl Counts {
         ensures { (history : List Entry) → self.now ≡ counts_of history → result ≡ is_repeat history command }
     {
         self.is_quiet() && is_same(self.repeat, command)
+    }
+
+    /// Why a command is refused in Page, where not one image stands before it, whole and with nothing behind it.
+    pub fn refusal(&self) -> Refusal
+        ensures { (history : List Entry) (dcs : Dcs) → self.now ≡ counts_of history → is_one_image (since_answer history) ≡ false
+            → IsReasonInPage dcs history result }
+    {
+        match self.images {
+            Images::Zero => Refusal::NoImage,
+            Images::One if self.whole => Refusal::GapBehind,
+            Images::One => Refusal::NotWhole,
+            Images::More => Refusal::SeveralImages,
+        }
+    }
+
+    /// Why a command is refused in Again.
+    pub fn refusal_again(&self) -> Refusal
+        ensures { (history : List Entry) → self.now ≡ counts_of history → IsReasonInAgain history result }
+    {
+        match self.images {
+            Images::Zero => Refusal::NoImage,
+            Images::One | Images::More => Refusal::Untrained,
+        }
     }
 
     /// Whether a slot was missing since the DCS that trained.

@@ -12,9 +12,11 @@ ghost use Rattle.fax_answer.specs.Kept.{decided_outside, verdict_of};
 ghost use Rattle.fax_answer.specs.Images.{HasEnded, GoesOn, TakesIn, begun};
 ghost use Rattle.fax_answer.specs.Reached.{IsReached, Stands, Takes, TakesAll, Answers, AnswersAgain, AnswersCommand, AnswersImage, Hears, HearsSo};
 
+use crate::answer::Answer;
 use crate::answerer::Answerer;
 use crate::decision::Decision;
 use crate::image::Accepted;
+use crate::refusal::Refusal;
 use crate::step::Confirmed;
 use crate::{Command, Order, State};
 use fax_bits::NoMemory;
@@ -55,10 +57,12 @@ impl<S: RowStore> Answerer<S> {
         }
         let signals = self.signals.copy();
         let procedure = self.procedure;
+        let refused = self.refused;
         let mark = self.image.mark()?;
         if self.hear_slots(decided, now).is_err() {
             self.signals = signals;
             self.procedure = procedure;
+            self.refused = refused;
             self.image.back(mark);
             return Err(NoMemory);
         }
@@ -179,66 +183,69 @@ impl<S: RowStore> Answerer<S> {
             self.procedure.note(piece, Decision::PassOver, now);
             return;
         }
-        let (decision, found) = self.answer(octets);
-        self.procedure.note(piece, decision, now);
-        self.image.accept(found);
+        let answer = self.answer(octets);
+        self.procedure.note(piece, answer.decision, now);
+        self.image.accept(answer.found);
+        self.refused = answer.refused;
     }
 
-    /// What is decided at a frame where no packet waits, and the image of the page that it confirms.
-    fn answer(&self, octets: &[u8]) -> (Decision, Option<Accepted>)
+    /// What is decided at a frame where no packet waits.
+    fn answer(&self, octets: &[u8]) -> Answer
         ensures { (core : Answering) → Stands core self.now
-            → Answers octets.now core self.now.image.readers result.0 result.1 }
+            → Answers octets.now core self.now.image.readers result }
     {
         let order = Order::read(octets);
         match self.procedure.state {
-            State::Idle | State::Closing => (Decision::PassOver, None),
-            State::Identify | State::Listen | State::Train(_) => (decide(order), None),
+            State::Idle | State::Closing => Answer::plain(Decision::PassOver),
+            State::Identify | State::Listen | State::Train(_) => Answer::plain(decide(order)),
             State::Page(_) => match order {
                 Order::Judge(command) => self.judge(command),
-                _ => (decide(order), None),
+                _ => Answer::plain(decide(order)),
             },
             State::Again => match order {
-                Order::Judge(command) => (self.judge_again(command), None),
-                _ => (decide(order), None),
+                Order::Judge(command) => self.judge_again(command),
+                _ => Answer::plain(decide(order)),
             },
         }
     }
 
-    /// What is decided at a command in Page, and the image of the page that it confirms.
-    fn judge(&self, command: Command) -> (Decision, Option<Accepted>)
+    /// What is decided at a command in Page.
+    fn judge(&self, command: Command) -> Answer
         ensures { (core : Answering) (dcs : Dcs) → Stands core self.now → core.state ≡ State.Page dcs
-            → AnswersCommand dcs command core.history self.now.image.readers result.0 result.1 }
+            → AnswersCommand dcs command core.history self.now.image.readers result }
     {
         if self.procedure.counts.is_one_image() {
             return self.read(command);
         }
         if self.procedure.counts.is_repeat(command) {
-            return (Decision::Mcf(command), None);
+            return Answer::plain(Decision::Mcf(command));
         }
-        (Decision::Rtn, None)
+        Answer::rtn(self.procedure.counts.refusal())
     }
 
     /// What is decided at a command in Again: MCF to an EOM behind which nothing came, else RTN.
-    fn judge_again(&self, command: Command) -> Decision
-        ensures { (core : Answering) → Stands core self.now → AnswersAgain command core.history result }
+    fn judge_again(&self, command: Command) -> Answer
+        ensures { (core : Answering) → Stands core self.now → AnswersAgain command core.history self.now.image.readers result }
     {
         match command {
-            Command::Eom if self.procedure.counts.is_quiet() => Decision::Mcf(Command::Eom),
-            _ => Decision::Rtn,
+            Command::Eom if self.procedure.counts.is_quiet() => Answer::plain(Decision::Mcf(
+                command,
+            )),
+            _ => Answer::rtn(self.procedure.counts.refusal_again()),
         }
     }
 
     /// What is decided of the last image: MCF where it means a page, which it confirms, else RTN.
-    fn read(&self, command: Command) -> (Decision, Option<Accepted>)
+    fn read(&self, command: Command) -> Answer
         ensures { (dcs : Dcs) (octets : List ℕ) → HasEnded dcs octets self.now.image.readers
-            → AnswersImage octets dcs command self.now.image.readers result.0 result.1 }
+            → AnswersImage octets dcs command self.now.image.readers result }
     {
         match self.image.page_ended() {
-            Some(place) => {
+            Ok(place) => {
                 let closes = is_last(command);
-                (Decision::Mcf(command), Some(Accepted { place, closes }))
+                Answer::mcf(command, Accepted { place, closes })
             }
-            None => (Decision::Rtn, None),
+            Err(fault) => Answer::rtn(Refusal::Fault(fault)),
         }
     }
 

@@ -1,5 +1,5 @@
 //! The images of a call: what is read of them, and their zero octets.
-ghost use Rattle.std.specs.Prelude.{◌≡◌, ◌+◌, ◌-◌, ◌++◌, ◌∷◌, ◌<◌, ◌≤◌, ℕ, List, [], Some, None, take, length, IfOk, IfSome, IsNone, OnOk, OnErr, is_some, if◌then◌else◌};
+ghost use Rattle.std.specs.Prelude.{◌≡◌, ◌+◌, ◌-◌, ◌++◌, ◌∷◌, ◌<◌, ◌≤◌, ℕ, List, [], Some, None, take, length, IfOk, IfErr, OnOk, OnErr, is_some, if◌then◌else◌};
 ghost use Rattle.fax_runcodes.specs.Widths.{elements_of};
 ghost use Rattle.fax_frames.specs.Capabilities.{format_of, coding_of};
 ghost use Rattle.fax_pagestore.specs.Pages.{PageValue};
@@ -118,21 +118,22 @@ impl<S: RowStore> Image<S> {
         self.zeros.longest
     }
 
-    /// The place of the image before the one under way, where it means a page. It takes no memory.
-    pub fn page_ended(&self) -> Option<usize>
-        ensures page { IfSome result (λ place. (dcs : Dcs) (octets : List ℕ) → HasEnded dcs octets self.now.readers
+    /// The place of the image before the one under way where it means a page, and else the fault that it meets. Where there is
+    /// none, nothing was read, and so no EOL. It takes no memory.
+    pub fn page_ended(&self) -> Result<usize, PageFault>
+        ensures page { IfOk result (λ place. (dcs : Dcs) (octets : List ℕ) → HasEnded dcs octets self.now.readers
             → (page : PageValue) × MeansAt self.now.readers place page × MeansPage (format_of dcs) (coding_of dcs) octets page) }
-        ensures none { IsNone result → (dcs : Dcs) (octets : List ℕ) → HasEnded dcs octets self.now.readers
-            → (fault : PageFault) × FailsPage (elements_of (format_of dcs).width) (coding_of dcs) octets fault }
+        ensures fault { IfErr result (λ fault. (dcs : Dcs) (octets : List ℕ) → HasEnded dcs octets self.now.readers
+            → FailsPage (elements_of (format_of dcs).width) (coding_of dcs) octets fault) }
     {
         let len = self.readers.len();
         if len < 2 {
-            return None;
+            return Err(PageFault::NoEol);
         }
         let place = len - 2;
         match self.readers[place].check() {
-            Ok(()) => Some(place),
-            Err(_) => None,
+            Ok(()) => Ok(place),
+            Err(fault) => Err(fault),
         }
     }
 

@@ -7,6 +7,7 @@ ghost use Rattle.fax_answer.specs.EachRtn.{EachRtnRefuses};
 ghost use Rattle.fax_answer.specs.InPage.{BeginsInPage};
 ghost use Rattle.fax_answer.specs.Judging.{RefusesNoPage, JudgesExactly};
 ghost use Rattle.fax_answer.specs.Readings.{ReadingsJoin, CallsAreRead, CallsGoOn};
+ghost use Rattle.fax_answer.specs.Refusals.{ReasonsAreUnique};
 ghost use Rattle.fax_answer.specs.Sent.{ConfirmsSignals, ConfirmsWhatItAccepted};
 
 /// Each tick that gives a confirmed page gives the MCF frame as its packet, at the last command that was answered: a
@@ -43,6 +44,11 @@ pub fn judges_each_command()
 /// it, the image means no page.
 pub fn each_rtn_refuses()
     ensures { EachRtnRefuses }
+{}
+
+/// A command is refused for one reason at most, so that a tick that gives an RTN tells just this one.
+pub fn reasons_are_unique()
+    ensures { ReasonsAreUnique }
 {}
 
 /// One reading serves all pieces of a datagram.

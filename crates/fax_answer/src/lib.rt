@@ -6,6 +6,7 @@
 //! pace in `Calls`.
 #![tactic(auto)]
 
+mod answer;
 mod answerer;
 mod command;
 mod counts;
@@ -15,6 +16,7 @@ mod image;
 pub mod laws;
 mod pending;
 mod procedure;
+mod refusal;
 mod room;
 mod state;
 mod step;
@@ -22,5 +24,6 @@ mod timers;
 
 pub use answerer::Answerer;
 pub use command::{Command, Order};
+pub use refusal::Refusal;
 pub use state::State;
 pub use step::{Confirmed, Step};

@@ -1,4 +1,5 @@
 //! What a tick answers.
+use crate::refusal::Refusal;
 use fax_bits::Octets;
 use fax_pagestore::{Page, RowStore};
 
@@ -10,10 +11,13 @@ pub struct Confirmed<S: RowStore> {
     pub closes: bool,
 }
 
-/// What a tick answers: at most one packet, at most one page, and whether the call has ended.
+/// What a tick answers: at most one packet, at most one page that it confirms, why it refuses one, and whether the call has
+/// ended.
 #[derive(Drop)]
 pub struct Step<S: RowStore> {
     pub packet: Option<Octets>,
     pub confirmed: Option<Confirmed<S>>,
+    /// Why the page is refused, where the packet is the RTN frame.
+    pub refused: Option<Refusal>,
     pub ended: bool,
 }

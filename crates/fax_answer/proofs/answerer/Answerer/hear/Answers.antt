@@ -44,41 +44,41 @@ pub returns-in_ok-begin_image-in-Start-clause-heard : goal.returns-in_ok-begin_i
 returns-in_ok-begin_image-in-Start-clause-heard g c core s =
     let k = subst (λ (x : Kept). Stands core x) (sym c.self.view_is) s in
     let confirmed = confirmed_shown {S = g.row.S.Denot} c.self.inside.confirmed in
-    let old : Kept = record { tracked = c.self.inside.signals; procedure = c.self.inside.procedure; image = c.self.inside.image; confirmed = confirmed; spare = c.self.inside.room } in
+    let old : Kept = record { tracked = c.self.inside.signals; procedure = c.self.inside.procedure; image = c.self.inside.image; confirmed = confirmed; refused = c.self.inside.refused; spare = c.self.inside.room } in
     hears_start core c.in-Start.field-0 c.args.now (piece_of c.args.piece.now) old c.begin_image.new.self c.note.new.self (ap piece_of c.in-Start.is) k
     (λ can. c.note.ensures.noted core k.confirmed (Start c.in-Start.field-0) PassesOver k.follows (ap piece_of c.in-Start.is) refl can)
-    (record { procedure_is = ap (λ (x : Kept). x.procedure) c.begin_image.ensures.same; confirmed = ap (λ (x : Kept). x.confirmed) c.begin_image.ensures.same; image_is = c.in_ok-begin_image-in-Start.ensures.begun })
+    (record { procedure_is = ap (λ (x : Kept). x.procedure) c.begin_image.ensures.same; confirmed = ap (λ (x : Kept). x.confirmed) c.begin_image.ensures.same; refused = ap (λ (x : Kept). x.refused) c.begin_image.ensures.same; image_is = c.in_ok-begin_image-in-Start.ensures.begun })
 
 pub returns-in_ok-read_octets-in-Octets-clause-heard : goal.returns-in_ok-read_octets-in-Octets-clause-heard
 returns-in_ok-read_octets-in-Octets-clause-heard g c core s =
     let same = c.self-in-Octets.view_is ∙ c.read_octets.ensures.same in
     let confirmed = confirmed_shown {S = g.row.S.Denot} c.self-in-Octets.inside.confirmed in
-    let new : Kept = record { tracked = c.self-in-Octets.inside.signals; procedure = c.note-in-Octets.new.self; image = c.self-in-Octets.inside.image; confirmed = confirmed; spare = c.self-in-Octets.inside.room } in
+    let new : Kept = record { tracked = c.self-in-Octets.inside.signals; procedure = c.note-in-Octets.new.self; image = c.self-in-Octets.inside.image; confirmed = confirmed; refused = c.self-in-Octets.inside.refused; spare = c.self-in-Octets.inside.room } in
     let procedure : c.self-in-Octets.inside.procedure ≡ c.args.self.now.procedure = ap (λ (x : Kept). x.procedure) same in
     let follows : Follows core s.confirmed c.self-in-Octets.inside.procedure = subst (λ (x : Procedure). Follows core s.confirmed x) (sym procedure) s.follows in
     hears_octets core c.in-Octets.octets.now c.args.now (piece_of c.args.piece.now) c.args.self.now new c.note-in-Octets.new.self c.read_octets.new.self.image (ap piece_of c.in-Octets.is) s
     (λ can. c.note-in-Octets.ensures.noted core s.confirmed (Octets c.in-Octets.octets.now) PassesOver follows (ap piece_of c.in-Octets.is) refl can)
     c.in_ok-read_octets-in-Octets.ensures.taken
-    (record { procedure_is = refl; confirmed = ap (λ (x : Kept). x.confirmed) same; image_is = ap (λ (x : Kept). x.image) c.self-in-Octets.view_is })
+    (record { procedure_is = refl; confirmed = ap (λ (x : Kept). x.confirmed) same; refused = ap (λ (x : Kept). x.refused) same; image_is = ap (λ (x : Kept). x.image) c.self-in-Octets.view_is })
 
 pub returns-in_ok-begin_image-in-End-clause-heard : goal.returns-in_ok-begin_image-in-End-clause-heard
 returns-in_ok-begin_image-in-End-clause-heard g c core s =
     let k = subst (λ (x : Kept). Stands core x) (sym c.self-in-End.view_is) s in
     let confirmed = confirmed_shown {S = g.row.S.Denot} c.self-in-End.inside.confirmed in
-    let old : Kept = record { tracked = c.self-in-End.inside.signals; procedure = c.self-in-End.inside.procedure; image = c.self-in-End.inside.image; confirmed = confirmed; spare = c.self-in-End.inside.room } in
+    let old : Kept = record { tracked = c.self-in-End.inside.signals; procedure = c.self-in-End.inside.procedure; image = c.self-in-End.inside.image; confirmed = confirmed; refused = c.self-in-End.inside.refused; spare = c.self-in-End.inside.room } in
     hears_end core c.in-End.whole c.args.now (piece_of c.args.piece.now) old c.begin_image-in-End.new.self c.note-in-End.new.self (ap piece_of c.in-End.is) k
     (λ can. c.note-in-End.ensures.noted core k.confirmed (End c.in-End.whole) _ k.follows (ap piece_of c.in-End.is) (c.judge_training-decision.ensures core s) can)
-    (record { procedure_is = ap (λ (x : Kept). x.procedure) c.begin_image-in-End.ensures.same; confirmed = ap (λ (x : Kept). x.confirmed) c.begin_image-in-End.ensures.same; image_is = c.in_ok-begin_image-in-End.ensures.begun })
+    (record { procedure_is = ap (λ (x : Kept). x.procedure) c.begin_image-in-End.ensures.same; confirmed = ap (λ (x : Kept). x.confirmed) c.begin_image-in-End.ensures.same; refused = ap (λ (x : Kept). x.refused) c.begin_image-in-End.ensures.same; image_is = c.in_ok-begin_image-in-End.ensures.begun })
 
 pub returns-in-Gap-clause-heard : goal.returns-in-Gap-clause-heard
 returns-in-Gap-clause-heard g c core s =
     let k = subst (λ (x : Kept). Stands core x) (sym c.self-in-Gap.view_is) s in
     let confirmed = confirmed_shown {S = g.row.S.Denot} c.self-in-Gap.inside.confirmed in
-    let old : Kept = record { tracked = c.self-in-Gap.inside.signals; procedure = c.self-in-Gap.inside.procedure; image = c.self-in-Gap.inside.image; confirmed = confirmed; spare = c.self-in-Gap.inside.room } in
-    let new : Kept = record { tracked = c.self-in-Gap.inside.signals; procedure = c.note-in-Gap.new.self; image = c.self-in-Gap.inside.image; confirmed = confirmed; spare = c.self-in-Gap.inside.room } in
+    let old : Kept = record { tracked = c.self-in-Gap.inside.signals; procedure = c.self-in-Gap.inside.procedure; image = c.self-in-Gap.inside.image; confirmed = confirmed; refused = c.self-in-Gap.inside.refused; spare = c.self-in-Gap.inside.room } in
+    let new : Kept = record { tracked = c.self-in-Gap.inside.signals; procedure = c.note-in-Gap.new.self; image = c.self-in-Gap.inside.image; confirmed = confirmed; refused = c.self-in-Gap.inside.refused; spare = c.self-in-Gap.inside.room } in
     hears_gap core c.args.now (piece_of c.args.piece.now) old new c.note-in-Gap.new.self (ap piece_of c.in-Gap.is) k
     (λ can. c.note-in-Gap.ensures.noted core k.confirmed Gap PassesOver k.follows (ap piece_of c.in-Gap.is) refl can)
-    (record { procedure_is = refl; confirmed = refl; image_is = refl })
+    (record { procedure_is = refl; confirmed = refl; refused = refl; image_is = refl })
 
 pub returns-in-Gap-clause-goes_on : goal.returns-in-Gap-clause-goes_on
 returns-in-Gap-clause-goes_on g c = goes_same _ _ (ap (λ (k : Kept). k.image.readers) c.self-in-Gap.view_is)

@@ -14,18 +14,18 @@ returns-then-is_waiting-clause-heard g c core s =
     let k = subst (λ (x : Kept). Stands core x) (sym c.self.view_is) s in
     let some : c.self.inside.procedure.pending ≡ Nothing → ⊥ = search rules in
     let confirmed = confirmed_shown {S = g.row.S.Denot} c.self.inside.confirmed in
-    let old : Kept = record { tracked = c.self.inside.signals; procedure = c.self.inside.procedure; image = c.self.inside.image; confirmed = confirmed; spare = c.self.inside.room } in
+    let old : Kept = record { tracked = c.self.inside.signals; procedure = c.self.inside.procedure; image = c.self.inside.image; confirmed = confirmed; refused = c.self.inside.refused; spare = c.self.inside.room } in
     frame_waits core c.args.octets.now c.args.now old _ c.note.new.self k (waits_shown core k.confirmed c.self.inside.procedure k.follows some)
     (c.note.ensures.noted core k.confirmed (Frame c.args.octets.now) PassesOver k.follows c.requires refl (over_can core k.follows.rests))
-    (record { procedure_is = refl; confirmed = refl; image_is = refl })
+    (record { procedure_is = refl; confirmed = refl; refused = refl; image_is = refl })
 
 pub returns-clause-heard : goal.returns-clause-heard
 returns-clause-heard g c core s =
     let k = subst (λ (x : Kept). Stands core x) (sym c.self.view_is) s in
     let none : c.self.inside.procedure.pending ≡ Nothing = search rules in
     let confirmed = confirmed_shown {S = g.row.S.Denot} c.self.inside.confirmed in
-    let old : Kept = record { tracked = c.self.inside.signals; procedure = c.self.inside.procedure; image = c.self.inside.image; confirmed = confirmed; spare = c.self.inside.room } in
-    frame_free core c.args.octets.now c.args.now old _ c.note-2.new.self c.answer-decision.result.0 c.answer-decision.result.1 k (rests_shown core k.confirmed c.self.inside.procedure k.follows none) (k.follows.quiet none)
-    (subst (λ (r : List ReaderValue). Answers c.args.octets.now core r c.answer-decision.result.0 c.answer-decision.result.1) (ap (λ (x : Kept). x.image.readers) (sym c.self.view_is)) (c.answer-decision.ensures core s))
+    let old : Kept = record { tracked = c.self.inside.signals; procedure = c.self.inside.procedure; image = c.self.inside.image; confirmed = confirmed; refused = c.self.inside.refused; spare = c.self.inside.room } in
+    frame_free core c.args.octets.now c.args.now old _ c.note-2.new.self c.answer-answer.result k (rests_shown core k.confirmed c.self.inside.procedure k.follows none) (k.follows.quiet none)
+    (subst (λ (r : List ReaderValue). Answers c.args.octets.now core r c.answer-answer.result) (ap (λ (x : Kept). x.image.readers) (sym c.self.view_is)) (c.answer-answer.ensures core s))
     (λ d verdict can. c.note-2.ensures.noted core k.confirmed (Frame c.args.octets.now) d k.follows c.requires verdict can)
-    (record { procedure_is = refl; confirmed = refl; image_is = c.accept.ensures })
+    (record { procedure_is = refl; confirmed = refl; refused = refl; image_is = c.accept.ensures })

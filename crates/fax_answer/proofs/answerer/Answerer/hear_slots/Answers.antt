@@ -27,7 +27,7 @@ loop-packet-preserved g c =
           (λ a s.
           let k = subst (λ (x : Kept). Stands a x) (sym c.self-in-loop-packet.view_is) s in
           subst (λ (ps : List Piece). TakesAll ps c.args.now a c.hear_all.new.self) told
-          (c.in_ok-hear_all.ensures.heard a (record { confirmed = k.confirmed; confirms = k.confirms; follows = k.follows; holds = k.holds }))));
+          (c.in_ok-hear_all.ensures.heard a (record { confirmed = k.confirmed; confirms = k.confirms; follows = k.follows; reason = k.reason; holds = k.holds }))));
       goes_on =
           let here = subst (λ (k : Kept). GoesOn k.image.readers c.hear_all.new.self.image.readers) c.self-in-loop-packet.view_is c.hear_all.ensures.goes_on in
           goes_further c.args.self.now.image.readers mid.image.readers c.hear_all.new.self.image.readers before.goes_on here;

@@ -1,8 +1,9 @@
-use Rattle.std.proofs.Common.{refl, sym, ap, subst}
+use Rattle.std.proofs.Common.{None, refl, sym, ap, subst}
 use Rattle.fax_answer.specs.Images.{ImageValue}
 use Rattle.fax_answer.specs.Following.{Follows}
 use Rattle.fax_answer.specs.Reached.{Kept}
 use Rattle.fax_answer.proofs.ReachedLemmas.{stands_new}
+use Rattle.fax_answer.proofs.Refused.{reason_rung}
 use Rattle.fax_answer.proofs.answerer.Answerer.ring.Goals as goal
 
 pub returns-clause-rung : goal.returns-clause-rung
@@ -10,6 +11,6 @@ returns-clause-rung g c heard core r =
     let f : Follows core r.stands.confirmed c.self.inside.procedure = subst (λ (k : Kept). Follows core r.stands.confirmed k.procedure) (sym c.self.view_is) r.stands.follows in
     record {
       tracked = c.new-self-inside.ensures;
-      stands = stands_new _ _ (λ dcs e. cc) refl c.new.ensures (c.ring.ensures core r.stands.confirmed f);
+      stands = stands_new _ _ (λ dcs e. cc) refl c.new.ensures (c.ring.ensures core r.stands.confirmed f) (reason_rung core c.args.now None);
       settled = ap (λ (i : ImageValue). i.accepted) c.new.ensures;
     }

@@ -17,6 +17,7 @@ returns-clause-stands g c core s =
       confirmed = k.confirmed;
       confirms = subst (λ (a : Option Accepted). Confirms a c.keep-2.new.self.readers (confirmed_shown {S = g.row.S.Denot} c.keep.new.kept) k.confirmed) (sym accepted) both.1;
       follows = k.follows;
+      reason = k.reason;
       holds = holds_settled core.state core.history c.self.inside.image c.keep-2.new.self left c.readers_wanted.result both.0 (c.readers_wanted.ensures core k.confirmed k.follows)
           (ap (λ (i : ImageValue). i.readers) c.keep-2.ensures) accepted (ap (λ (i : ImageValue). i.run) c.keep-2.ensures ∙ c.finish-found.ensures.run) (ap (λ (i : ImageValue). i.longest) c.keep-2.ensures ∙ c.finish-found.ensures.longest) k.holds;
     }

@@ -40,10 +40,11 @@ returns-clause-ticked g c heard core r =
     let more : not c.is_waiting.result ≡ false → c.give-ended.new.self.pending ≡ Nothing → ⊥ = λ h. c.is_waiting.ensures.waits.0 (not_false c.is_waiting.result h) in
     let left = left_if c.give-ended.new.self.pending (not c.is_waiting.result) c.self.inside.confirmed c.take_if-confirmed.new.confirmed (confirmed_shown {S = g.row.S.Denot}) refl last more c.take_if-confirmed.ensures.left in
     let taken = taken_if c.give-ended.new.self.pending (not c.is_waiting.result) c.self.inside.confirmed c.take_if-confirmed.result (confirmed_shown {S = g.row.S.Denot}) refl last more c.take_if-confirmed.ensures.taken in (
-      subst (λ (confirmed : Option ConfirmedPage). IsReached heard (ticked core now).core (record { tracked = c.self.inside.signals; procedure = c.give-ended.new.self; image = c.self.inside.image; confirmed = confirmed; spare = c.take.new.self })) (sym left)
+      subst (λ (confirmed : Option ConfirmedPage). IsReached heard (ticked core now).core (record { tracked = c.self.inside.signals; procedure = c.give-ended.new.self; image = c.self.inside.image; confirmed = confirmed; refused = c.self.inside.refused; spare = c.take.new.self })) (sym left)
           (reached_gives heard core now _ c.act.new.self c.give-ended.new.self c.give-ended.result c.take.new.self s next gives),
-      step_gives {S = g.row.S.Denot} core now (confirmed_shown {S = g.row.S.Denot} c.self.inside.confirmed) c.act.new.self c.give-ended.new.self
-          (record { packet = Some c.packet-packet.result; confirmed = c.take_if-confirmed.result; ended = c.give-ended.result }) next gives (ap (λ (octets : List ℕ). Some octets) c.packet-packet.ensures) taken,
+      step_gives {S = g.row.S.Denot} core now (confirmed_shown {S = g.row.S.Denot} c.self.inside.confirmed) c.self.inside.refused c.act.new.self c.give-ended.new.self
+          (record { packet = Some c.packet-packet.result; confirmed = c.take_if-confirmed.result; refused = c.refusal_in-refused.result; ended = c.give-ended.result }) s.stands.reason next gives (ap (λ (octets : List ℕ). Some octets) c.packet-packet.ensures) taken
+          c.refusal_in-refused.ensures.rtn c.refusal_in-refused.ensures.other,
     )
 
 pub returns-clause-short : goal.returns-clause-short

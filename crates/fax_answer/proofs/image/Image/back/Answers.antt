@@ -1,4 +1,4 @@
-use Rattle.std.proofs.Common.{rules, ◌≡◌, ◌++◌, ◌∷◌, [], ℕ, List, Some, None, reverse, take, sym, ap, ◌∙◌}
+use Rattle.std.proofs.Common.{rules, ◌≡◌, ◌++◌, ◌∷◌, [], reverse, take, sym, ap, ◌∙◌}
 use Rattle.fax_pagestore.specs.Readers.{ReaderValue, reader_at}
 use Rattle.fax_answer.specs.Images.{ImageValue}
 use Rattle.fax_answer.proofs.Places.{back_to, back_none, newest, some_popped, as_before}

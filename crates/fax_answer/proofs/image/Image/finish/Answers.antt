@@ -2,7 +2,7 @@ use Rattle.std.proofs.Common.{◌≡◌, ◌+◌, ◌++◌, ℕ, get_or, take, d
 use Rattle.fax_pagestore.specs.Pages.{PageValue}
 use Rattle.fax_answer.specs.declared.image.Accepted.{Accepted}
 use Rattle.fax_answer.specs.Replies.{ConfirmedPage}
-use Rattle.fax_answer.specs.Images.{ImageValue, MeansAt}
+use Rattle.fax_answer.specs.Images.{ImageValue}
 use Rattle.fax_answer.proofs.Places.{accepted_reader, accepted_left, same_found, same_page, no_fault}
 use Rattle.fax_answer.proofs.image.Image.finish.Goals as goal
 

@@ -1,4 +1,4 @@
-use Rattle.std.proofs.Common.{rules, ◌≡◌, ◌-◌, ℕ, List, length, reverse, take, drop, ap, ◌∙◌, refl}
+use Rattle.std.proofs.Common.{rules, ◌≡◌, ◌-◌, ℕ, List, length, reverse, take, drop, ap, ◌∙◌}
 use Rattle.fax_pagestore.specs.Readers.{ReaderValue}
 use Rattle.fax_answer.specs.Images.{ImageValue}
 use Rattle.fax_answer.proofs.Places.{newest_kept}
