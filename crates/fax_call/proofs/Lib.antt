@@ -11,7 +11,7 @@ mod PacketLemmas
 mod PacketsBack
 mod Paddings
 mod Paged
-mod Refusals
+pub mod Refusals
 mod Tally
 mod TextLemmas
 mod Unanswered
@@ -31,3 +31,10 @@ pub mod Lacking
 pub mod Texts
 pub mod Told
 pub mod DueLemmas
+pub mod Silence
+pub mod RefusedPages
+pub mod Steps
+pub mod Tries
+pub mod InTime
+pub mod Ending
+pub mod Longest

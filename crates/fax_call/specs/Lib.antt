@@ -13,3 +13,9 @@ pub mod Given
 pub mod GivenSignals
 pub mod GivingUp
 pub mod Due
+pub mod Silence
+pub mod RefusedPages
+pub mod Steps
+pub mod Tries
+pub mod InTime
+pub mod Ending

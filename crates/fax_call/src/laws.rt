@@ -3,11 +3,17 @@
 ghost use Rattle.fax_call.specs.Delivery.{TellsWhatWasAnswered};
 ghost use Rattle.fax_call.specs.Due.{ActsFrom, RestsBefore};
 ghost use Rattle.fax_call.specs.Emission.{EmitsThePages};
+ghost use Rattle.fax_call.specs.Ending.{EveryCallEnds, TextsHaveALongest};
 ghost use Rattle.fax_call.specs.Given.{GivesClosedPackets, GivesOneKind, TellsOneKind};
 ghost use Rattle.fax_call.specs.GivenSignals.{GivesChecksAndPages};
 ghost use Rattle.fax_call.specs.GivingUp.{TellsWhyItGaveUp};
+ghost use Rattle.fax_call.specs.InTime.{NoTimerIsEarly};
 ghost use Rattle.fax_call.specs.Numbers.{NumbersAreFixed};
+ghost use Rattle.fax_call.specs.RefusedPages.{ThirdRefusalEnds};
 ghost use Rattle.fax_call.specs.Refusals.{EndsByRefusal, NoneIsLacking};
+ghost use Rattle.fax_call.specs.Silence.{NoCallHangs};
+ghost use Rattle.fax_call.specs.Steps.{FttStepsTheRates};
+ghost use Rattle.fax_call.specs.Tries.{ThreeTries};
 ghost use Rattle.fax_call.specs.Writings.{PagesHaveTexts, TextsAreOne};
 
 /// Each image that is emitted to its end means, under the DCS given before it, a page of the job, its format included:
@@ -85,4 +91,45 @@ pub fn rests_before_it_is_due()
 /// A tick at the moment that is due, or later, gives a packet or changes the call.
 pub fn acts_from_when_it_is_due()
     ensures { ActsFrom }
+{}
+
+/// No line hangs for ever: a call in which nothing more is heard is over in time, whatever was heard before: behind all that
+/// waits, 40 seconds, and the time of 130 ticks.
+pub fn no_call_hangs()
+    ensures { NoCallHangs }
+{}
+
+/// The third RTN for a page ends the job, each before it leads to a training and the page again; and only so does a job end
+/// as refused.
+pub fn third_refusal_ends_the_job()
+    ensures { ThirdRefusalEnds }
+{}
+
+/// Without an answer a training or a command is given at most three times: again where T4 is due and it was given fewer times,
+/// and else the call ends with NoReply.
+pub fn asks_three_times()
+    ensures { ThreeTries }
+{}
+
+/// The DCS is that of the DIS taken last, at its first rate; each FTT leads to its next rate, and where none is left the job ends
+/// with RatesSpent.
+pub fn ftt_steps_the_rates()
+    ensures { FttStepsTheRates }
+{}
+
+/// No timer acts before its time: where no packet waits, T1 is due 35 s from when a DIS is awaited, and T4 3 s from the packet
+/// that was given last; a tick before that gives nothing and changes nothing.
+pub fn no_timer_is_early()
+    ensures { NoTimerIsEarly }
+{}
+
+/// Every call is over in time, whatever is heard in it: a page has 36 exchanges at most and T1 once, and then the call is closed.
+pub fn every_call_ends()
+    ensures { EveryCallEnds }
+{}
+
+/// Some time is enough for the text of each page of a job, under any DCS that is chosen for it: so the time of
+/// `every_call_ends` is there for every job.
+pub fn texts_have_a_longest()
+    ensures { TextsHaveALongest }
 {}
