@@ -16,7 +16,7 @@ use Rattle.fax_gateway.specs.Events.{Tick, Given, clock}
 use Rattle.fax_gateway.specs.CalledLegs.{CalledLeg, begun_core, core_of, calls, told_by, told_called}
 use Rattle.fax_gateway.specs.Sides.{Sides, book_of, in_tick}
 use Rattle.fax_gateway.specs.Told.{elements_told, leg_marks, marks_before, IfEmits, EachEmission}
-use Rattle.fax_gateway.specs.Forwards.{WasConfirmedIn}
+use Rattle.fax_gateway.specs.Forwards.{WasConfirmed}
 use Rattle.fax_gateway.specs.Lacking.{IsAllowed, NoneIsLacking}
 use Rattle.fax_gateway.proofs.Fitting.{FitGiven, ticked_fits, told_back}
 use Rattle.fax_gateway.proofs.Forwarding.{each_emission}
@@ -147,5 +147,5 @@ none_lacking setup writes earlier at given w t =
     let old : List Mark = leg_marks setup writes earlier in
     let marks : List Mark = marks_before setup writes earlier at old in
     subst (λ (told : Option (List ℕ)). EachEmission (IsAllowed writes z.leg) marks (elements_told told)) (sym (ap (λ (g : Given). g.on_called) t.0))
-    (by_leg setup writes now z.leg (book_of z).sending (WasConfirmedIn setup (Tick at given ∷ earlier)) marks w
-    (held (WasConfirmedIn setup (Tick at given ∷ earlier)) z.steps (tick_holds setup writes earlier at given t)).sending (before_call setup writes earlier at old (in_call setup writes earlier t.1)))
+    (by_leg setup writes now z.leg (book_of z).sending (WasConfirmed setup (Tick at given ∷ earlier)) marks w
+    (held (WasConfirmed setup (Tick at given ∷ earlier)) z.steps (tick_holds setup writes earlier at given t)).sending (before_call setup writes earlier at old (in_call setup writes earlier t.1)))

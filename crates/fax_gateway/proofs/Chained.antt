@@ -18,7 +18,7 @@ use Rattle.fax_gateway.specs.Events.{Event, Ring, FromCalling, FromCalled, Tick,
 use Rattle.fax_gateway.specs.Legs.{new_pieces}
 use Rattle.fax_gateway.specs.CallingLegs.{calling_leg}
 use Rattle.fax_gateway.specs.CalledLegs.{CalledLeg, begun_core, core_of, is_free, core_left, calls, packets_given, with_tick, leg_ticked, comes_to, leg_with, hears}
-use Rattle.fax_gateway.specs.Forwards.{WasConfirmedIn}
+use Rattle.fax_gateway.specs.Forwards.{WasConfirmed}
 use Rattle.fax_gateway.specs.Sides.{Sides, book_of, heard_in_tick, leg_of, sends, sends_if, sides, in_tick}
 use Rattle.fax_gateway.specs.Traces.{IsTrace}
 use Rattle.fax_gateway.specs.Chain.{ChainsHear}
@@ -111,24 +111,24 @@ later_kept writes P Q (Some l) f c =
       closed = c.closed;
     }
 
-if_kept : (setup : Setup) (writes : Writing) (trace : List Event) → IsWriting writes → IsTrace setup writes trace → IfKept writes (WasConfirmedIn setup trace) (sides setup writes trace).leg
+if_kept : (setup : Setup) (writes : Writing) (trace : List Event) → IsWriting writes → IsTrace setup writes trace → IfKept writes (WasConfirmed setup trace) (sides setup writes trace).leg
 if_kept setup writes [] w t = tt
-if_kept setup writes (e ∷ earlier) w t = by e t (later_kept writes (WasConfirmedIn setup earlier) (WasConfirmedIn setup (e ∷ earlier)) (sides setup writes earlier).leg (was_later setup e earlier) (if_kept setup writes earlier w t.1))
+if_kept setup writes (e ∷ earlier) w t = by e t (later_kept writes (WasConfirmed setup earlier) (WasConfirmed setup (e ∷ earlier)) (sides setup writes earlier).leg (was_later setup e earlier) (if_kept setup writes earlier w t.1))
   where
-    by : (e : Event) → IsTrace setup writes (e ∷ earlier) → IfKept writes (WasConfirmedIn setup (e ∷ earlier)) (sides setup writes earlier).leg → IfKept writes (WasConfirmedIn setup (e ∷ earlier)) (sides setup writes (e ∷ earlier)).leg
+    by : (e : Event) → IsTrace setup writes (e ∷ earlier) → IfKept writes (WasConfirmed setup (e ∷ earlier)) (sides setup writes earlier).leg → IfKept writes (WasConfirmed setup (e ∷ earlier)) (sides setup writes (e ∷ earlier)).leg
     by (Ring at n) t c = c
     by (FromCalling octets at decided read) t c = c
-    by (FromCalled octets at decided) t c = hears_kept (WasConfirmedIn setup (FromCalled octets at decided ∷ earlier)) writes (sides setup writes earlier).leg octets (clock (FromCalled octets at decided ∷ earlier)) c
+    by (FromCalled octets at decided) t c = hears_kept (WasConfirmed setup (FromCalled octets at decided ∷ earlier)) writes (sides setup writes earlier).leg octets (clock (FromCalled octets at decided ∷ earlier)) c
     by (Tick at given) t c =
         let now : ℕ = max at (clock earlier) in
         let s : Sides = sides setup writes earlier in
         let z : Sides = record s { steps = heard_in_tick (calling_leg setup earlier) now s.steps } in
-        let P : ℕ → PageValue → Type 0 = WasConfirmedIn setup (Tick at given ∷ earlier) in
+        let P : ℕ → PageValue → Type 0 = WasConfirmed setup (Tick at given ∷ earlier) in
         let h : BookHolds P (book_of (in_tick setup writes earlier at)) = held P (in_tick setup writes earlier at).steps (tick_holds setup writes earlier at given t) in
         serves_kept P writes (in_tick setup writes earlier at).leg now w (sends_kept setup P writes now z h.sending c)
 
-pub kept_leg : (setup : Setup) (writes : Writing) (trace : List Event) (l : CalledLeg) → IsWriting writes → IsTrace setup writes trace → (sides setup writes trace).leg ≡ Some l → KeptLeg writes (WasConfirmedIn setup trace) l
-kept_leg setup writes trace l w t is = subst (IfKept writes (WasConfirmedIn setup trace)) is (if_kept setup writes trace w t)
+pub kept_leg : (setup : Setup) (writes : Writing) (trace : List Event) (l : CalledLeg) → IsWriting writes → IsTrace setup writes trace → (sides setup writes trace).leg ≡ Some l → KeptLeg writes (WasConfirmed setup trace) l
+kept_leg setup writes trace l w t is = subst (IfKept writes (WasConfirmed setup trace)) is (if_kept setup writes trace w t)
 
 turned : (xs ys : List (List ℕ)) → AreClosed xs → AreClosed ys → AreClosed (reverse_aux xs ys)
 turned [] ys a b = b
@@ -136,7 +136,7 @@ turned (x ∷ xs) ys a b = turned xs (x ∷ ys) a.1 (a.0, b)
 
 pub chains_hear : ChainsHear
 chains_hear setup other writes others first second leg l w j =
-    let k : KeptLeg writes (WasConfirmedIn setup first) leg = kept_leg setup writes first leg w j.is_first j.is_leg in
+    let k : KeptLeg writes (WasConfirmed setup first) leg = kept_leg setup writes first leg w j.is_first j.is_leg in
     record {
       signals = leg_confirms_signals other others second l (reverse leg.given) j.arrivals j.is_second j.is_call j.honest j.arrived;
       frames = leg_hears_sent_frames other others second l (reverse leg.given) j.arrivals j.is_second j.is_call j.honest j.arrived (inr (turned leg.given [] k.closed tt));

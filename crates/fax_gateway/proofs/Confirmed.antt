@@ -18,14 +18,16 @@ use Rattle.fax_gateway.specs.CalledLegs.{is_free, outcome_told, delivered_told}
 use Rattle.fax_gateway.specs.Sides.{Sides, confirms_if, ends_if, heard_in_tick, sends, sends_if, enters, sides, in_tick}
 use Rattle.fax_gateway.specs.Traces.{IsTrace}
 use Rattle.fax_gateway.specs.Told.{gives_mcf}
-use Rattle.fax_gateway.specs.Forwards.{WasConfirmedIn}
+use Rattle.fax_gateway.specs.Restored.{pages_restored}
+use Rattle.fax_gateway.specs.Forwards.{WasConfirmedIn, WasConfirmed}
 use Rattle.fax_gateway.proofs.Held.{StepsHold, steps_map}
 use Rattle.fax_gateway.proofs.LegsRead.{leg_is_read}
 use Rattle.fax_gateway.proofs.Replied.{IfNeat, neat_of, ticked_neat, told_mcf}
+use Rattle.fax_gateway.proofs.Restoring.{restored_hold, or_own, or_map, each_restored}
 
 -- what was confirmed in a trace was confirmed in what comes after it
-pub was_later : (setup : Setup) (e : Event) (trace : List Event) (call : ℕ) (page : PageValue) → WasConfirmedIn setup trace call page → WasConfirmedIn setup (e ∷ trace) call page
-was_later setup e trace call page w =
+pub later_in : (setup : Setup) (e : Event) (trace : List Event) (call : ℕ) (page : PageValue) → WasConfirmedIn setup trace call page → WasConfirmedIn setup (e ∷ trace) call page
+later_in setup e trace call page w =
     record {
       later = e ∷ w.later;
       at = w.at;
@@ -41,6 +43,10 @@ was_later setup e trace call page w =
       gives = w.gives;
       confirmation = w.confirmation;
     }
+
+pub was_later : (setup : Setup) (e : Event) (trace : List Event) (call : ℕ) (page : PageValue) → WasConfirmed setup trace call page → WasConfirmed setup (e ∷ trace) call page
+was_later setup e trace call page w =
+    or_map (pages_restored setup.restored) call page (WasConfirmedIn setup trace call page) (WasConfirmedIn setup (e ∷ trace) call page) (later_in setup e trace call page) w
 
 -- a tick that gives a confirmed page
 pub given_with : (o : Option Waiting) (c : ConfirmedPage) → confirmed_by o ≡ Some c → (w : Waiting) × (o ≡ Some w) × (w.confirmed ≡ Some c)
@@ -90,15 +96,16 @@ confirms_hold P number None steps f h = h
 confirms_hold P number (Some c) steps f h = ((f c refl).0, ((f c refl).1, h))
 
 tick_hold : (setup : Setup) (writes : Writing) (earlier : List Event) (at : ℕ) (given : Given) (o : Option CallingLeg) (steps : List Step) → IsTrace setup writes (Tick at given ∷ earlier) → calling_leg setup earlier ≡ o →
-    StepsHold (WasConfirmedIn setup (Tick at given ∷ earlier)) steps → StepsHold (WasConfirmedIn setup (Tick at given ∷ earlier)) (heard_in_tick o (max at (clock earlier)) steps)
+    StepsHold (WasConfirmed setup (Tick at given ∷ earlier)) steps → StepsHold (WasConfirmed setup (Tick at given ∷ earlier)) (heard_in_tick o (max at (clock earlier)) steps)
 tick_hold setup writes earlier at given None steps t is h = h
 tick_hold setup writes earlier at given (Some l) steps t is h =
     let trace : List Event = Tick at given ∷ earlier in
-    let P : ℕ → PageValue → Type 0 = WasConfirmedIn setup trace in
+    let P : ℕ → PageValue → Type 0 = WasConfirmed setup trace in
     let a = answers l (max at (clock earlier)) in
     ends_hold P a.ended (confirms_if l.number (confirmed_by a.given) steps)
     (confirms_hold P l.number (confirmed_by a.given) steps
-    (λ c e. let w : WasConfirmedIn setup trace l.number c.page = confirmed_now setup writes earlier at given l c t is e in (w, page_is setup trace l.number c.page w)) h)
+    (λ c e. let w : WasConfirmedIn setup trace l.number c.page = confirmed_now setup writes earlier at given l c t is e in
+    (or_own (pages_restored setup.restored) l.number c.page (WasConfirmedIn setup trace l.number c.page) w, page_is setup trace l.number c.page w)) h)
 
 sends_hold : (setup : Setup) (P : ℕ → PageValue → Type 0) (writes : Writing) (now : ℕ) (s : Sides) → StepsHold P s.steps → StepsHold P (sends_if setup writes now s).steps
 sends_hold setup P writes now s h = by (is_free s.leg)
@@ -111,35 +118,36 @@ enters_hold : (P : ℕ → PageValue → Type 0) (delivered : ℕ) (o : Option O
 enters_hold P delivered None steps h = h
 enters_hold P delivered (Some outcome) steps h = h
 
-pub tick_holds_from : (setup : Setup) (writes : Writing) (earlier : List Event) (at : ℕ) (given : Given) → IsTrace setup writes (Tick at given ∷ earlier) → StepsHold (WasConfirmedIn setup (Tick at given ∷ earlier)) (sides setup writes earlier).steps →
-    StepsHold (WasConfirmedIn setup (Tick at given ∷ earlier)) (in_tick setup writes earlier at).steps
+pub tick_holds_from : (setup : Setup) (writes : Writing) (earlier : List Event) (at : ℕ) (given : Given) → IsTrace setup writes (Tick at given ∷ earlier) → StepsHold (WasConfirmed setup (Tick at given ∷ earlier)) (sides setup writes earlier).steps →
+    StepsHold (WasConfirmed setup (Tick at given ∷ earlier)) (in_tick setup writes earlier at).steps
 tick_holds_from setup writes earlier at given t h =
-    let P : ℕ → PageValue → Type 0 = WasConfirmedIn setup (Tick at given ∷ earlier) in
+    let P : ℕ → PageValue → Type 0 = WasConfirmed setup (Tick at given ∷ earlier) in
     let now : ℕ = max at (clock earlier) in
     let s : Sides = sides setup writes earlier in
     sends_hold setup P writes now (record s { steps = heard_in_tick (calling_leg setup earlier) now s.steps })
     (tick_hold setup writes earlier at given (calling_leg setup earlier) s.steps t refl h)
 
-event_holds : (setup : Setup) (writes : Writing) (e : Event) (earlier : List Event) → IsTrace setup writes (e ∷ earlier) → StepsHold (WasConfirmedIn setup (e ∷ earlier)) (sides setup writes earlier).steps →
-    StepsHold (WasConfirmedIn setup (e ∷ earlier)) (sides setup writes (e ∷ earlier)).steps
+event_holds : (setup : Setup) (writes : Writing) (e : Event) (earlier : List Event) → IsTrace setup writes (e ∷ earlier) → StepsHold (WasConfirmed setup (e ∷ earlier)) (sides setup writes earlier).steps →
+    StepsHold (WasConfirmed setup (e ∷ earlier)) (sides setup writes (e ∷ earlier)).steps
 event_holds setup writes (Ring at n) earlier t h = h
 event_holds setup writes (FromCalling octets at decided read) earlier t h =
-    ends_hold (WasConfirmedIn setup (FromCalling octets at decided read ∷ earlier)) (not (idle_after (calling_leg setup earlier)) && idle_after (calling_leg setup (FromCalling octets at decided read ∷ earlier))) (sides setup writes earlier).steps h
+    ends_hold (WasConfirmed setup (FromCalling octets at decided read ∷ earlier)) (not (idle_after (calling_leg setup earlier)) && idle_after (calling_leg setup (FromCalling octets at decided read ∷ earlier))) (sides setup writes earlier).steps h
 event_holds setup writes (FromCalled octets at decided) earlier t h = h
 event_holds setup writes (Tick at given) earlier t h =
-    let P : ℕ → PageValue → Type 0 = WasConfirmedIn setup (Tick at given ∷ earlier) in
+    let P : ℕ → PageValue → Type 0 = WasConfirmed setup (Tick at given ∷ earlier) in
     let now : ℕ = max at (clock earlier) in
     let z : Sides = in_tick setup writes earlier at in
     enters_hold P (delivered_told writes z.leg now) (outcome_told writes z.leg now) z.steps (tick_holds_from setup writes earlier at given t h)
 
-pub steps_hold : (setup : Setup) (writes : Writing) (trace : List Event) → IsTrace setup writes trace → StepsHold (WasConfirmedIn setup trace) (sides setup writes trace).steps
-steps_hold setup writes [] t = tt
+pub steps_hold : (setup : Setup) (writes : Writing) (trace : List Event) → IsTrace setup writes trace → StepsHold (WasConfirmed setup trace) (sides setup writes trace).steps
+steps_hold setup writes [] t =
+    restored_hold (WasConfirmed setup []) setup.restored [] (each_restored (WasConfirmedIn setup []) (pages_restored setup.restored)) setup.are_pages tt
 steps_hold setup writes (e ∷ earlier) t =
     event_holds setup writes e earlier t
-    (steps_map (WasConfirmedIn setup earlier) (WasConfirmedIn setup (e ∷ earlier)) (sides setup writes earlier).steps (λ call page w. was_later setup e earlier call page w) (steps_hold setup writes earlier t.1))
+    (steps_map (WasConfirmed setup earlier) (WasConfirmed setup (e ∷ earlier)) (sides setup writes earlier).steps (λ call page w. was_later setup e earlier call page w) (steps_hold setup writes earlier t.1))
 
 -- the same in a tick, when the called leg is served
-pub tick_holds : (setup : Setup) (writes : Writing) (earlier : List Event) (at : ℕ) (given : Given) → IsTrace setup writes (Tick at given ∷ earlier) → StepsHold (WasConfirmedIn setup (Tick at given ∷ earlier)) (in_tick setup writes earlier at).steps
+pub tick_holds : (setup : Setup) (writes : Writing) (earlier : List Event) (at : ℕ) (given : Given) → IsTrace setup writes (Tick at given ∷ earlier) → StepsHold (WasConfirmed setup (Tick at given ∷ earlier)) (in_tick setup writes earlier at).steps
 tick_holds setup writes earlier at given t =
     tick_holds_from setup writes earlier at given t
-    (steps_map (WasConfirmedIn setup earlier) (WasConfirmedIn setup (Tick at given ∷ earlier)) (sides setup writes earlier).steps (λ call page w. was_later setup (Tick at given) earlier call page w) (steps_hold setup writes earlier t.1))
+    (steps_map (WasConfirmed setup earlier) (WasConfirmed setup (Tick at given ∷ earlier)) (sides setup writes earlier).steps (λ call page w. was_later setup (Tick at given) earlier call page w) (steps_hold setup writes earlier t.1))

@@ -16,15 +16,16 @@ use Rattle.fax_gateway.specs.declared.side.Side.{Side}
 use Rattle.fax_gateway.specs.declared.side.Side.TheVariants as side
 use Rattle.fax_gateway.specs.declared.wire.WireFault.{WireFault}
 use Rattle.fax_gateway.specs.declared.fault.RingFault.{RingFault}
-use Rattle.fax_gateway.specs.Events.{Event, Ring, FromCalling, FromCalled, Tick}
+use Rattle.fax_gateway.specs.declared.fault.RingFault.TheVariants as ring_faults
+use Rattle.fax_gateway.specs.Events.{Event, Ring, FromCalling, FromCalled, Tick, rings}
 use Rattle.fax_call.specs.Writings.{Writing}
 use Rattle.fax_gateway.specs.Reached.{GatewayValue}
-use Rattle.fax_gateway.specs.CallingLegs.{calling_leg, decided_calling}
+use Rattle.fax_gateway.specs.CallingLegs.{calling_leg, decided_calling, idle_after}
 use Rattle.fax_gateway.specs.CalledLegs.{decided_called}
 use Rattle.fax_gateway.specs.Sides.{sides}
 use Rattle.fax_gateway.specs.Reached.{HearsFrom, IsReachedBy}
 use Rattle.fax_gateway.specs.Wires.{Known, Came, Nothing, Failed, Grows, buffer_octets, greatest_count, failures_after, receipt_of}
-use Rattle.fax_gateway.specs.Driving.{Entry, AreWanting, IsWanting, Accepts, BringsNone, moment_of, AreReceives, AreRounds, HasFailed, IsRing, IsRingIf, IsRound, IsTick, IsTurn, RefusesRing, Tells, log_of, is_refused_ring, RefusesDatagram, RefusesTick, ReceivesNothing, FailsToReceive, Sends, DriverValue, Carries, Happens, HasMade, Steps, Comes, IsHanded, IsSent, counted, events, events_in, failed_in_a_row, most_failed, receipts, receipts_in, sent, sent_in, is_failed_receive, is_failed_send, is_refused_event}
+use Rattle.fax_gateway.specs.Driving.{Entry, AreWanting, IsWanting, Accepts, BringsNone, moment_of, AreReceives, AreRounds, HasFailed, IsRing, IsRingIf, IsRingRefused, IsRound, IsTick, IsTurn, RefusesRing, Tells, log_of, is_refused_ring, RefusesDatagram, RefusesTick, ReceivesNothing, FailsToReceive, Sends, DriverValue, Carries, Happens, HasMade, Steps, Comes, IsHanded, IsSent, counted, events, events_in, failed_in_a_row, most_failed, receipts, receipts_in, sent, sent_in, is_failed_receive, is_failed_send, is_refused_event}
 
 pub grows_more : {A : Type 0} (older newer : List A) (a b c : Option (List A)) → Grows older a b → Grows newer b c → Grows (newer ++ older) a c
 grows_more older newer a b None first second = tt
@@ -190,13 +191,13 @@ made_unseen log e d r v f n made = record {
   sends_failed = made.sends_failed ∙ ap counted (sym (count_none is_failed_send e log n));
 }
 
-pub made_refused_tick : (log : List Entry) (d : DriverValue) (k : ℕ) → k ≡ min (d.events_refused + 1) greatest_count → HasMade log d
-    → HasMade (RefusesTick ∷ log) (record { failed_in_a_row = d.failed_in_a_row; events_refused = k; receives_failed = d.receives_failed; sends_failed = d.sends_failed })
-made_refused_tick log d k is made = record {
+pub made_refused_tick : (now : ℕ) (log : List Entry) (d : DriverValue) (k : ℕ) → k ≡ min (d.events_refused + 1) greatest_count → HasMade log d
+    → HasMade (RefusesTick now ∷ log) (record { failed_in_a_row = d.failed_in_a_row; events_refused = k; receives_failed = d.receives_failed; sends_failed = d.sends_failed })
+made_refused_tick now log d k is made = record {
   row = made.row;
-  events_refused = is ∙ counts_on greatest_count d.events_refused (count_by is_refused_event log) _ made.events_refused (count_one is_refused_event RefusesTick log refl);
-  receives_failed = made.receives_failed ∙ ap counted (sym (count_none is_failed_receive RefusesTick log refl));
-  sends_failed = made.sends_failed ∙ ap counted (sym (count_none is_failed_send RefusesTick log refl));
+  events_refused = is ∙ counts_on greatest_count d.events_refused (count_by is_refused_event log) _ made.events_refused (count_one is_refused_event (RefusesTick now) log refl);
+  receives_failed = made.receives_failed ∙ ap counted (sym (count_none is_failed_receive (RefusesTick now) log refl));
+  sends_failed = made.sends_failed ∙ ap counted (sym (count_none is_failed_send (RefusesTick now) log refl));
 }
 
 pub made_failed_send : (log : List Entry) (at : Side) (octets : List ℕ) (d : DriverValue) (k : ℕ) → k ≡ min (d.sends_failed + 1) greatest_count → HasMade log d
@@ -301,7 +302,7 @@ turn_is_short now log t =
 pub ring_is_short : (due : Bool) (now : ℕ) (log : List Entry) → IsRingIf due now log → length log ≤ 1
 ring_is_short false now log is = let e = ap length is in omega arith
 ring_is_short true now log (inl (number, is)) = let e = ap length is in omega arith
-ring_is_short true now log (inr is) = let e = ap length is in omega arith
+ring_is_short true now log (inr (fault, is)) = let e = ap length is in omega arith
 
 pub round_is_short : (now : ℕ) (due : Bool) (log : List Entry) → IsRound now due log → length log ≤ 36
 round_is_short now due log (ring, turn, is, rings, turns) =
@@ -328,28 +329,53 @@ counts_whole p start rings rounds all few =
 -- a ring is not seen by the wire, nor by the driver
 pub steps_ring :
     (setup : Setup) (writes : Writing) (due : Bool) (now : ℕ) (log : List Entry) (trace : List Event) (earlier : List Entry) (g : GatewayValue) (a : Known) (d : DriverValue)
-    → IsRingIf due now log → IsReachedBy setup writes (events log ++ trace) g → HasMade earlier d → Steps setup writes log trace earlier g a a d
-steps_ring setup writes false now log trace earlier g a d is reached made = record {
-  happens = record { reached = reached; wanting = subst (λ (l : List Entry). AreWanting setup writes trace l) (sym is) tt; carried = subst (λ (l : List Entry). Carries l a a) (sym is) (carries_none a) };
+    → IsRingIf due now log → AreWanting setup writes trace log → IsReachedBy setup writes (events log ++ trace) g → HasMade earlier d → Steps setup writes log trace earlier g a a d
+steps_ring setup writes false now log trace earlier g a d is wanting reached made = record {
+  happens = record { reached = reached; wanting = wanting; carried = subst (λ (l : List Entry). Carries l a a) (sym is) (carries_none a) };
   made = subst (λ (l : List Entry). HasMade (l ++ earlier) d) (sym is) made;
 }
-steps_ring setup writes true now log trace earlier g a d (inl (number, is)) reached made = record {
-  happens = record { reached = reached; wanting = subst (λ (l : List Entry). AreWanting setup writes trace l) (sym is) (tt, tt); carried = subst (λ (l : List Entry). Carries l a a) (sym is) (carries_unseen (Accepts (Ring now number)) a refl refl refl refl) };
+steps_ring setup writes true now log trace earlier g a d (inl (number, is)) wanting reached made = record {
+  happens = record { reached = reached; wanting = wanting; carried = subst (λ (l : List Entry). Carries l a a) (sym is) (carries_unseen (Accepts (Ring now number)) a refl refl refl refl) };
   made = subst (λ (l : List Entry). HasMade (l ++ earlier) d) (sym is) (made_unseen earlier (Accepts (Ring now number)) d refl refl refl refl made);
 }
-steps_ring setup writes true now log trace earlier g a d (inr is) reached made = record {
-  happens = record { reached = reached; wanting = subst (λ (l : List Entry). AreWanting setup writes trace l) (sym is) (tt, tt); carried = subst (λ (l : List Entry). Carries l a a) (sym is) (carries_unseen RefusesRing a refl refl refl refl) };
-  made = subst (λ (l : List Entry). HasMade (l ++ earlier) d) (sym is) (made_unseen earlier RefusesRing d refl refl refl refl made);
+steps_ring setup writes true now log trace earlier g a d (inr (fault, is)) wanting reached made = record {
+  happens = record { reached = reached; wanting = wanting; carried = subst (λ (l : List Entry). Carries l a a) (sym is) (carries_unseen (RefusesRing fault) a refl refl refl refl) };
+  made = subst (λ (l : List Entry). HasMade (l ++ earlier) d) (sym is) (made_unseen earlier (RefusesRing fault) d refl refl refl refl made);
 }
+
+-- the cause of a ring that is refused
+abbrev pub refuses : RingFault → Result ℕ RingFault
+refuses fault = Err fault
+
+same_fault : (a b : RingFault) → refuses a ≡ refuses b → a ≡ b
+same_fault a b e = cc
+
+pub refused_so :
+    (setup : Setup) (trace : List Event) (fault : RingFault)
+    → (refuses fault ≡ refuses ring_faults.Busy ↔ idle_after (calling_leg setup trace) ≡ false)
+    → (idle_after (calling_leg setup trace) ≡ true → refuses fault ≡ refuses ring_faults.NoNumber ↔ 4294967296 ≤ rings trace)
+    → IsRingRefused setup trace fault
+refused_so setup trace fault busy none = (
+  (λ e. busy.0 (ap refuses e), λ p. same_fault fault ring_faults.Busy (busy.1 p)),
+  λ idle. (λ e. (none idle).0 (ap refuses e), λ p. same_fault fault ring_faults.NoNumber ((none idle).1 p)),
+)
 
 -- a ring, by its result
 pub rings_so :
     (setup : Setup) (writes : Writing) (trace : List Event) (now : ℕ) (old new : GatewayValue) (r : Result ℕ RingFault)
     → IfOk r (λ number. (setup : Setup) (writes : Writing) (trace : List Event) → IsReachedBy setup writes trace old → IsReachedBy setup writes (Ring now number ∷ trace) new)
+    → (r ≡ Err ring_faults.Busy ↔ idle_after (calling_leg setup trace) ≡ false)
+    → (idle_after (calling_leg setup trace) ≡ true → r ≡ Err ring_faults.NoNumber ↔ 4294967296 ≤ rings trace)
     → OnErr r (new ≡ old) → IsReachedBy setup writes trace old
-    → (log : List Entry) × IsRing now log × (count_by is_refused_ring log ≡ cond (is_err r) 1 0) × IsReachedBy setup writes (events log ++ trace) new
-rings_so setup writes trace now old new (Ok number) rung err reached = (Accepts (Ring now number) ∷ [], inl (number, refl), refl, rung setup writes trace reached)
-rings_so setup writes trace now old new (Err fault) rung err reached = (RefusesRing ∷ [], inr refl, refl, subst (λ (g : GatewayValue). IsReachedBy setup writes trace g) (sym err) reached)
+    → (log : List Entry) × IsRing now log × (count_by is_refused_ring log ≡ cond (is_err r) 1 0) × IsReachedBy setup writes (events log ++ trace) new × AreWanting setup writes trace log
+rings_so setup writes trace now old new (Ok number) rung busy none err reached = (Accepts (Ring now number) ∷ [], inl (number, refl), refl, rung setup writes trace reached, (tt, tt))
+rings_so setup writes trace now old new (Err fault) rung busy none err reached = (
+  RefusesRing fault ∷ [],
+  inr (fault, refl),
+  refl,
+  subst (λ (g : GatewayValue). IsReachedBy setup writes trace g) (sym err) reached,
+  (refused_so setup trace fault busy none, tt),
+)
 
 -- what a run tells
 pub tells :
@@ -374,9 +400,9 @@ tells wanted start rings rounds d refused stopped all made same stops whole most
 
 pub comes_no_ring : (at : Side) (now : ℕ) (e : Entry) → Comes at now e → is_refused_ring e ≡ false
 comes_no_ring at now (Accepts event) h = refl
-comes_no_ring at now RefusesRing h = absurd h
+comes_no_ring at now (RefusesRing fault) h = absurd h
 comes_no_ring at now (RefusesDatagram on octets) h = refl
-comes_no_ring at now RefusesTick h = refl
+comes_no_ring at now (RefusesTick moment) h = refl
 comes_no_ring at now (ReceivesNothing on) h = refl
 comes_no_ring at now (FailsToReceive on) h = refl
 comes_no_ring at now (Sends on octets fails) h = refl
@@ -444,12 +470,12 @@ pub round_more :
     → AreRounds start rings rounds → length rounds ≡ turn_number → failed_in_a_row (receipts (log_of rounds)) < most_failed
     → Happens setup writes (log_of rounds) trace g a b → HasMade (log_of rounds) d → refused ≡ count_by is_refused_ring (log_of rounds)
     → now ≡ moment_of start turn_number → due ≡ list_any (λ t. nat_eq t turn_number) rings
-    → IsRingIf due now ring → count_by is_refused_ring ring ≡ k → IsReachedBy setup writes (events ring ++ (events (log_of rounds) ++ trace)) h
+    → IsRingIf due now ring → count_by is_refused_ring ring ≡ k → AreWanting setup writes (events (log_of rounds) ++ trace) ring → IsReachedBy setup writes (events ring ++ (events (log_of rounds) ++ trace)) h
     → IsTurn now turn → Happens setup writes turn (events ring ++ (events (log_of rounds) ++ trace)) i b c → HasMade (turn ++ (ring ++ log_of rounds)) e
     → Rounds setup writes start rings ((turn ++ ring) ∷ rounds) trace i a c e (refused + k)
-round_more setup writes start turn_number now rings due rounds ring turn trace g h i a b c d e refused k all many goes happens made same at_moment is_due rung counted_ring reached turned happened did =
+round_more setup writes start turn_number now rings due rounds ring turn trace g h i a b c d e refused k all many goes happens made same at_moment is_due rung counted_ring wanting reached turned happened did =
     let log : List Entry = log_of rounds in
-    let first = (steps_ring setup writes due now ring (events log ++ trace) log h b d rung reached made).happens in
+    let first = (steps_ring setup writes due now ring (events log ++ trace) log h b d rung wanting reached made).happens in
     let round = happens_more setup writes ring turn (events log ++ trace) h i b b c first happened in
     let place : IsRound (moment_of start turn_number) (list_any (λ t. nat_eq t turn_number) rings) (turn ++ ring) =
     subst (λ (n : ℕ). IsRound n (list_any (λ t. nat_eq t turn_number) rings) (turn ++ ring)) at_moment
@@ -462,8 +488,8 @@ round_more setup writes start turn_number now rings due rounds ring turn trace g
     }
 
 pub ring_made : (setup : Setup) (writes : Writing) (due : Bool) (now : ℕ) (ring log : List Entry) (trace : List Event) (g : GatewayValue) (a : Known) (d : DriverValue)
-    → IsRingIf due now ring → IsReachedBy setup writes (events ring ++ trace) g → HasMade log d → HasMade (ring ++ log) d
-ring_made setup writes due now ring log trace g a d rung reached made = (steps_ring setup writes due now ring trace log g a d rung reached made).made
+    → IsRingIf due now ring → AreWanting setup writes trace ring → IsReachedBy setup writes (events ring ++ trace) g → HasMade log d → HasMade (ring ++ log) d
+ring_made setup writes due now ring log trace g a d rung wanting reached made = (steps_ring setup writes due now ring trace log g a d rung wanting reached made).made
 
 pub has_failed : (row : ℕ) → (IsTrue false ↔ (row < most_failed)) → most_failed ≤ row
 has_failed row h =

@@ -36,7 +36,7 @@ identifies = Tick 80 (gives (Some dis)) ∷ Tick 40 (gives (Some preamble)) ∷ 
 
 -- the usual setup
 abbrev pub usual : Setup
-usual = record { redundancy = 3; few = omega arith; pause = 40; is_pause = (omega arith, omega arith) }
+usual = record { redundancy = 3; few = omega arith; pause = 40; is_pause = (omega arith, omega arith); restored = []; are_pages = tt }
 
 is_trace : (writes : Writing) → IsTrace usual writes identifies
 unfolding identifies rung ced preamble dis gives written_datagram written_packet written_length written_behind

@@ -21,7 +21,7 @@ use Rattle.fax_gateway.specs.CallingLegs.{calling_leg}
 use Rattle.fax_gateway.specs.CalledLegs.{CalledLeg, begun_core, core_of, is_free, core_left, begun_leg, calls, told_by, told_called}
 use Rattle.fax_gateway.specs.Sides.{Sides, book_of, heard_in_tick, leg_of, sends, sends_if, sides, in_tick}
 use Rattle.fax_gateway.specs.Told.{elements_told, leg_marks, begun_if, marks_before, IfEmits, EachEmission}
-use Rattle.fax_gateway.specs.Forwards.{WasConfirmedIn, IsForwarded, ForwardsWhatItConfirmed}
+use Rattle.fax_gateway.specs.Forwards.{WasConfirmed, IsForwarded, ForwardsWhatItConfirmed}
 use Rattle.fax_gateway.proofs.Fitting.{FitTick, ticked_fits, marks_back, told_back}
 use Rattle.fax_gateway.proofs.Held.{Holds, IfHolds, page_at, held}
 use Rattle.fax_gateway.proofs.Confirmed.{steps_hold}
@@ -74,7 +74,7 @@ in_order setup writes l now sending marks w is i =
 
 -- the job was being sent before the tick
 goes_on : (setup : Setup) (writes : Writing) (earlier : List Event) (now : ℕ) (l : CalledLeg) (book : Book) (marks : List Mark) → IsWriting writes → book.sending ≡ Some l.job →
-    Holds (WasConfirmedIn setup earlier) l.job → InCall writes l book.sending marks →
+    Holds (WasConfirmed setup earlier) l.job → InCall writes l book.sending marks →
     EachEmission (IsForwarded setup earlier book) marks (elements_told (told_by setup l.given (calls writes l now).given))
 goes_on setup writes earlier now l book marks w is h i =
     each_emission (IsSent l.job) (IsForwarded setup earlier book) marks (elements_told (told_by setup l.given (calls writes l now).given))
@@ -86,12 +86,12 @@ goes_on setup writes earlier now l book marks w is h i =
       last = p.last;
       emitted = p.emitted;
       answered = p.answered;
-      confirmed = page_at (WasConfirmedIn setup earlier l.job.call) l.job.pages p.n p.is_page.page h.pages p.is_page.is_page;
+      confirmed = page_at (WasConfirmed setup earlier l.job.call) l.job.pages p.n p.is_page.page h.pages p.is_page.is_page;
     })
     (in_order setup writes l now book.sending marks w h.is_job i)
 
 still : (setup : Setup) (writes : Writing) (earlier : List Event) (now : ℕ) (leg : Option CalledLeg) (book : Book) (marks : List Mark) → IsWriting writes →
-    IfHolds (WasConfirmedIn setup earlier) book.sending → IfInCall writes leg book.sending marks →
+    IfHolds (WasConfirmed setup earlier) book.sending → IfInCall writes leg book.sending marks →
     EachEmission (IsForwarded setup earlier book) marks (elements_told (told_called setup writes leg now))
 still setup writes earlier now None book marks w h i = tt
 still setup writes earlier now (Some l) book marks w h i = by l.entered i.sends
@@ -99,7 +99,7 @@ still setup writes earlier now (Some l) book marks w h i = by l.entered i.sends
     by : (b : Bool) → book.sending ≡ (if◌then◌else◌ {A = Option JobValue} b None (Some l.job)) →
         EachEmission (IsForwarded setup earlier book) marks (elements_told (if◌then◌else◌ {A = Option (List ℕ)} b None (told_by setup l.given (calls writes l now).given)))
     by true e = tt
-    by false e = goes_on setup writes earlier now l book marks w e (subst (IfHolds (WasConfirmedIn setup earlier)) e h) i
+    by false e = goes_on setup writes earlier now l book marks w e (subst (IfHolds (WasConfirmed setup earlier)) e h) i
 
 -- a call that begins gives the tone of a calling terminal at most
 tone_back : (setup : Setup) → elements_told (Some (sent setup [] (written (Signals (indicator_code Cng))))) ≡ elements.Signal (indicator_code Cng) ∷ []
@@ -126,7 +126,7 @@ free_none setup P writes (Some l) None now marks f =
 
 -- a tick
 at_tick : (setup : Setup) (writes : Writing) (earlier : List Event) (now : ℕ) (s : Sides) (old : List Mark) → IsWriting writes →
-    IfHolds (WasConfirmedIn setup earlier) (book_of s).sending → IfInCall writes s.leg (book_of s).sending old →
+    IfHolds (WasConfirmed setup earlier) (book_of s).sending → IfInCall writes s.leg (book_of s).sending old →
     EachEmission (IsForwarded setup earlier (book_of (sends_if setup writes now s))) (begun_if (is_free s.leg) (book_of (sends_if setup writes now s)).sending old) (elements_told (told_called setup writes (sends_if setup writes now s).leg now))
 at_tick setup writes earlier now s old w h i = by (is_free s.leg) refl
   where
@@ -145,5 +145,5 @@ forwards setup writes earlier at given w t =
     let same : (book_of z).sending ≡ (book_of s).sending = heard_sends (calling_leg setup earlier) now s.steps in
     subst (λ (told : Option (List ℕ)). EachEmission (IsForwarded setup earlier (book_of (in_tick setup writes earlier at))) (marks_before setup writes earlier at old) (elements_told told)) (sym (ap (λ (g : Given). g.on_called) t.0))
     (at_tick setup writes earlier now z old w
-    (subst (IfHolds (WasConfirmedIn setup earlier)) (sym same) (held (WasConfirmedIn setup earlier) s.steps (steps_hold setup writes earlier t.1)).sending)
+    (subst (IfHolds (WasConfirmed setup earlier)) (sym same) (held (WasConfirmed setup earlier) s.steps (steps_hold setup writes earlier t.1)).sending)
     (subst (λ (o : Option JobValue). IfInCall writes s.leg o old) (sym same) (in_call setup writes earlier t.1)))

@@ -22,6 +22,7 @@ use Rattle.fax_gateway.specs.CalledLegs.{CalledLeg, begun_core, core_of, is_free
 use Rattle.fax_gateway.specs.Sides.{Sides, book_of, confirms_if, ends_if, heard_in_tick, leg_of, sends, sends_if, enters, serves, sides, in_tick}
 use Rattle.fax_gateway.specs.Traces.{IsTrace}
 use Rattle.fax_gateway.specs.Told.{elements_told, heard_all, heard_with, heard_by, begun_if, marks_before, leg_marks}
+use Rattle.fax_gateway.proofs.Restoring.{restored_sends}
 use Rattle.fax_gateway.proofs.Fitting.{AllFit, FitTick, ticked_fits, moved_fits, short_given, marks_back}
 
 -- the job that the book sends, by the leg
@@ -74,7 +75,7 @@ same_sending : (writes : Writing) (leg : Option CalledLeg) (now old : Option Job
 same_sending writes leg now old marks e i = subst (λ (o : Option JobValue). IfInCall writes leg o marks) (sym e) i
 
 -- where no job is being sent, the book sends none
-free_sends : (writes : Writing) (leg : Option CalledLeg) (sending : Option JobValue) (marks : List Mark) → is_free leg ≡ true → IfInCall writes leg sending marks → sending ≡ None
+pub free_sends : (writes : Writing) (leg : Option CalledLeg) (sending : Option JobValue) (marks : List Mark) → is_free leg ≡ true → IfInCall writes leg sending marks → sending ≡ None
 free_sends writes None sending marks f i = i
 free_sends writes (Some l) sending marks f i = i.sends ∙ ap (λ (b : Bool). if◌then◌else◌ {A = Option JobValue} b None (Some l.job)) f
 
@@ -169,7 +170,7 @@ before_call setup writes earlier at marks i =
     sends_call setup writes now z marks (same_sending writes s.leg (book_of z).sending (book_of s).sending marks (heard_sends (calling_leg setup earlier) now s.steps) i)
 
 pub in_call : (setup : Setup) (writes : Writing) (trace : List Event) → IsTrace setup writes trace → IfInCall writes (sides setup writes trace).leg (book_of (sides setup writes trace)).sending (leg_marks setup writes trace)
-in_call setup writes [] t = refl
+in_call setup writes [] t = restored_sends setup.restored []
 in_call setup writes (Ring at n ∷ earlier) t = in_call setup writes earlier t.1
 in_call setup writes (FromCalling octets at decided read ∷ earlier) t =
     let s : Sides = sides setup writes earlier in

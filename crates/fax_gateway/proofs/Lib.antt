@@ -13,11 +13,16 @@ mod IdleLegs
 mod InCalls
 mod KeptApart
 mod LegsRead
+mod Living
 mod McfAnswers
+mod Newest
 mod OfTheirCalls
 mod OwnConfirmed
+mod RefusedJobs
 mod Replied
 mod Reporting
+mod RtnAnswers
+mod Restoring
 mod ServedAlone
 mod Serving
 mod States

@@ -96,7 +96,7 @@ confirms_none setup writes earlier now l (Some c) t is m e =
     let q : true ≡ false = sym k ∙ m in
     cc
 
-if_none : (setup : Setup) (writes : Writing) (earlier : List Event) (now : ℕ) (o : Option CallingLeg) (s : Sides) → IsTrace setup writes earlier → calling_leg setup earlier ≡ o → gives_mcf (told_calling setup o now) ≡ false →
+pub if_none : (setup : Setup) (writes : Writing) (earlier : List Event) (now : ℕ) (o : Option CallingLeg) (s : Sides) → IsTrace setup writes earlier → calling_leg setup earlier ≡ o → gives_mcf (told_calling setup o now) ≡ false →
     AddsNoPage s.steps (serves writes now (before_serving setup writes o now s)).steps
 if_none setup writes earlier now None s t is m = behind_heard setup writes None now s s.steps (none_yet s.steps)
 if_none setup writes earlier now (Some l) s t is m =

@@ -7,8 +7,8 @@ use Rattle.fax_jobs.specs.Pasts.{Step, Confirms, CallEnds, Sends, Ends, Past, ne
 use Rattle.fax_gateway.specs.Setups.{Setup}
 use Rattle.fax_gateway.specs.Events.{Event}
 use Rattle.fax_gateway.specs.Sides.{past_of, sides}
-use Rattle.fax_gateway.specs.Forwards.{WasConfirmedIn}
-use Rattle.fax_gateway.specs.Origins.{AreConfirmedIn, AreOfTheirCalls, JobsAreOfTheirCalls}
+use Rattle.fax_gateway.specs.Forwards.{WasConfirmed}
+use Rattle.fax_gateway.specs.Origins.{AreConfirmed, AreOfTheirCalls, JobsAreOfTheirCalls}
 use Rattle.fax_gateway.proofs.Held.{EachPage, IfHolds, AllHold, BookHolds, StepsHold, held}
 use Rattle.fax_gateway.proofs.Confirmed.{steps_hold}
 
@@ -34,17 +34,17 @@ all_ended P (Ends outcome delivered ∷ before) h =
     let past : Past = after_steps new_past before in ended_hold P past.book.sending past outcome delivered (all_ended P before h) (held P before h).sending
 
 -- as the law says it
-pages_are : (setup : Setup) (trace : List Event) (call : ℕ) (pages : List PageValue) → EachPage (WasConfirmedIn setup trace call) pages → AreConfirmedIn setup trace call pages
+pages_are : (setup : Setup) (trace : List Event) (call : ℕ) (pages : List PageValue) → EachPage (WasConfirmed setup trace call) pages → AreConfirmed setup trace call pages
 pages_are setup trace call [] e = tt
 pages_are setup trace call (page ∷ pages) e = (e.0, pages_are setup trace call pages e.1)
 
-jobs_are : (setup : Setup) (trace : List Event) (jobs : List JobValue) → AllHold (WasConfirmedIn setup trace) jobs → AreOfTheirCalls setup trace jobs
+jobs_are : (setup : Setup) (trace : List Event) (jobs : List JobValue) → AllHold (WasConfirmed setup trace) jobs → AreOfTheirCalls setup trace jobs
 jobs_are setup trace [] a = tt
 jobs_are setup trace (job ∷ jobs) a = (record { is_job = a.0.is_job; confirmed = pages_are setup trace job.call job.pages a.0.pages }, jobs_are setup trace jobs a.1)
 
 pub of_their_calls : JobsAreOfTheirCalls
 of_their_calls setup writes trace t =
-    let P : ℕ → PageValue → Type 0 = WasConfirmedIn setup trace in
+    let P : ℕ → PageValue → Type 0 = WasConfirmed setup trace in
     let steps : List Step = (sides setup writes trace).steps in
     let past : Past = past_of (sides setup writes trace) in
     let h : StepsHold P steps = steps_hold setup writes trace t in

@@ -4,13 +4,14 @@ use Rattle.std.proofs.lemmas.List.{append-nil}
 use Rattle.fax_pagestore.specs.Pages.{PageValue}
 use Rattle.fax_jobs.specs.declared.outcome.Outcome.{Outcome}
 use Rattle.fax_jobs.specs.Jobs.{JobValue, most_pages}
-use Rattle.fax_jobs.specs.Books.{Book, job_of, longer, takes_page, joins, joined, added, opened, closed, behind, first_of, with_page}
+use Rattle.fax_jobs.specs.Books.{Book, joins, joined, added, opened, closed, behind, first_of, with_page}
 use Rattle.fax_jobs.specs.Pasts.{Step, Confirms, CallEnds, Sends, Ends, Past, new_past, as_list, sent_if, ended_if, after_steps}
-use Rattle.fax_jobs.specs.Cuts.{pages_of}
+use Rattle.fax_jobs.specs.Cuts.{Confirmation, pages_of}
 use Rattle.fax_answer.specs.Replies.{ConfirmedPage, Waiting, mcf_packet}
 use Rattle.fax_answer.proofs.Confirmations.{gives_confirmations}
 use Rattle.fax_call.specs.Writings.{Writing, IsWriting}
 use Rattle.fax_call.specs.Emission.{Emission, Mark, IsPageOf}
+use Rattle.fax_gateway.specs.Restored.{RestoredCall, CallPage, pages_with, pages_restored, confirms_all, restores}
 use Rattle.fax_gateway.specs.Setups.{Setup}
 use Rattle.fax_gateway.specs.Events.{Event, Ring, FromCalling, FromCalled, Tick, Given, clock}
 use Rattle.fax_gateway.specs.CallingLegs.{CallingLeg, core_of, calling_leg, idle_after, answers, told_calling, confirmed_by}
@@ -20,29 +21,23 @@ use Rattle.fax_gateway.specs.Traces.{IsTrace}
 use Rattle.fax_gateway.specs.Told.{gives_mcf, elements_told, leg_marks, marks_before, EachEmission}
 use Rattle.fax_gateway.specs.Forwards.{WasConfirmedIn, IsForwarded}
 use Rattle.fax_gateway.specs.Cuts.{confirmed_at}
-use Rattle.fax_gateway.specs.OwnConfirmations.{one_if_some, confirmations_in, HasItsOwn, EachPageHasItsOwnConfirmation}
+use Rattle.fax_gateway.specs.Lives.{pages_in, pages_of_jobs}
+use Rattle.fax_gateway.specs.OwnConfirmations.{one_if_some, confirmations_in, IsNumber, HasNumber, HasItsOwn, EachPageHasItsOwnConfirmation}
 use Rattle.fax_gateway.proofs.Confirmed.{given_with}
 use Rattle.fax_gateway.proofs.Forwarding.{each_emission, free_none, forwards}
 use Rattle.fax_gateway.proofs.InCalls.{heard_sends}
 use Rattle.fax_gateway.proofs.LegsRead.{leg_is_read}
 use Rattle.fax_gateway.proofs.Replied.{IfNeat, neat_of, ticked_neat, told_mcf}
+use Rattle.fax_gateway.proofs.Restoring.{EachAt, each_number, number_behind, number_map}
 
 -- A PAGE WITH THE CALL THAT IT CAME IN: those of a job, of jobs, and those that steps confirm, in their order
-abbrev Told : Type 0
-Told = ℕ × PageValue
+abbrev pub Told : Type 0
+Told = CallPage
 
-abbrev told_of : ℕ → PageValue → Told
-told_of call page = (call, page)
+abbrev pub told_of : ℕ → PageValue → Told
+told_of call page = record { call = call; page = page }
 
-abbrev pages_told : ℕ → List PageValue → List Told
-pages_told call [] = []
-pages_told call (page ∷ pages) = told_of call page ∷ pages_told call pages
-
-abbrev jobs_told : List JobValue → List Told
-jobs_told [] = []
-jobs_told (job ∷ jobs) = pages_told job.call job.pages ++ jobs_told jobs
-
-abbrev confirmed_told : List Step → List Told
+abbrev pub confirmed_told : List Step → List Told
 confirmed_told [] = []
 confirmed_told (Confirms call page closes ∷ before) = confirmed_told before ++ told_of call page ∷ []
 confirmed_told (CallEnds ∷ before) = confirmed_told before
@@ -50,24 +45,24 @@ confirmed_told (Sends ∷ before) = confirmed_told before
 confirmed_told (Ends outcome delivered ∷ before) = confirmed_told before
 
 -- the pages of a book's jobs that are not sent yet, and of all jobs
-abbrev waiting_told : Book → List Told
-waiting_told book = jobs_told book.waiting ++ jobs_told (as_list book.open_job)
+abbrev pub waiting_told : Book → List Told
+waiting_told book = pages_of_jobs book.waiting ++ pages_of_jobs (as_list book.open_job)
 
-abbrev past_told : Past → List Told
-past_told past = jobs_told past.ended ++ (jobs_told (as_list past.book.sending) ++ waiting_told past.book)
+abbrev pub past_told : Past → List Told
+past_told past = pages_of_jobs past.ended ++ (pages_of_jobs (as_list past.book.sending) ++ waiting_told past.book)
 
-told-append : (js ks : List JobValue) → jobs_told (js ++ ks) ≡ jobs_told js ++ jobs_told ks
+told-append : (js ks : List JobValue) → pages_of_jobs (js ++ ks) ≡ pages_of_jobs js ++ pages_of_jobs ks
 told-append [] ks = refl
-told-append (j ∷ js) ks = ap (λ (x : List Told). pages_told j.call j.pages ++ x) (told-append js ks) ∙ sym (append_assoc (pages_told j.call j.pages) (jobs_told js) (jobs_told ks))
+told-append (j ∷ js) ks = ap (λ (x : List Told). pages_in j.call j.pages ++ x) (told-append js ks) ∙ sym (append_assoc (pages_in j.call j.pages) (pages_of_jobs js) (pages_of_jobs ks))
 
-pages-append : (call : ℕ) (ps : List PageValue) (page : PageValue) → pages_told call (ps ++ page ∷ []) ≡ pages_told call ps ++ told_of call page ∷ []
+pages-append : (call : ℕ) (ps : List PageValue) (page : PageValue) → pages_in call (ps ++ page ∷ []) ≡ pages_in call ps ++ told_of call page ∷ []
 pages-append call [] page = refl
 pages-append call (p ∷ ps) page = ap (λ (x : List Told). told_of call p ∷ x) (pages-append call ps page)
 
 -- a job is closed
-behind_told : (js : List JobValue) (o : Option JobValue) → jobs_told (behind js o) ++ [] ≡ jobs_told js ++ jobs_told (as_list o)
+behind_told : (js : List JobValue) (o : Option JobValue) → pages_of_jobs (behind js o) ++ [] ≡ pages_of_jobs js ++ pages_of_jobs (as_list o)
 behind_told js None = refl
-behind_told js (Some job) = append-nil (jobs_told (js ++ job ∷ [])) ∙ told-append js (job ∷ [])
+behind_told js (Some job) = append-nil (pages_of_jobs (js ++ job ∷ [])) ∙ told-append js (job ∷ [])
 
 closed_told : (book : Book) → waiting_told (closed book) ≡ waiting_told book
 closed_told book = behind_told book.waiting book.open_job
@@ -80,13 +75,13 @@ both false b h = cc
 same_call : (m n : ℕ) → nat_eq m n ≡ true → m ≡ n
 same_call m n h = grind (arith)
 
-joined_told : (js : List Told) (o : Option JobValue) (call : ℕ) (page : PageValue) → joins o call ≡ true → js ++ jobs_told (as_list (joined o page)) ≡ (js ++ jobs_told (as_list o)) ++ told_of call page ∷ []
+joined_told : (js : List Told) (o : Option JobValue) (call : ℕ) (page : PageValue) → joins o call ≡ true → js ++ pages_of_jobs (as_list (joined o page)) ≡ (js ++ pages_of_jobs (as_list o)) ++ told_of call page ∷ []
 joined_told js None call page t = cc
 joined_told js (Some job) call page t =
     let e : job.call ≡ call = same_call job.call call (both (nat_eq job.call call) (nat_lt (length job.pages) most_pages) t) in
-    let own : List Told = pages_told job.call job.pages in
-    let last : pages_told job.call (job.pages ++ page ∷ []) ++ [] ≡ (own ++ []) ++ told_of call page ∷ [] =
-    append-nil (pages_told job.call (job.pages ++ page ∷ [])) ∙ pages-append job.call job.pages page
+    let own : List Told = pages_in job.call job.pages in
+    let last : pages_in job.call (job.pages ++ page ∷ []) ++ [] ≡ (own ++ []) ++ told_of call page ∷ [] =
+    append-nil (pages_in job.call (job.pages ++ page ∷ [])) ∙ pages-append job.call job.pages page
     ∙ ap (λ (c : ℕ). own ++ told_of c page ∷ []) e ∙ ap (λ (x : List Told). x ++ told_of call page ∷ []) (sym (append-nil own)) in
     ap (λ (x : List Told). js ++ x) last ∙ sym (append_assoc js (own ++ []) (told_of call page ∷ []))
 
@@ -94,8 +89,8 @@ page_told : (book : Book) (call : ℕ) (page : PageValue) → waiting_told (with
 page_told book call page = by (joins book.open_job call) refl
   where
     by : (t : Bool) → joins book.open_job call ≡ t → waiting_told (if◌then◌else◌ {A = Book} t (added book page) (opened (closed book) call page)) ≡ waiting_told book ++ told_of call page ∷ []
-    by true e = joined_told (jobs_told book.waiting) book.open_job call page e
-    by false e = ap (λ (x : List Told). x ++ told_of call page ∷ []) (sym (append-nil (jobs_told (behind book.waiting book.open_job))) ∙ behind_told book.waiting book.open_job)
+    by true e = joined_told (pages_of_jobs book.waiting) book.open_job call page e
+    by false e = ap (λ (x : List Told). x ++ told_of call page ∷ []) (sym (append-nil (pages_of_jobs (behind book.waiting book.open_job))) ∙ behind_told book.waiting book.open_job)
 
 command_told : (closes : Bool) (book : Book) → waiting_told (if◌then◌else◌ {A = Book} closes (closed book) book) ≡ waiting_told book
 command_told true book = closed_told book
@@ -113,44 +108,44 @@ page_sending book call page closes = by closes (joins book.open_job call)
     by false false = refl
 
 -- the job that was closed first is sent, and ends
-sent_told : (o : Option JobValue) (book : Book) → book.sending ≡ o → jobs_told (as_list (sent_if o book).sending) ++ waiting_told (sent_if o book) ≡ jobs_told (as_list book.sending) ++ waiting_told book
-sent_told None book e = by book.waiting ∙ ap (λ (x : Option JobValue). jobs_told (as_list x) ++ waiting_told book) (sym e)
+sent_told : (o : Option JobValue) (book : Book) → book.sending ≡ o → pages_of_jobs (as_list (sent_if o book).sending) ++ waiting_told (sent_if o book) ≡ pages_of_jobs (as_list book.sending) ++ waiting_told book
+sent_told None book e = by book.waiting ∙ ap (λ (x : Option JobValue). pages_of_jobs (as_list x) ++ waiting_told book) (sym e)
   where
-    by : (js : List JobValue) → jobs_told (as_list (first_of js)) ++ (jobs_told (drop 1 js) ++ jobs_told (as_list book.open_job)) ≡ jobs_told js ++ jobs_told (as_list book.open_job)
+    by : (js : List JobValue) → pages_of_jobs (as_list (first_of js)) ++ (pages_of_jobs (drop 1 js) ++ pages_of_jobs (as_list book.open_job)) ≡ pages_of_jobs js ++ pages_of_jobs (as_list book.open_job)
     by [] = refl
-    by (j ∷ js) = sym (append_assoc (pages_told j.call j.pages ++ []) (jobs_told js) (jobs_told (as_list book.open_job)))
-        ∙ ap (λ (x : List Told). (x ++ jobs_told js) ++ jobs_told (as_list book.open_job)) (append-nil (pages_told j.call j.pages))
+    by (j ∷ js) = sym (append_assoc (pages_in j.call j.pages ++ []) (pages_of_jobs js) (pages_of_jobs (as_list book.open_job)))
+        ∙ ap (λ (x : List Told). (x ++ pages_of_jobs js) ++ pages_of_jobs (as_list book.open_job)) (append-nil (pages_in j.call j.pages))
 sent_told (Some job) book e = refl
 
 ended_told : (o : Option JobValue) (past : Past) (outcome : Outcome) (delivered : ℕ) → past.book.sending ≡ o → past_told (ended_if o past outcome delivered) ≡ past_told past
 ended_told None past outcome delivered e = refl
 ended_told (Some job) past outcome delivered e =
     let rest : List Told = waiting_told past.book in
-    ap (λ (x : List Told). x ++ rest) (told-append past.ended (job ∷ [])) ∙ append_assoc (jobs_told past.ended) (jobs_told (job ∷ [])) rest
-    ∙ ap (λ (x : Option JobValue). jobs_told past.ended ++ (jobs_told (as_list x) ++ rest)) (sym e)
+    ap (λ (x : List Told). x ++ rest) (told-append past.ended (job ∷ [])) ∙ append_assoc (pages_of_jobs past.ended) (pages_of_jobs (job ∷ [])) rest
+    ∙ ap (λ (x : Option JobValue). pages_of_jobs past.ended ++ (pages_of_jobs (as_list x) ++ rest)) (sym e)
 
 -- so the pages of all jobs are the confirmed ones
-all_told : (steps : List Step) → past_told (after_steps new_past steps) ≡ confirmed_told steps
+pub all_told : (steps : List Step) → past_told (after_steps new_past steps) ≡ confirmed_told steps
 all_told [] = refl
 all_told (Confirms call page closes ∷ before) =
     let past : Past = after_steps new_past before in
     let book : Book = past.book in
-    let front : List Told = jobs_told past.ended in
-    let sent : List Told = jobs_told (as_list book.sending) in
+    let front : List Told = pages_of_jobs past.ended in
+    let sent : List Told = pages_of_jobs (as_list book.sending) in
     let last : List Told = told_of call page ∷ [] in
     let b : Book = if◌then◌else◌ {A = Book} closes (closed (with_page book call page)) (with_page book call page) in
     let w : waiting_told b ≡ waiting_told book ++ last = command_told closes (with_page book call page) ∙ page_told book call page in
-    ap (λ (o : Option JobValue). front ++ (jobs_told (as_list o) ++ waiting_told b)) (page_sending book call page closes)
+    ap (λ (o : Option JobValue). front ++ (pages_of_jobs (as_list o) ++ waiting_told b)) (page_sending book call page closes)
     ∙ ap (λ (x : List Told). front ++ (sent ++ x)) w
     ∙ ap (λ (x : List Told). front ++ x) (sym (append_assoc sent (waiting_told book) last))
     ∙ sym (append_assoc front (sent ++ waiting_told book) last)
     ∙ ap (λ (x : List Told). x ++ last) (all_told before)
 all_told (CallEnds ∷ before) =
     let past : Past = after_steps new_past before in
-    ap (λ (x : List Told). jobs_told past.ended ++ (jobs_told (as_list past.book.sending) ++ x)) (closed_told past.book) ∙ all_told before
+    ap (λ (x : List Told). pages_of_jobs past.ended ++ (pages_of_jobs (as_list past.book.sending) ++ x)) (closed_told past.book) ∙ all_told before
 all_told (Sends ∷ before) =
     let past : Past = after_steps new_past before in
-    ap (λ (x : List Told). jobs_told past.ended ++ x) (sent_told past.book.sending past.book refl) ∙ all_told before
+    ap (λ (x : List Told). pages_of_jobs past.ended ++ x) (sent_told past.book.sending past.book refl) ∙ all_told before
 all_told (Ends outcome delivered ∷ before) =
     let past : Past = after_steps new_past before in
     ended_told past.book.sending past outcome delivered refl ∙ all_told before
@@ -161,7 +156,7 @@ get_behind [] ys n = ap (slice_get ys) (let e : 0 + n ≡ n = omega arith in e)
 get_behind (x ∷ xs) ys n =
     ap (slice_get (x ∷ (xs ++ ys))) (let e : length (x ∷ xs) + n ≡ suc (length xs + n) = omega arith in e) ∙ get_behind xs ys n
 
-get_page : (call : ℕ) (ps : List PageValue) (more : List Told) (n : ℕ) (page : PageValue) → slice_get ps n ≡ Some page → slice_get (pages_told call ps ++ more) n ≡ Some (told_of call page)
+get_page : (call : ℕ) (ps : List PageValue) (more : List Told) (n : ℕ) (page : PageValue) → slice_get ps n ≡ Some page → slice_get (pages_in call ps ++ more) n ≡ Some (told_of call page)
 get_page call [] more n page h = cc
 get_page call (p ∷ ps) more zero page h = let e : p ≡ page = cc in ap (λ (x : PageValue). Some (told_of call x)) e
 get_page call (p ∷ ps) more (suc n) page h = get_page call ps more n page h
@@ -176,16 +171,16 @@ get_end (z ∷ xs) x y (suc k) h = by (get_end xs x y k h)
     by (inl e) = inl e
     by (inr e) = inr (omega (arith, e.0), e.1)
 
-pages_length : (call : ℕ) (ps : List PageValue) → length (pages_told call ps) ≡ length ps
+pages_length : (call : ℕ) (ps : List PageValue) → length (pages_in call ps) ≡ length ps
 pages_length call [] = refl
-pages_length call (p ∷ ps) = let e : length (pages_told call ps) ≡ length ps = pages_length call ps in omega arith
+pages_length call (p ∷ ps) = let e : length (pages_in call ps) ≡ length ps = pages_length call ps in omega arith
 
-jobs_length : (js : List JobValue) → length (jobs_told js) ≡ length (pages_of js)
+jobs_length : (js : List JobValue) → length (pages_of_jobs js) ≡ length (pages_of js)
 jobs_length [] = refl
 jobs_length (j ∷ js) =
-    let e : length (jobs_told js) ≡ length (pages_of js) = jobs_length js in
-    let f : length (pages_told j.call j.pages) ≡ length j.pages = pages_length j.call j.pages in
-    let g : length (pages_told j.call j.pages ++ jobs_told js) ≡ length (pages_told j.call j.pages) + length (jobs_told js) = length-append (pages_told j.call j.pages) (jobs_told js) in
+    let e : length (pages_of_jobs js) ≡ length (pages_of js) = jobs_length js in
+    let f : length (pages_in j.call j.pages) ≡ length j.pages = pages_length j.call j.pages in
+    let g : length (pages_in j.call j.pages ++ pages_of_jobs js) ≡ length (pages_in j.call j.pages) + length (pages_of_jobs js) = length-append (pages_in j.call j.pages) (pages_of_jobs js) in
     let i : length (j.pages ++ pages_of js) ≡ length j.pages + length (pages_of js) = length-append j.pages (pages_of js) in
     omega arith
 
@@ -194,13 +189,13 @@ place_of : (steps : List Step) (job : JobValue) (n : ℕ) (page : PageValue) →
     slice_get (confirmed_told steps) (length (pages_of (after_steps new_past steps).ended) + n) ≡ Some (told_of job.call page)
 place_of steps job n page is h =
     let past : Past = after_steps new_past steps in
-    let front : List Told = jobs_told past.ended in
+    let front : List Told = pages_of_jobs past.ended in
     let rest : List Told = waiting_told past.book in
     ap (λ (k : ℕ). slice_get (confirmed_told steps) (k + n)) (sym (jobs_length past.ended))
     ∙ ap (λ (xs : List Told). slice_get xs (length front + n)) (sym (all_told steps))
-    ∙ ap (λ (o : Option JobValue). slice_get (front ++ (jobs_told (as_list o) ++ rest)) (length front + n)) is
-    ∙ get_behind front ((pages_told job.call job.pages ++ []) ++ rest) n
-    ∙ ap (λ (xs : List Told). slice_get xs n) (append_assoc (pages_told job.call job.pages) [] rest)
+    ∙ ap (λ (o : Option JobValue). slice_get (front ++ (pages_of_jobs (as_list o) ++ rest)) (length front + n)) is
+    ∙ get_behind front ((pages_in job.call job.pages ++ []) ++ rest) n
+    ∙ ap (λ (xs : List Told). slice_get xs n) (append_assoc (pages_in job.call job.pages) [] rest)
     ∙ get_page job.call job.pages ([] ++ rest) n page h
 
 -- WHAT HOLDS OF EACH CONFIRMATION, with the number of those before it
@@ -211,13 +206,13 @@ Numbered P (CallEnds ∷ before) = Numbered P before
 Numbered P (Sends ∷ before) = Numbered P before
 Numbered P (Ends outcome delivered ∷ before) = Numbered P before
 
-at_place : (P : ℕ → ℕ → PageValue → Type 0) (steps : List Step) (k : ℕ) (told : Told) → Numbered P steps → slice_get (confirmed_told steps) k ≡ Some told → P k told.0 told.1
+at_place : (P : ℕ → ℕ → PageValue → Type 0) (steps : List Step) (k : ℕ) (told : Told) → Numbered P steps → slice_get (confirmed_told steps) k ≡ Some told → P k told.call told.page
 at_place P [] k told a h = cc
 at_place P (Confirms call page closes ∷ before) k told a h = by (λ e. at_place P before k told a.1 e) (get_end (confirmed_told before) (told_of call page) told k h)
   where
-    by : (slice_get (confirmed_told before) k ≡ Some told → P k told.0 told.1) → (slice_get (confirmed_told before) k ≡ Some told) ⊎ ((length (confirmed_told before) ≡ k) × (told_of call page ≡ told)) → P k told.0 told.1
+    by : (slice_get (confirmed_told before) k ≡ Some told → P k told.call told.page) → (slice_get (confirmed_told before) k ≡ Some told) ⊎ ((length (confirmed_told before) ≡ k) × (told_of call page ≡ told)) → P k told.call told.page
     by f (inl e) = f e
-    by f (inr e) = subst (λ (x : Told). P k x.0 x.1) e.1 (subst (λ (m : ℕ). P m call page) e.0 a.0)
+    by f (inr e) = subst (λ (x : Told). P k x.call x.page) e.1 (subst (λ (m : ℕ). P m call page) e.0 a.0)
 at_place P (CallEnds ∷ before) k told a h = at_place P before k told a h
 at_place P (Sends ∷ before) k told a h = at_place P before k told a h
 at_place P (Ends outcome delivered ∷ before) k told a h = at_place P before k told a h
@@ -229,19 +224,58 @@ numbered_map P Q (CallEnds ∷ before) f h = numbered_map P Q before f h
 numbered_map P Q (Sends ∷ before) f h = numbered_map P Q before f h
 numbered_map P Q (Ends outcome delivered ∷ before) f h = numbered_map P Q before f h
 
+-- THOSE THAT WERE RESTORED are the first
+confirmed_first : (number : ℕ) (cs : List Confirmation) (steps : List Step) → confirmed_told (confirms_all number cs steps) ≡ confirmed_told steps ++ pages_with number cs
+confirmed_first number [] steps = sym (append-nil (confirmed_told steps))
+confirmed_first number (c ∷ cs) steps =
+    confirmed_first number cs (Confirms number c.page c.closes ∷ steps) ∙ append_assoc (confirmed_told steps) (told_of number c.page ∷ []) (pages_with number cs)
+
+pub restored_first : (calls : List RestoredCall) (steps : List Step) → confirmed_told (restores calls steps) ≡ confirmed_told steps ++ pages_restored calls
+restored_first [] steps = sym (append-nil (confirmed_told steps))
+restored_first (call ∷ calls) steps =
+    restored_first calls (CallEnds ∷ confirms_all call.number call.confirmed steps)
+    ∙ ap (λ (xs : List Told). xs ++ pages_restored calls) (confirmed_first call.number call.confirmed steps)
+    ∙ append_assoc (confirmed_told steps) (pages_with call.number call.confirmed) (pages_restored calls)
+
+last_length : (xs : List Told) (x : Told) → length (xs ++ x ∷ []) ≡ suc (length xs)
+last_length xs x = let e : length (xs ++ x ∷ []) ≡ length xs + length (x ∷ []) = length-append xs (x ∷ []) in omega arith
+
+-- each of them with its number
+record NumbersOn (P : ℕ → ℕ → PageValue → Type 0) (k : ℕ) (more : List CallPage) (steps : List Step) : Type 0 where
+  at : length (confirmed_told steps) ≡ k
+  these : Numbered P steps
+  others : EachAt P k more
+
+numbers_call : (P : ℕ → ℕ → PageValue → Type 0) (number : ℕ) (cs : List Confirmation) (more : List CallPage) (k : ℕ) (steps : List Step) → NumbersOn P k (pages_with number cs ++ more) steps →
+    (n : ℕ) × NumbersOn P n more (confirms_all number cs steps)
+numbers_call P number [] more k steps h = (k, h)
+numbers_call P number (c ∷ cs) more k steps h =
+    numbers_call P number cs more (suc k) (Confirms number c.page c.closes ∷ steps)
+    (record {
+      at = last_length (confirmed_told steps) (told_of number c.page) ∙ ap suc h.at;
+      these = (subst (λ (n : ℕ). P n number c.page) (sym h.at) h.others.0, h.these);
+      others = h.others.1;
+    })
+
+numbers_restored : (P : ℕ → ℕ → PageValue → Type 0) (calls : List RestoredCall) (k : ℕ) (steps : List Step) → NumbersOn P k (pages_restored calls) steps → Numbered P (restores calls steps)
+numbers_restored P [] k steps h = h.these
+numbers_restored P (call ∷ calls) k steps h =
+    let i = numbers_call P call.number call.confirmed (pages_restored calls) k steps h in
+    numbers_restored P calls i.0 (CallEnds ∷ confirms_all call.number call.confirmed steps) (record { at = i.1.at; these = i.1.these; others = i.1.others })
+
 -- WHAT A TICK ADDS
-ends_told : (b : Bool) (steps : List Step) → confirmed_told (ends_if b steps) ≡ confirmed_told steps
+pub ends_told : (b : Bool) (steps : List Step) → confirmed_told (ends_if b steps) ≡ confirmed_told steps
 ends_told true steps = refl
 ends_told false steps = refl
 
-sends_told : (setup : Setup) (writes : Writing) (now : ℕ) (s : Sides) → confirmed_told (sends_if setup writes now s).steps ≡ confirmed_told s.steps
+pub sends_told : (setup : Setup) (writes : Writing) (now : ℕ) (s : Sides) → confirmed_told (sends_if setup writes now s).steps ≡ confirmed_told s.steps
 sends_told setup writes now s = by (is_free s.leg)
   where
     by : (b : Bool) → confirmed_told (if◌then◌else◌ {A = Sides} b (sends setup writes now s) s).steps ≡ confirmed_told s.steps
     by true = refl
     by false = refl
 
-enters_told : (delivered : ℕ) (o : Option Outcome) (steps : List Step) → confirmed_told (enters delivered o steps) ≡ confirmed_told steps
+pub enters_told : (delivered : ℕ) (o : Option Outcome) (steps : List Step) → confirmed_told (enters delivered o steps) ≡ confirmed_told steps
 enters_told delivered None steps = refl
 enters_told delivered (Some outcome) steps = refl
 
@@ -257,8 +291,10 @@ heard_length (Some l) now steps =
     ap (λ (x : List Told). length x) (ends_told (answers l now).ended (confirms_if l.number (confirmed_by (answers l now).given) steps))
     ∙ confirms_length l.number (confirmed_by (answers l now).given) steps
 
-count_is : (setup : Setup) (writes : Writing) (trace : List Event) → length (confirmed_told (sides setup writes trace).steps) ≡ confirmations_in setup trace
-count_is setup writes [] = refl
+count_is : (setup : Setup) (writes : Writing) (trace : List Event) → length (confirmed_told (sides setup writes trace).steps) ≡ length (pages_restored setup.restored) + confirmations_in setup trace
+count_is setup writes [] =
+    ap (λ (x : List Told). length x) (restored_first setup.restored [])
+    ∙ (let e : length (pages_restored setup.restored) ≡ length (pages_restored setup.restored) + 0 = omega arith in e)
 count_is setup writes (Ring at number ∷ earlier) = count_is setup writes earlier
 count_is setup writes (FromCalling octets at decided read ∷ earlier) =
     ap (λ (x : List Told). length x) (ends_told (not (idle_after (calling_leg setup earlier)) && idle_after (calling_leg setup (FromCalling octets at decided read ∷ earlier))) (sides setup writes earlier).steps) ∙ count_is setup writes earlier
@@ -270,14 +306,14 @@ count_is setup writes (Tick at given ∷ earlier) =
     let o : Option CallingLeg = calling_leg setup earlier in
     ap (λ (x : List Told). length x) (enters_told (delivered_told writes z.leg now) (outcome_told writes z.leg now) z.steps ∙ sends_told setup writes now (record s { steps = heard_in_tick o now s.steps }))
     ∙ heard_length o now s.steps ∙ ap (λ (k : ℕ). k + one_if_some (confirmed_at o now)) (count_is setup writes earlier)
+    ∙ added (length (pages_restored setup.restored)) (confirmations_in setup earlier) (one_if_some (confirmed_at o now))
+  where
+    added : (a b c : ℕ) → (a + b) + c ≡ a + (b + c)
+    added a b c = omega arith
 
--- A CONFIRMATION OF THE TRACE, with so many before it
-record IsNumber (setup : Setup) (trace : List Event) (k call : ℕ) (page : PageValue) : Type 0 where
-  confirmed : WasConfirmedIn setup trace call page
-  before_it : confirmations_in setup confirmed.earlier ≡ k
-
-number_later : (setup : Setup) (e : Event) (trace : List Event) (k call : ℕ) (page : PageValue) → IsNumber setup trace k call page → IsNumber setup (e ∷ trace) k call page
-number_later setup e trace k call page i =
+-- A CONFIRMATION, with so many before it
+own_later : (setup : Setup) (e : Event) (trace : List Event) (k call : ℕ) (page : PageValue) → IsNumber setup trace call page k → IsNumber setup (e ∷ trace) call page k
+own_later setup e trace k call page i =
     let w : WasConfirmedIn setup trace call page = i.confirmed in
     record {
       confirmed = record {
@@ -298,12 +334,19 @@ number_later setup e trace k call page i =
       before_it = i.before_it;
     }
 
+abbrev NumberOf : Setup → List Event → ℕ → ℕ → PageValue → Type 0
+NumberOf setup trace k call page = HasNumber (pages_restored setup.restored) k call page (IsNumber setup trace call page)
+
+number_later : (setup : Setup) (e : Event) (trace : List Event) (k call : ℕ) (page : PageValue) → NumberOf setup trace k call page → NumberOf setup (e ∷ trace) k call page
+number_later setup e trace k call page h =
+    number_map (pages_restored setup.restored) k call page (IsNumber setup trace call page) (IsNumber setup (e ∷ trace) call page) (λ n i. own_later setup e trace n call page i) h
+
 told_in : (setup : Setup) (l : CallingLeg) (now : ℕ) (w : Waiting) → IfNeat (Some l) → (answers l now).given ≡ Some w → w.packet ≡ mcf_packet → gives_mcf (told_calling setup (Some l) now) ≡ true
 told_in setup l now w n is e = told_mcf setup l.given (answers l now).given w n.short (ticked_neat (core_of l) now n.core).given is e
 
-number_now : (setup : Setup) (writes : Writing) (earlier : List Event) (at : ℕ) (given : Given) (l : CallingLeg) (c : ConfirmedPage) → IsTrace setup writes (Tick at given ∷ earlier) →
-    calling_leg setup earlier ≡ Some l → confirmed_by (answers l (max at (clock earlier))).given ≡ Some c → IsNumber setup (Tick at given ∷ earlier) (length (confirmed_told (sides setup writes earlier).steps)) l.number c.page
-number_now setup writes earlier at given l c t is h =
+own_now : (setup : Setup) (writes : Writing) (earlier : List Event) (at : ℕ) (given : Given) (l : CallingLeg) (c : ConfirmedPage) → IsTrace setup writes (Tick at given ∷ earlier) →
+    calling_leg setup earlier ≡ Some l → confirmed_by (answers l (max at (clock earlier))).given ≡ Some c → IsNumber setup (Tick at given ∷ earlier) l.number c.page (confirmations_in setup earlier)
+own_now setup writes earlier at given l c t is h =
     let now : ℕ = max at (clock earlier) in
     let g = given_with (answers l now).given c h in
     let r = gives_confirmations l.before l.begun now l.events g.0 c (leg_is_read setup writes earlier l t.1 is) g.1 g.2 in
@@ -324,8 +367,14 @@ number_now setup writes earlier at given l c t is h =
         gives = h;
         confirmation = r.1;
       };
-      before_it = sym (count_is setup writes earlier);
+      before_it = refl;
     }
+
+number_now : (setup : Setup) (writes : Writing) (earlier : List Event) (at : ℕ) (given : Given) (l : CallingLeg) (c : ConfirmedPage) → IsTrace setup writes (Tick at given ∷ earlier) →
+    calling_leg setup earlier ≡ Some l → confirmed_by (answers l (max at (clock earlier))).given ≡ Some c → NumberOf setup (Tick at given ∷ earlier) (length (confirmed_told (sides setup writes earlier).steps)) l.number c.page
+number_now setup writes earlier at given l c t is h =
+    subst (λ (k : ℕ). NumberOf setup (Tick at given ∷ earlier) k l.number c.page) (sym (count_is setup writes earlier))
+    (number_behind (pages_restored setup.restored) (confirmations_in setup earlier) l.number c.page (IsNumber setup (Tick at given ∷ earlier) l.number c.page) (own_now setup writes earlier at given l c t is h))
 
 -- so each confirmation among the book's steps has its number in the trace
 ends_number : (P : ℕ → ℕ → PageValue → Type 0) (b : Bool) (steps : List Step) → Numbered P steps → Numbered P (ends_if b steps)
@@ -337,12 +386,12 @@ confirms_number P number None steps f h = h
 confirms_number P number (Some c) steps f h = (f c refl, h)
 
 heard_number : (setup : Setup) (writes : Writing) (earlier : List Event) (at : ℕ) (given : Given) (o : Option CallingLeg) → IsTrace setup writes (Tick at given ∷ earlier) → calling_leg setup earlier ≡ o →
-    let P : ℕ → ℕ → PageValue → Type 0 = IsNumber setup (Tick at given ∷ earlier) in
+    let P : ℕ → ℕ → PageValue → Type 0 = NumberOf setup (Tick at given ∷ earlier) in
     let steps : List Step = (sides setup writes earlier).steps in
     Numbered P steps → Numbered P (heard_in_tick o (max at (clock earlier)) steps)
 heard_number setup writes earlier at given None t is h = h
 heard_number setup writes earlier at given (Some l) t is h =
-    let P : ℕ → ℕ → PageValue → Type 0 = IsNumber setup (Tick at given ∷ earlier) in
+    let P : ℕ → ℕ → PageValue → Type 0 = NumberOf setup (Tick at given ∷ earlier) in
     let steps : List Step = (sides setup writes earlier).steps in
     let a = answers l (max at (clock earlier)) in
     ends_number P a.ended (confirms_if l.number (confirmed_by a.given) steps)
@@ -360,14 +409,14 @@ enters_number P delivered None steps h = h
 enters_number P delivered (Some outcome) steps h = h
 
 event_number : (setup : Setup) (writes : Writing) (e : Event) (earlier : List Event) → IsTrace setup writes (e ∷ earlier) →
-    let P : ℕ → ℕ → PageValue → Type 0 = IsNumber setup (e ∷ earlier) in
+    let P : ℕ → ℕ → PageValue → Type 0 = NumberOf setup (e ∷ earlier) in
     Numbered P (sides setup writes earlier).steps → Numbered P (sides setup writes (e ∷ earlier)).steps
 event_number setup writes (Ring at n) earlier t h = h
 event_number setup writes (FromCalling octets at decided read) earlier t h =
-    ends_number (IsNumber setup (FromCalling octets at decided read ∷ earlier)) (not (idle_after (calling_leg setup earlier)) && idle_after (calling_leg setup (FromCalling octets at decided read ∷ earlier))) (sides setup writes earlier).steps h
+    ends_number (NumberOf setup (FromCalling octets at decided read ∷ earlier)) (not (idle_after (calling_leg setup earlier)) && idle_after (calling_leg setup (FromCalling octets at decided read ∷ earlier))) (sides setup writes earlier).steps h
 event_number setup writes (FromCalled octets at decided) earlier t h = h
 event_number setup writes (Tick at given) earlier t h =
-    let P : ℕ → ℕ → PageValue → Type 0 = IsNumber setup (Tick at given ∷ earlier) in
+    let P : ℕ → ℕ → PageValue → Type 0 = NumberOf setup (Tick at given ∷ earlier) in
     let now : ℕ = max at (clock earlier) in
     let s : Sides = sides setup writes earlier in
     let z : Sides = in_tick setup writes earlier at in
@@ -375,11 +424,13 @@ event_number setup writes (Tick at given) earlier t h =
     (sends_number setup P writes now (record s { steps = heard_in_tick (calling_leg setup earlier) now s.steps })
     (heard_number setup writes earlier at given (calling_leg setup earlier) t refl h))
 
-numbered : (setup : Setup) (writes : Writing) (trace : List Event) → IsTrace setup writes trace → Numbered (IsNumber setup trace) (sides setup writes trace).steps
-numbered setup writes [] t = tt
+numbered : (setup : Setup) (writes : Writing) (trace : List Event) → IsTrace setup writes trace → Numbered (NumberOf setup trace) (sides setup writes trace).steps
+numbered setup writes [] t =
+    numbers_restored (NumberOf setup []) setup.restored 0 []
+    (record { at = refl; these = tt; others = each_number (λ call page. IsNumber setup [] call page) (pages_restored setup.restored) })
 numbered setup writes (e ∷ earlier) t =
     event_number setup writes e earlier t
-    (numbered_map (IsNumber setup earlier) (IsNumber setup (e ∷ earlier)) (sides setup writes earlier).steps (λ k call page i. number_later setup e earlier k call page i) (numbered setup writes earlier t.1))
+    (numbered_map (NumberOf setup earlier) (NumberOf setup (e ∷ earlier)) (sides setup writes earlier).steps (λ k call page i. number_later setup e earlier k call page i) (numbered setup writes earlier t.1))
 
 -- THE LAW
 own_of : (setup : Setup) (writes : Writing) (earlier : List Event) (marks : List Mark) (emission : Emission) (job : JobValue) (n : ℕ) → IsTrace setup writes earlier →
@@ -387,8 +438,8 @@ own_of : (setup : Setup) (writes : Writing) (earlier : List Event) (marks : List
 own_of setup writes earlier marks emission job n t is p =
     let steps : List Step = (sides setup writes earlier).steps in
     let k : ℕ = length (pages_of (after_steps new_past steps).ended) + n in
-    let i : IsNumber setup earlier k job.call p.page = at_place (IsNumber setup earlier) steps k (told_of job.call p.page) (numbered setup writes earlier t) (place_of steps job n p.page is p.is_page) in
-    record { job = job; is_sending = is; n = n; is_page = p; confirmed = i.confirmed; before_it = i.before_it }
+    let i : NumberOf setup earlier k job.call p.page = at_place (NumberOf setup earlier) steps k (told_of job.call p.page) (numbered setup writes earlier t) (place_of steps job n p.page is p.is_page) in
+    record { job = job; is_sending = is; n = n; is_page = p; confirmed = i }
 
 at_tick : (setup : Setup) (writes : Writing) (earlier : List Event) (at : ℕ) (given : Given) → IsWriting writes → IsTrace setup writes (Tick at given ∷ earlier) → (free : Bool) → is_free (sides setup writes earlier).leg ≡ free →
     EachEmission (HasItsOwn setup writes earlier) (marks_before setup writes earlier at (leg_marks setup writes earlier)) (elements_told given.on_called)

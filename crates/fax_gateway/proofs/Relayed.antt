@@ -34,7 +34,7 @@ use Rattle.fax_call.proofs.SignalsGiven.{IsEnded, map_back}
 use Rattle.fax_gateway.specs.Setups.{Setup}
 use Rattle.fax_gateway.specs.Events.{Event}
 use Rattle.fax_gateway.specs.CalledLegs.{CalledLeg, begun_core}
-use Rattle.fax_gateway.specs.Forwards.{WasConfirmedIn}
+use Rattle.fax_gateway.specs.Forwards.{WasConfirmed}
 use Rattle.fax_gateway.specs.Sides.{book_of, sides}
 use Rattle.fax_gateway.specs.Told.{leg_marks}
 use Rattle.fax_gateway.specs.Chain.{IsOfTheFirst, history_of, is_begin, IsRelayed, RelaysBy, Relays, ChainsRelay}
@@ -146,7 +146,7 @@ place_within (p ∷ pages) (suc n) page e = let l : n ≤ length pages = place_w
 -- ONE CALL OF THE FIRST, without EOM: `old` stood before it, and its DCS have one coding
 record Call (setup : Setup) (writes : Writing) (first : List Event) (leg : CalledLeg) : Type 0 where
   are_texts : IsWriting writes
-  kept : KeptLeg writes (WasConfirmedIn setup first) leg
+  kept : KeptLeg writes (WasConfirmed setup first) leg
   old : List Mark
   marks_are : leg_marks setup writes first ≡ marks_after writes leg.job old (begun_core leg) leg.events
   one : OneKind writes leg.job leg.before leg.begun leg.events
@@ -185,7 +185,7 @@ image_relayed setup writes first leg c octets page dcs i k m =
     marks_on writes leg.job c.old (begun_core leg) i.later (Ticks i.now ∷ i.before) in
     record {
       is_page = is;
-      confirmed = page_at (WasConfirmedIn setup first leg.job.call) leg.job.pages i.page page c.kept.holds.pages is;
+      confirmed = page_at (WasConfirmed setup first leg.job.call) leg.job.pages i.page page c.kept.holds.pages is;
       later = on.more;
       before = marks_after writes leg.job c.old (begun_core leg) (Ticks i.now ∷ i.before);
       split = c.marks_are ∙ ap (λ (es : List CallEvent). marks_after writes leg.job c.old (begun_core leg) es) i.split ∙ on.is;
@@ -227,7 +227,7 @@ rises_relay setup writes first leg c (e ∷ h) bound next k f r =
 
 pub chains_relay : ChainsRelay
 chains_relay setup other writes others first second leg l w j none =
-    let kept : KeptLeg writes (WasConfirmedIn setup first) leg = kept_leg setup writes first leg w j.is_first j.is_leg in
+    let kept : KeptLeg writes (WasConfirmed setup first) leg = kept_leg setup writes first leg w j.is_first j.is_leg in
     let hears : IsOfTheFirst leg l = chains_hear setup other writes others first second leg l w j in
     let i : InCall writes leg (book_of (sides setup writes first)).sending (leg_marks setup writes first) =
     subst (λ (o : Option CalledLeg). IfInCall writes o (book_of (sides setup writes first)).sending (leg_marks setup writes first)) j.is_leg (in_call setup writes first j.is_first) in

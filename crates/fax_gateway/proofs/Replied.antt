@@ -1,4 +1,5 @@
--- What is given on the calling leg fits a datagram; a frame MCF is read back from it exactly where the MCF packet is given.
+-- What is given on the calling leg fits a datagram; a frame MCF is read back from it exactly where the MCF packet is given, and
+-- a frame RTN only where the RTN packet is.
 use Rattle.std.proofs.Common.{◌≡◌, ℕ, ◌≤◌, ◌⊎◌, inl, inr, Bool, true, false, List, [], ◌∷◌, ◌++◌, length, Option, Some, None, Result, Ok, Err, refl, sym, ◌∙◌, ap, arith, if◌then◌else◌}
 use Rattle.fax_timers.specs.Moments.{is_due}
 use Rattle.fax_timers.specs.Paces.{pace_allows}
@@ -26,15 +27,20 @@ use Rattle.fax_gateway.specs.Setups.{Setup}
 use Rattle.fax_gateway.specs.Events.{Event, Ring, FromCalling, FromCalled, Tick, clock}
 use Rattle.fax_gateway.specs.Legs.{new_pieces}
 use Rattle.fax_gateway.specs.CallingLegs.{CallingLeg, core_of, is_idle, answers, rung_leg, leg_with, packets_with, calling_after, calling_leg, told_by}
-use Rattle.fax_gateway.specs.Told.{has_mcf, gives_mcf}
+use Rattle.fax_answer.specs.EachRtn.{rtn_packet}
+use Rattle.fax_gateway.specs.Told.{has_mcf, gives_mcf, has_rtn, gives_rtn}
 use Rattle.fax_gateway.proofs.Fitting.{told_back}
 
 abbrev pub mcf_in : List ℕ → Bool
 mcf_in packet = has_mcf [] (elements.elements_in (packet_of packet))
 
+abbrev pub rtn_in : List ℕ → Bool
+rtn_in packet = has_rtn [] (elements.elements_in (packet_of packet))
+
 pub record IsNeat (w : Waiting) : Type 0 where
   pub short : length w.packet ≤ 16383
   pub only : (mcf_in w.packet ≡ false) ⊎ (w.packet ≡ mcf_packet)
+  pub rtn : (rtn_in w.packet ≡ false) ⊎ (w.packet ≡ rtn_packet)
 
 abbrev pub AllNeat : List Waiting → Type 0
 AllNeat [] = Unit {0}
@@ -46,15 +52,15 @@ neat_both (x ∷ xs) ys a b = (a.0, neat_both xs ys a.1 b)
 
 tone_neat : IsNeat (silent called_tone)
 unfolding packet_of bits.bit packets.fields_behind
-tone_neat = record { short = omega arith; only = inl refl }
+tone_neat = record { short = omega arith; only = inl refl; rtn = inl refl }
 
 preamble_neat : IsNeat (silent preamble)
 unfolding packet_of bits.bit packets.fields_behind
-preamble_neat = record { short = omega arith; only = inl refl }
+preamble_neat = record { short = omega arith; only = inl refl; rtn = inl refl }
 
 dis_neat : AllNeat dis_reply
 unfolding written_behind fields_at ended_frame packet_of bits.bit packets.fields_behind packets.field_at packets.octets_at
-dis_neat = (preamble_neat, (record { short = omega arith; only = inl refl }, tt))
+dis_neat = (preamble_neat, (record { short = omega arith; only = inl refl; rtn = inl refl }, tt))
 
 plain_only : (p : Plain) → (mcf_in (frame_packet (written_plain p false)) ≡ false) ⊎ (frame_packet (written_plain p false) ≡ mcf_packet)
 unfolding written_behind fields_at ended_frame packet_of bits.bit packets.fields_behind packets.field_at packets.octets_at
@@ -67,12 +73,23 @@ plain_only plain.Mcf = inr refl
 plain_only plain.Rtn = inl refl
 plain_only plain.Dcn = inl refl
 
+plain_rtn : (p : Plain) → (rtn_in (frame_packet (written_plain p false)) ≡ false) ⊎ (frame_packet (written_plain p false) ≡ rtn_packet)
+unfolding written_behind fields_at ended_frame packet_of bits.bit packets.fields_behind packets.field_at packets.octets_at
+plain_rtn plain.Cfr = inl refl
+plain_rtn plain.Ftt = inl refl
+plain_rtn plain.Eom = inl refl
+plain_rtn plain.Mps = inl refl
+plain_rtn plain.Eop = inl refl
+plain_rtn plain.Mcf = inl refl
+plain_rtn plain.Rtn = inr refl
+plain_rtn plain.Dcn = inl refl
+
 plain_short : (p : Plain) → length (frame_packet (written_plain p false)) ≤ 16383
 unfolding written_behind
 plain_short p = omega arith
 
 plain_neat : (p : Plain) (confirmed : Option ConfirmedPage) → AllNeat (plain_reply p confirmed)
-plain_neat p confirmed = (preamble_neat, (record { short = plain_short p; only = plain_only p }, tt))
+plain_neat p confirmed = (preamble_neat, (record { short = plain_short p; only = plain_only p; rtn = plain_rtn p }, tt))
 
 reply_neat : (d : Decision) → AllNeat (reply_to d)
 reply_neat PassesOver = tt
@@ -188,3 +205,22 @@ mcf_only setup given (Some w) s n h = (w, refl, by n.only)
     by : (mcf_in w.packet ≡ false) ⊎ (w.packet ≡ mcf_packet) → w.packet ≡ mcf_packet
     by (inl f) = let q : true ≡ false = sym h ∙ (ap (has_mcf []) (told_back setup given w.packet s n.short) ∙ f) in cc
     by (inr e) = e
+
+-- the same of the frame RTN, which has no MCF
+pub rtn_only : (setup : Setup) (given : List (List ℕ)) (o : Option Waiting) → AreShort given → NeatGiven o → gives_rtn (told_by setup given o) ≡ true → (w : Waiting) × (o ≡ Some w) × (w.packet ≡ rtn_packet)
+rtn_only setup given None s n h = cc
+rtn_only setup given (Some w) s n h = (w, refl, by n.rtn)
+  where
+    by : (rtn_in w.packet ≡ false) ⊎ (w.packet ≡ rtn_packet) → w.packet ≡ rtn_packet
+    by (inl f) = let q : true ≡ false = sym h ∙ (ap (has_rtn []) (told_back setup given w.packet s n.short) ∙ f) in cc
+    by (inr e) = e
+
+rtn_has_no_mcf : mcf_in rtn_packet ≡ false
+unfolding written_behind fields_at ended_frame packet_of bits.bit packets.fields_behind packets.field_at packets.octets_at
+rtn_has_no_mcf = refl
+
+pub rtn_is_no_mcf : (setup : Setup) (given : List (List ℕ)) (o : Option Waiting) (w : Waiting) → AreShort given → NeatGiven o → o ≡ Some w → w.packet ≡ rtn_packet → gives_mcf (told_by setup given o) ≡ false
+rtn_is_no_mcf setup given None w s n is e = cc
+rtn_is_no_mcf setup given (Some v) w s n is e =
+    let same : v ≡ w = cc in
+    ap (has_mcf []) (told_back setup given v.packet s n.short) ∙ ap mcf_in (ap (λ (x : Waiting). x.packet) same ∙ e) ∙ rtn_has_no_mcf

@@ -23,7 +23,7 @@ use Rattle.fax_gateway.specs.Events.{Event, Tick, Given, clock}
 use Rattle.fax_gateway.specs.CalledLegs.{CalledLeg, begun_core, calls, outcome_of, with_tick, leg_ticked, report_by, told_report}
 use Rattle.fax_gateway.specs.Sides.{Sides, book_of, sides, in_tick}
 use Rattle.fax_gateway.specs.Told.{leg_marks, marks_before}
-use Rattle.fax_gateway.specs.Forwards.{WasConfirmedIn}
+use Rattle.fax_gateway.specs.Forwards.{WasConfirmed}
 use Rattle.fax_gateway.specs.ReportsTold.{AreHeard, IsReported, ReportsTheJob}
 use Rattle.fax_gateway.proofs.Held.{IfHolds, held}
 use Rattle.fax_gateway.proofs.Confirmed.{tick_holds}
@@ -166,6 +166,6 @@ reports_the_job setup writes earlier at given report w t e =
     let z : Sides = in_tick setup writes earlier at in
     let trace : List Event = Tick at given ∷ earlier in
     let old : List Mark = leg_marks setup writes earlier in
-    by_leg writes now z.leg (book_of z) (WasConfirmedIn setup trace) (marks_before setup writes earlier at old) (leg_marks setup writes trace) (book_of (sides setup writes trace)).sending report w
-    (held (WasConfirmedIn setup trace) z.steps (tick_holds setup writes earlier at given t)).sending
+    by_leg writes now z.leg (book_of z) (WasConfirmed setup trace) (marks_before setup writes earlier at old) (leg_marks setup writes trace) (book_of (sides setup writes trace)).sending report w
+    (held (WasConfirmed setup trace) z.steps (tick_holds setup writes earlier at given t)).sending
     (before_call setup writes earlier at old (in_call setup writes earlier t.1)) (in_call setup writes trace t) (sym (ap (λ (g : Given). g.report) t.0) ∙ e)

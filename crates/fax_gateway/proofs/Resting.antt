@@ -13,6 +13,7 @@ use Rattle.fax_answer.specs.Calls as answer_calls
 use Rattle.fax_answer.specs.Calls.{Answering}
 use Rattle.fax_answer.specs.Due as answer_due
 use Rattle.fax_answer.specs.Reached as answer
+use Rattle.fax_answer.specs.Refusals.{TellsWhy}
 use Rattle.fax_answer.proofs.DueLemmas as answer_lemmas
 use Rattle.fax_call.specs.declared.procedure.Procedure.{Procedure}
 use Rattle.fax_call.specs.declared.state.State.{State}
@@ -31,7 +32,7 @@ use Rattle.fax_gateway.specs.CallingLegs.{CallingLeg, answers, calling_leg, conf
 use Rattle.fax_gateway.specs.CalledLegs.{CalledLeg, calls, core_of, is_free, outcome_of, packets_given, told_by}
 use Rattle.fax_gateway.specs.Sides.{book_of, in_tick, sides}
 use Rattle.fax_gateway.specs.Reports.{job_sent}
-use Rattle.fax_gateway.specs.Turns.{call_if, given_up_at, kept_at, kept_if}
+use Rattle.fax_gateway.specs.Turns.{IsRefusedAt, call_if, given_up_at, kept_at, kept_if}
 use Rattle.fax_gateway.specs.Reached.{Begins, CallingValue, GatewayValue, IsCalled, IsCalling, IsLeg, IsReachedBy, TicksOn, answering_of, closed_if, confirmed_if, confirmed_on, ended_if, ended_on, given_shown, outcome_kept, report_if, ticked_on}
 use Rattle.fax_gateway.specs.Due.{call_due, called_due, calling_due, due_at, job_due, nothing_given}
 use Rattle.fax_gateway.proofs.Ticking.{IsHeard, Served, job_is, same_served, sent_off, sent_on, serves_off, serves_on, ticks}
@@ -66,6 +67,14 @@ leg_ends setup (Some l) now fits e = ap (λ (t : answer_calls.Ticked). t.ended) 
 leg_keeps : (setup : Setup) (leg : Option CallingLeg) (now : ℕ) → now < 2 ^ 64 → is_due (calling_due setup leg) now ≡ false → kept_at leg now ≡ None
 leg_keeps setup None now fits e = refl
 leg_keeps setup (Some l) now fits e = ap (λ (t : answer_calls.Ticked). kept_if l.number (confirmed_by t.given)) (answers_rest l now fits e)
+
+leg_refuses : (setup : Setup) (leg : Option CallingLeg) (now : ℕ) → now < 2 ^ 64 → is_due (calling_due setup leg) now ≡ false → IsRefusedAt leg now None
+leg_refuses setup None now fits e = refl
+leg_refuses setup (Some l) now fits e = (
+  None,
+  subst (λ (t : answer_calls.Ticked). TellsWhy t None) (sym (answers_rest l now fits e)) (record { rtn = λ h. absurd h; silent = λ off. refl }),
+  refl,
+)
 
 leg_gives_up : (setup : Setup) (leg : Option CallingLeg) (now : ℕ) → now < 2 ^ 64 → is_due (calling_due setup leg) now ≡ false → given_up_at leg now ≡ None
 leg_gives_up setup None now fits e = refl
@@ -205,6 +214,11 @@ pub keeps_none : (setup : Setup) (writes : Writing) (trace : List Event) (now : 
 keeps_none setup writes trace now fits e =
     let leg : Option CallingLeg = calling_leg setup trace in
     sym (leg_keeps setup leg now fits (neither (calling_due setup leg) (called_due writes (sides setup writes trace).leg (book_of (sides setup writes trace)).waiting) now e).0)
+
+pub refuses_none : (setup : Setup) (writes : Writing) (trace : List Event) (now : ℕ) → now < 2 ^ 64 → is_due (due_at setup writes trace) now ≡ false → IsRefusedAt (calling_leg setup trace) now None
+refuses_none setup writes trace now fits e =
+    let leg : Option CallingLeg = calling_leg setup trace in
+    leg_refuses setup leg now fits (neither (calling_due setup leg) (called_due writes (sides setup writes trace).leg (book_of (sides setup writes trace)).waiting) now e).0
 
 pub gives_none_up : (setup : Setup) (writes : Writing) (trace : List Event) (now : ℕ) → now < 2 ^ 64 → is_due (due_at setup writes trace) now ≡ false → None ≡ given_up_at (calling_leg setup trace) now
 gives_none_up setup writes trace now fits e =

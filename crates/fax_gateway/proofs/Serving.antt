@@ -10,6 +10,7 @@ use Rattle.fax_answer.specs.Replies.{Waiting}
 use Rattle.fax_answer.specs.Calls as answer_calls
 use Rattle.fax_answer.specs.Calls.{Answering, new_answering}
 use Rattle.fax_answer.specs.Reached as answer
+use Rattle.fax_answer.specs.Refusals.{TellsWhy}
 use Rattle.fax_answer.specs.Shown.{IsStep, packet_in, confirmed_in, confirmed_shown}
 use Rattle.fax_call.specs.Writings.{Writing}
 use Rattle.fax_call.specs.Replies.{Packet, written}
@@ -64,19 +65,21 @@ side_ticks setup (Some l) now old new step datagram number a g r =
     }
 
 pub side_tells : {S : Type 0} (setup : Setup) (leg : Option CallingLeg) (now : ℕ) (old new : CallingValue) (step told : Step S) → Answers now old.kept new.kept step
-    → Gives setup step.packet old.leg new.leg told.packet → told.confirmed ≡ step.confirmed → told.ended ≡ step.ended → IsCalling setup leg old → TellsTick setup leg now told
-side_tells {S} setup None now old new step told a g page ends r =
+    → Gives setup step.packet old.leg new.leg told.packet → told.confirmed ≡ step.confirmed → told.refused ≡ step.refused → told.ended ≡ step.ended → IsCalling setup leg old → TellsTick setup leg now told
+side_tells {S} setup None now old new step told a g page refused ends r =
     let k = a (newest_slots []) (new_answering setup.pause) r.core in
     record {
       packet = (g [] [] r.on_leg).0 ∙ ap (sent_if setup []) k.1.packet;
       confirmed = ap (confirmed_shown {S = S}) page ∙ k.1.confirmed;
+      refused = refused ∙ k.1.refused.silent (λ h. h);
       ends = ends ∙ k.1.ends;
     }
-side_tells {S} setup (Some l) now old new step told a g page ends r =
+side_tells {S} setup (Some l) now old new step told a g page refused ends r =
     let k = a (newest_slots l.arrived) (calling_legs.core_of l) r.core in
     record {
       packet = (g l.arrived l.given r.on_leg).0 ∙ ap (sent_if setup l.given) k.1.packet ∙ waiting_told setup (calling_legs.answers l now).given l.given;
       confirmed = ap (confirmed_shown {S = S}) page ∙ k.1.confirmed ∙ waiting_confirms (calling_legs.answers l now).given;
+      refused = subst (TellsWhy (calling_legs.answers l now)) (sym refused) k.1.refused;
       ends = ends ∙ k.1.ends;
     }
 

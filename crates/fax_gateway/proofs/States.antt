@@ -19,6 +19,7 @@ use Rattle.fax_gateway.specs.Traces.{IsTrace}
 use Rattle.fax_gateway.specs.Told.{leg_marks, marks_before}
 use Rattle.fax_gateway.specs.Reports.{report_list, reports_given, job_sent, JobsHaveStates}
 use Rattle.fax_gateway.proofs.InCalls.{IfInCall, before_call, in_call}
+use Rattle.fax_gateway.proofs.Restoring.{restored_reports}
 
 -- the reports of a book's steps
 abbrev reported_by : List Step → List Report
@@ -69,7 +70,7 @@ served_report writes (Some l) now steps marks i = by l.entered i.sends
     by false e = enters_report l delivered (outcome_of (calls writes l now).core) steps e
 
 reported_are : (setup : Setup) (writes : Writing) (trace : List Event) → IsTrace setup writes trace → reported_by (sides setup writes trace).steps ≡ reports_given trace
-reported_are setup writes [] t = refl
+reported_are setup writes [] t = restored_reports setup.restored []
 reported_are setup writes (Ring at n ∷ earlier) t = reported_are setup writes earlier t.1
 reported_are setup writes (FromCalling octets at decided read ∷ earlier) t =
     ends_report (not (idle_after (calling_leg setup earlier)) && idle_after (calling_leg setup (FromCalling octets at decided read ∷ earlier))) (sides setup writes earlier).steps ∙ reported_are setup writes earlier t.1

@@ -4,7 +4,7 @@ use Rattle.fax_jobs.specs.Books.{Book, closed}
 use Rattle.fax_jobs.specs.Pasts.{Step, new_past, after_steps}
 use Rattle.fax_answer.specs.Table.{Reading}
 use Rattle.fax_call.specs.Writings.{Writing}
-use Rattle.fax_gateway.specs.Setups.{AreSet, Setup}
+use Rattle.fax_gateway.specs.Setups.{HasSettings, Setup}
 use Rattle.fax_gateway.specs.declared.settings.Settings.{Settings}
 use Rattle.fax_gateway.specs.declared.called.CalledSide.{CalledSide}
 use Rattle.fax_gateway.specs.Events.{Event, FromCalling, clock}
@@ -38,7 +38,7 @@ hears_from setup writes trace octets at decided ends old new r later rung set sa
       reached = record {
         is_trace = ((answer, h.right), r.is_trace);
         at = now;
-        set = subst (λ (x : Settings). AreSet setup x) (sym set) r.set;
+        set = subst (λ (x : Settings). HasSettings setup x) (sym set) r.set;
         rung = rung ∙ r.rung;
         calling = leg;
         called = subst (λ (s : CalledSide). IsCalled setup writes (sides setup writes trace).leg s) (sym same) r.called;

@@ -13,7 +13,7 @@ use Rattle.fax_call.specs.Writings.{Writing}
 use Rattle.fax_call.specs.Calls.{Ticked}
 use Rattle.fax_call.specs.Delivery.{is_over}
 use Rattle.fax_call.specs.Table.{Counts}
-use Rattle.fax_gateway.specs.Setups.{AreSet, Setup}
+use Rattle.fax_gateway.specs.Setups.{HasSettings, Setup}
 use Rattle.fax_gateway.specs.declared.settings.Settings.{Settings}
 use Rattle.fax_gateway.specs.declared.called.CalledSide.{CalledSide}
 use Rattle.fax_gateway.specs.Events.{Event, Tick, Given, clock}
@@ -247,7 +247,7 @@ ticks setup writes trace at given old new r later rung set calling told s =
         r.is_trace,
       );
       at = later ∙ ap (λ (m : ℕ). max at m) r.at;
-      set = subst (λ (x : Settings). AreSet setup x) (sym set) r.set;
+      set = subst (λ (x : Settings). HasSettings setup x) (sym set) r.set;
       rung = rung ∙ r.rung;
       calling = subst (λ (o : Option CallingLeg). IsCalling setup o new.calling) (ticked_same setup (calling_leg setup trace) now at given) calling;
       called = s.called;

@@ -16,7 +16,7 @@ use Rattle.fax_gateway.specs.Events.{Event}
 use Rattle.fax_gateway.specs.CallingLegs as calling
 use Rattle.fax_gateway.specs.CallingLegs.{CallingLeg, calling_leg}
 use Rattle.fax_gateway.specs.CalledLegs.{CalledLeg}
-use Rattle.fax_gateway.specs.Forwards.{WasConfirmedIn}
+use Rattle.fax_gateway.specs.Forwards.{WasConfirmed}
 use Rattle.fax_gateway.specs.Sides.{sides}
 use Rattle.fax_gateway.specs.Told.{leg_marks}
 use Rattle.fax_gateway.specs.Traces.{IsTrace}
@@ -63,7 +63,7 @@ is_begin mark = false
 -- page of the image emitted last.
 pub record IsRelayed (setup : Setup) (writes : Writing) (first : List Event) (leg : CalledLeg) (page : PageValue) (place : ℕ) : Type 0 where
   pub is_page : slice_get leg.job.pages place ≡ Some page
-  pub confirmed : WasConfirmedIn setup first leg.job.call page
+  pub confirmed : WasConfirmed setup first leg.job.call page
   pub later : List Mark
   pub before : List Mark
   pub split : leg_marks setup writes first ≡ later ++ before

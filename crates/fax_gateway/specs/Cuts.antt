@@ -5,6 +5,7 @@ use Rattle.fax_jobs.specs.Pasts.{Past, jobs_of}
 use Rattle.fax_jobs.specs.Cuts.{Confirmation, IsCutOf, IsCutSoFar}
 use Rattle.fax_answer.specs.Replies.{ConfirmedPage}
 use Rattle.fax_call.specs.Writings.{Writing}
+use Rattle.fax_gateway.specs.Restored.{RestoredCall}
 use Rattle.fax_gateway.specs.Setups.{Setup}
 use Rattle.fax_gateway.specs.Events.{Event, Ring, FromCalling, FromCalled, Tick, clock}
 use Rattle.fax_gateway.specs.CallingLegs.{CallingLeg, calling_leg, idle_after, answers, confirmed_by}
@@ -30,27 +31,34 @@ calls_of setup (FromCalling octets at decided read ∷ earlier) = calls_of setup
 calls_of setup (FromCalled octets at decided ∷ earlier) = calls_of setup earlier
 calls_of setup (Tick at given ∷ earlier) = with_confirmed (confirmed_at (calling_leg setup earlier) (clock (Tick at given ∷ earlier))) (calls_of setup earlier)
 
--- calls that have ended, and the jobs that were closed, in their order: those of a call are cut from its confirmations alone
-abbrev pub AreCutsOf : List (List Confirmation) → List JobValue → Type 0
-AreCutsOf [] jobs = jobs ≡ []
-AreCutsOf (cs ∷ calls) jobs =
-    (old : List JobValue) × (own : List JobValue) × (jobs ≡ old ++ own) × IsCutOf (length calls) cs own × AreCutsOf calls old
+-- calls that were restored, the oldest first, and the jobs cut from the confirmations of each
+abbrev pub AreCutsOfRestored : List RestoredCall → List JobValue → Type 0
+AreCutsOfRestored [] jobs = jobs ≡ []
+AreCutsOfRestored (call ∷ calls) jobs =
+    (own : List JobValue) × (later : List JobValue) × (jobs ≡ own ++ later) × IsCutOf call.number call.confirmed own × AreCutsOfRestored calls later
+
+-- Calls that have ended, and the jobs that were closed, in their order: those of a call are cut from its confirmations alone.
+-- The jobs of the calls that were restored are the first.
+abbrev pub AreCutsOf : List RestoredCall → List (List Confirmation) → List JobValue → Type 0
+AreCutsOf restored [] jobs = AreCutsOfRestored restored jobs
+AreCutsOf restored (cs ∷ calls) jobs =
+    (old : List JobValue) × (own : List JobValue) × (jobs ≡ old ++ own) × IsCutOf (length calls) cs own × AreCutsOf restored calls old
 
 -- a call that is on is cut as far as it has come, behind those that have ended
-pub record IsCutWith (calls : List (List Confirmation)) (cs : List Confirmation) (past : Past) : Type 0 where
+pub record IsCutWith (restored : List RestoredCall) (calls : List (List Confirmation)) (cs : List Confirmation) (past : Past) : Type 0 where
   pub old : List JobValue
   pub own : List JobValue
   pub jobs_are : jobs_of past ≡ old ++ own
   pub cut : IsCutSoFar (length calls) cs own past.book.open_job
-  pub before : AreCutsOf calls old
+  pub before : AreCutsOf restored calls old
 
-abbrev pub IsBookOf : (on : Bool) → List (List Confirmation) → Past → Type 0
-IsBookOf false calls past = AreCutsOf calls (jobs_of past) × (past.book.open_job ≡ None)
-IsBookOf true [] past = ⊥
-IsBookOf true (cs ∷ calls) past = IsCutWith calls cs past
+abbrev pub IsBookOf : List RestoredCall → (on : Bool) → List (List Confirmation) → Past → Type 0
+IsBookOf restored false calls past = AreCutsOf restored calls (jobs_of past) × (past.book.open_job ≡ None)
+IsBookOf restored true [] past = ⊥
+IsBookOf restored true (cs ∷ calls) past = IsCutWith restored calls cs past
 
--- So it is in every trace; the numbers are those that the rings were answered with.
+-- So it is in every trace; the numbers are those that the rings were answered with, and of a restored call that which it came with.
 abbrev pub JobsAreCut : Type 0
 JobsAreCut =
     (setup : Setup) (writes : Writing) (trace : List Event) → IsTrace setup writes trace
-    → IsBookOf (not (idle_after (calling_leg setup trace))) (calls_of setup trace) (past_of (sides setup writes trace))
+    → IsBookOf setup.restored (not (idle_after (calling_leg setup trace))) (calls_of setup trace) (past_of (sides setup writes trace))

@@ -1,26 +1,30 @@
 -- THE LOG of an engine: what it met and what it did. (This project's profile.) Logs have the newest first.
-use Rattle.std.specs.Prelude.{◌≡◌, ℕ, ◌+◌, ◌*◌, ◌<◌, ◌≤◌, ◌⊎◌, min, Bool, true, false, IsTrue, ◌↔◌, nat_eq, not, ◌-◌, ◌^◌, List, [], ◌∷◌, ◌++◌, length, Option, Some, None}
+use Rattle.std.specs.Prelude.{◌≡◌, ℕ, ◌+◌, ◌*◌, ◌<◌, ◌≤◌, ◌⊎◌, min, max, Bool, true, false, IsTrue, ◌↔◌, nat_eq, not, ◌-◌, ◌^◌, List, [], ◌∷◌, ◌++◌, length, Option, Some, None}
 use Rattle.std.specs.List.{All, count_by, flat_map, list_any}
 use Rattle.fax_gateway.specs.Setups.{Setup}
-use Rattle.fax_gateway.specs.Events.{Event, Ring, FromCalling, FromCalled, Tick, Given}
+use Rattle.fax_timers.specs.Moments.{is_due}
+use Rattle.fax_gateway.specs.Events.{Event, Ring, FromCalling, FromCalled, Tick, Given, clock, rings}
 use Rattle.fax_call.specs.Writings.{Writing}
 use Rattle.fax_gateway.specs.Reached.{GatewayValue}
-use Rattle.fax_gateway.specs.CallingLegs.{calling_leg, decided_calling}
+use Rattle.fax_gateway.specs.CallingLegs.{calling_leg, decided_calling, idle_after}
 use Rattle.fax_gateway.specs.CalledLegs.{decided_called}
 use Rattle.fax_gateway.specs.Sides.{sides}
+use Rattle.fax_gateway.specs.Due.{due_at}
 use Rattle.fax_gateway.specs.Reached.{IsReachedBy}
+use Rattle.fax_gateway.specs.declared.fault.RingFault.{RingFault}
+use Rattle.fax_gateway.specs.declared.fault.RingFault.TheVariants as ring_faults
 use Rattle.fax_gateway.specs.declared.side.Side.{Side}
 use Rattle.fax_gateway.specs.declared.driven.Driven.{Driven}
 use Rattle.fax_gateway.specs.declared.side.Side.TheVariants as side
 use Rattle.fax_gateway.specs.Wires.{Receipt, Came, Nothing, Failed, Handed, Known, Grows, buffer_octets, greatest_count}
 
--- A ring, a datagram that was received, and a tick are accepted by the gateway, as an event with its answer, or refused.
--- A receive can bring no datagram. What is given is handed over, and the send may fail.
+-- A ring, a datagram that was received, and a tick are accepted by the gateway, as an event with its answer, or refused: a
+-- ring for a cause, a tick at a moment. A receive can bring no datagram. What is given is handed over, and the send may fail.
 pub data Entry : Type 0 where
   Accepts : (event : Event) → Entry
-  RefusesRing : Entry
+  RefusesRing : (fault : RingFault) → Entry
   RefusesDatagram : (side : Side) → (octets : List ℕ) → Entry
-  RefusesTick : Entry
+  RefusesTick : (now : ℕ) → Entry
   ReceivesNothing : (side : Side) → Entry
   FailsToReceive : (side : Side) → Entry
   Sends : (side : Side) → (octets : List ℕ) → (fails : Bool) → Entry
@@ -30,9 +34,9 @@ pub data Entry : Type 0 where
 -- of the trace: the events that were accepted
 abbrev pub events_in : Entry → List Event
 events_in (Accepts event) = event ∷ []
-events_in RefusesRing = []
+events_in (RefusesRing fault) = []
 events_in (RefusesDatagram at octets) = []
-events_in RefusesTick = []
+events_in (RefusesTick now) = []
 events_in (ReceivesNothing at) = []
 events_in (FailsToReceive at) = []
 events_in (Sends at octets fails) = []
@@ -49,9 +53,9 @@ receipt_of_event (Tick now given) = []
 
 abbrev pub receipts_in : Entry → List Receipt
 receipts_in (Accepts event) = receipt_of_event event
-receipts_in RefusesRing = []
+receipts_in (RefusesRing fault) = []
 receipts_in (RefusesDatagram at octets) = Came at buffer_octets octets ∷ []
-receipts_in RefusesTick = []
+receipts_in (RefusesTick now) = []
 receipts_in (ReceivesNothing at) = Nothing at buffer_octets ∷ []
 receipts_in (FailsToReceive at) = Failed at buffer_octets ∷ []
 receipts_in (Sends at octets fails) = []
@@ -61,9 +65,9 @@ receipts log = flat_map receipts_in log
 
 abbrev pub sent_in : Entry → List Handed
 sent_in (Accepts event) = []
-sent_in RefusesRing = []
+sent_in (RefusesRing fault) = []
 sent_in (RefusesDatagram at octets) = []
-sent_in RefusesTick = []
+sent_in (RefusesTick now) = []
 sent_in (ReceivesNothing at) = []
 sent_in (FailsToReceive at) = []
 sent_in (Sends at octets fails) = record { side = at; octets = octets } ∷ []
@@ -74,36 +78,36 @@ sent log = flat_map sent_in log
 -- of refusals and failures
 abbrev pub is_refused_ring : Entry → Bool
 is_refused_ring (Accepts event) = false
-is_refused_ring RefusesRing = true
+is_refused_ring (RefusesRing fault) = true
 is_refused_ring (RefusesDatagram at octets) = false
-is_refused_ring RefusesTick = false
+is_refused_ring (RefusesTick now) = false
 is_refused_ring (ReceivesNothing at) = false
 is_refused_ring (FailsToReceive at) = false
 is_refused_ring (Sends at octets fails) = false
 
 abbrev pub is_refused_event : Entry → Bool
 is_refused_event (Accepts event) = false
-is_refused_event RefusesRing = false
+is_refused_event (RefusesRing fault) = false
 is_refused_event (RefusesDatagram at octets) = true
-is_refused_event RefusesTick = true
+is_refused_event (RefusesTick now) = true
 is_refused_event (ReceivesNothing at) = false
 is_refused_event (FailsToReceive at) = false
 is_refused_event (Sends at octets fails) = false
 
 abbrev pub is_failed_receive : Entry → Bool
 is_failed_receive (Accepts event) = false
-is_failed_receive RefusesRing = false
+is_failed_receive (RefusesRing fault) = false
 is_failed_receive (RefusesDatagram at octets) = false
-is_failed_receive RefusesTick = false
+is_failed_receive (RefusesTick now) = false
 is_failed_receive (ReceivesNothing at) = false
 is_failed_receive (FailsToReceive at) = true
 is_failed_receive (Sends at octets fails) = false
 
 abbrev pub is_failed_send : Entry → Bool
 is_failed_send (Accepts event) = false
-is_failed_send RefusesRing = false
+is_failed_send (RefusesRing fault) = false
 is_failed_send (RefusesDatagram at octets) = false
-is_failed_send RefusesTick = false
+is_failed_send (RefusesTick now) = false
 is_failed_send (ReceivesNothing at) = false
 is_failed_send (FailsToReceive at) = false
 is_failed_send (Sends at octets fails) = fails
@@ -133,9 +137,9 @@ IsFrom at now (Tick moment given) = ⊥
 
 abbrev pub Comes : Side → ℕ → Entry → Type 0
 Comes at now (Accepts event) = IsFrom at now event
-Comes at now RefusesRing = ⊥
+Comes at now (RefusesRing fault) = ⊥
 Comes at now (RefusesDatagram on octets) = on ≡ at
-Comes at now RefusesTick = ⊥
+Comes at now (RefusesTick moment) = ⊥
 Comes at now (ReceivesNothing on) = ⊥
 Comes at now (FailsToReceive on) = ⊥
 Comes at now (Sends on octets fails) = ⊥
@@ -162,7 +166,7 @@ abbrev pub IsTick : ℕ → List Entry → Type 0
 IsTick now log =
     ((given : Given) × (calling : List Entry) × (called : List Entry) × IsSent side.Calling given.on_calling calling × IsSent side.Called given.on_called called
     × (log ≡ called ++ (calling ++ Accepts (Tick now given) ∷ [])))
-    ⊎ (log ≡ RefusesTick ∷ [])
+    ⊎ (log ≡ RefusesTick now ∷ [])
 
 -- A turn: the receives of the calling leg, those of the called leg, and the tick.
 pub record IsTurn (now : ℕ) (log : List Entry) : Type 0 where
@@ -183,16 +187,23 @@ pub record Carries (log : List Entry) (before after : Known) : Type 0 where
   pub sent : Grows (sent log) before.sent after.sent
   pub failures : after.failures < greatest_count → after.failures ≡ before.failures + (count_by is_failed_receive log + count_by is_failed_send log)
 
--- Of the datagrams those alone are refused, behind this trace, that decide a slot: the others take no memory.
+-- What is refused, behind this trace, for want of memory, wants some: of the datagrams those alone that decide a slot, and a
+-- tick only where something is due. A ring is refused as busy exactly where a call is on, and where none is, for want of a
+-- number exactly where none is left: so that any other refusal is for want of memory.
 abbrev pub decides_on : Setup → Writing → List Event → Side → List ℕ → Bool
 decides_on setup writes earlier side.Calling octets = decided_calling (calling_leg setup earlier) octets
 decides_on setup writes earlier side.Called octets = decided_called writes (sides setup writes earlier).leg octets
 
+abbrev pub IsRingRefused : Setup → List Event → RingFault → Type 0
+IsRingRefused setup earlier fault =
+    (fault ≡ ring_faults.Busy ↔ idle_after (calling_leg setup earlier) ≡ false)
+    × (idle_after (calling_leg setup earlier) ≡ true → fault ≡ ring_faults.NoNumber ↔ 4294967296 ≤ rings earlier)
+
 abbrev pub IsWanting : Setup → Writing → List Event → Entry → Type 0
 IsWanting setup writes earlier (Accepts event) = Unit {0}
-IsWanting setup writes earlier RefusesRing = Unit {0}
+IsWanting setup writes earlier (RefusesRing fault) = IsRingRefused setup earlier fault
 IsWanting setup writes earlier (RefusesDatagram at octets) = decides_on setup writes earlier at octets ≡ true
-IsWanting setup writes earlier RefusesTick = Unit {0}
+IsWanting setup writes earlier (RefusesTick now) = is_due (due_at setup writes earlier) (max now (clock earlier)) ≡ true
 IsWanting setup writes earlier (ReceivesNothing at) = Unit {0}
 IsWanting setup writes earlier (FailsToReceive at) = Unit {0}
 IsWanting setup writes earlier (Sends at octets fails) = Unit {0}
@@ -236,7 +247,7 @@ moment_of start turn = min (start + 40 * turn) greatest_moment
 
 -- It rings: the ring is accepted, or refused.
 abbrev pub IsRing : ℕ → List Entry → Type 0
-IsRing now log = ((number : ℕ) × (log ≡ Accepts (Ring now number) ∷ [])) ⊎ (log ≡ RefusesRing ∷ [])
+IsRing now log = ((number : ℕ) × (log ≡ Accepts (Ring now number) ∷ [])) ⊎ ((fault : RingFault) × (log ≡ RefusesRing fault ∷ []))
 
 abbrev pub IsRingIf : Bool → ℕ → List Entry → Type 0
 IsRingIf false now log = log ≡ []

@@ -41,4 +41,4 @@ due_at setup writes trace =
 
 -- a tick that gives and tells nothing
 abbrev pub nothing_given : shown.Given
-nothing_given = record { calling = None; called = None; report = None; kept = None; gave_up = None }
+nothing_given = record { calling = None; called = None; report = None; kept = None; refused = None; gave_up = None }

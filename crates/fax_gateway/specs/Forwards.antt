@@ -1,5 +1,5 @@
 -- What is forwarded was confirmed: every trace.
-use Rattle.std.specs.Prelude.{◌≡◌, ℕ, max, true, List, ◌∷◌, ◌++◌, Option, Some}
+use Rattle.std.specs.Prelude.{◌≡◌, ℕ, max, true, List, [], ◌∷◌, ◌++◌, ◌⊎◌, Option, Some}
 use Rattle.fax_pagestore.specs.Pages.{PageValue}
 use Rattle.fax_jobs.specs.Jobs.{JobValue}
 use Rattle.fax_jobs.specs.Books.{Book}
@@ -7,6 +7,7 @@ use Rattle.fax_answer.specs.Replies.{ConfirmedPage}
 use Rattle.fax_answer.specs.Confirmation.{IsConfirmedIn}
 use Rattle.fax_call.specs.Writings.{Writing, IsWriting}
 use Rattle.fax_call.specs.Emission.{Emission, Mark, IsPageOf, IsAnswered, Emits, replied}
+use Rattle.fax_gateway.specs.Restored.{CallPage, pages_restored}
 use Rattle.fax_gateway.specs.Setups.{Setup}
 use Rattle.fax_gateway.specs.Events.{Event, Tick, Given, clock}
 use Rattle.fax_gateway.specs.CallingLegs.{CallingLeg, core_of, calling_leg, answers, confirmed_by}
@@ -32,9 +33,17 @@ pub record WasConfirmedIn (setup : Setup) (trace : List Event) (call : ℕ) (pag
   pub gives : confirmed_by (answers leg (max at (clock earlier))).given ≡ Some confirmed
   pub confirmation : IsConfirmedIn (core_of leg).history confirmed
 
--- An image that a tick ends: `earlier` is the trace before the tick, `book` the book when the called leg is served, and
--- `marks` what that leg heard and gave before the image's end.
-pub record IsForwarded (setup : Setup) (earlier : List Event) (book : Book) (marks : List Mark) (emission : Emission) : Type 0 where
+-- Or the page is one of those that were restored, of the call of this number. Where none was restored, it is the former alone.
+abbrev pub OrRestored : List CallPage → ℕ → PageValue → (this : Type 0) → Type 0
+OrRestored [] call page this = this
+OrRestored (r ∷ restored) call page this = (r ≡ record { call = call; page = page }) ⊎ OrRestored restored call page this
+
+abbrev pub WasConfirmed : Setup → List Event → ℕ → PageValue → Type 0
+WasConfirmed setup trace call page = OrRestored (pages_restored setup.restored) call page (WasConfirmedIn setup trace call page)
+
+-- An image that a tick ends: `book` is the book when the called leg is served, and `marks` what that leg heard and gave before
+-- the image's end; `Confirmed` tells of a page that it was confirmed, in the call of a number.
+pub record IsForwardedBy (Confirmed : ℕ → PageValue → Type 0) (book : Book) (marks : List Mark) (emission : Emission) : Type 0 where
   -- a job is being sent
   pub job : JobValue
   pub is_sending : book.sending ≡ Some job
@@ -46,8 +55,12 @@ pub record IsForwarded (setup : Setup) (earlier : List Event) (book : Book) (mar
   pub last : Option ℕ
   pub emitted : Emits job marks last
   pub answered : IsAnswered last (replied marks) n
-  -- an MCF at an earlier tick confirmed it, in the call that the job names
-  pub confirmed : WasConfirmedIn setup earlier job.call is_page.page
+  -- it was confirmed, in the call that the job names
+  pub confirmed : Confirmed job.call is_page.page
+
+-- An MCF at an earlier tick did that: `earlier` is the trace before the tick.
+abbrev pub IsForwarded : Setup → List Event → Book → List Mark → Emission → Type 0
+IsForwarded setup earlier = IsForwardedBy (WasConfirmed setup earlier)
 
 -- That is each image that the datagram given on the called leg ends.
 abbrev pub ForwardsWhatItConfirmed : Type 0

@@ -8,16 +8,16 @@ use Rattle.fax_gateway.specs.Setups.{Setup}
 use Rattle.fax_gateway.specs.Events.{Event}
 use Rattle.fax_gateway.specs.Sides.{past_of, book_of, sides}
 use Rattle.fax_gateway.specs.Traces.{IsTrace}
-use Rattle.fax_gateway.specs.Forwards.{WasConfirmedIn}
+use Rattle.fax_gateway.specs.Forwards.{WasConfirmed}
 
-abbrev pub AreConfirmedIn : Setup → List Event → ℕ → List PageValue → Type 0
-AreConfirmedIn setup trace call [] = Unit {0}
-AreConfirmedIn setup trace call (page ∷ pages) = WasConfirmedIn setup trace call page × AreConfirmedIn setup trace call pages
+abbrev pub AreConfirmed : Setup → List Event → ℕ → List PageValue → Type 0
+AreConfirmed setup trace call [] = Unit {0}
+AreConfirmed setup trace call (page ∷ pages) = WasConfirmed setup trace call page × AreConfirmed setup trace call pages
 
 -- 1 to 999 pages, the first of the job's format, each confirmed in the call that the job names
 pub record IsOfItsCall (setup : Setup) (trace : List Event) (job : JobValue) : Type 0 where
   pub is_job : IsJob job
-  pub confirmed : AreConfirmedIn setup trace job.call job.pages
+  pub confirmed : AreConfirmed setup trace job.call job.pages
 
 abbrev pub AreOfTheirCalls : Setup → List Event → List JobValue → Type 0
 AreOfTheirCalls setup trace [] = Unit {0}

@@ -1,10 +1,12 @@
 -- Each page that goes out has a confirmation of its own: that of its place.
-use Rattle.std.specs.Prelude.{◌≡◌, ℕ, ◌+◌, List, [], ◌∷◌, length, Option, Some, None}
+use Rattle.std.specs.Prelude.{◌≡◌, ℕ, zero, suc, ◌+◌, List, [], ◌∷◌, length, Option, Some, None}
+use Rattle.fax_pagestore.specs.Pages.{PageValue}
 use Rattle.fax_jobs.specs.Jobs.{JobValue}
 use Rattle.fax_jobs.specs.Cuts.{pages_of}
 use Rattle.fax_answer.specs.Replies.{ConfirmedPage}
 use Rattle.fax_call.specs.Writings.{Writing, IsWriting}
 use Rattle.fax_call.specs.Emission.{Emission, Mark, IsPageOf}
+use Rattle.fax_gateway.specs.Restored.{CallPage, pages_restored}
 use Rattle.fax_gateway.specs.Setups.{Setup}
 use Rattle.fax_gateway.specs.Events.{Event, Ring, FromCalling, FromCalled, Tick, Given, clock}
 use Rattle.fax_gateway.specs.CallingLegs.{calling_leg}
@@ -27,16 +29,30 @@ confirmations_in setup (FromCalling octets at decided read ∷ earlier) = confir
 confirmations_in setup (FromCalled octets at decided ∷ earlier) = confirmations_in setup earlier
 confirmations_in setup (Tick at given ∷ earlier) = confirmations_in setup earlier + one_if_some (confirmed_at (calling_leg setup earlier) (clock (Tick at given ∷ earlier)))
 
+-- the MCF of a tick confirmed the page, in the call of this number, and before that tick just so many pages were confirmed
+pub record IsNumber (setup : Setup) (trace : List Event) (call : ℕ) (page : PageValue) (k : ℕ) : Type 0 where
+  pub confirmed : WasConfirmedIn setup trace call page
+  pub before_it : confirmations_in setup confirmed.earlier ≡ k
+
+-- Confirmation k of all is that of the page: the pages that were restored have the first, in their order, and `Own` tells of those
+-- of the trace, by how many of the trace are before it.
+abbrev pub HasNumber : List CallPage → (k : ℕ) → (call : ℕ) → (page : PageValue) → (Own : ℕ → Type 0) → Type 0
+HasNumber [] k call page Own = Own k
+HasNumber (r ∷ restored) zero call page Own = r ≡ record { call = call; page = page }
+HasNumber (r ∷ restored) (suc k) call page Own = HasNumber restored k call page Own
+
 -- An image that a tick ends is page n of the job that was being sent before the tick. It is the page of an earlier tick's MCF in
--- the call that the job names, and before that tick just so many pages were confirmed as the jobs that ended have, and n. So
--- page n of the job has confirmation n behind theirs, no other page has it, and later pages have later ones.
+-- the call that the job names, or one that was restored, and before that just so many pages were restored and confirmed as the
+-- jobs that ended have, and n. So page n of the job has confirmation n behind theirs, no other page has it, and later pages have
+-- later ones.
 pub record HasItsOwn (setup : Setup) (writes : Writing) (earlier : List Event) (marks : List Mark) (emission : Emission) : Type 0 where
   pub job : JobValue
   pub is_sending : (past_of (sides setup writes earlier)).book.sending ≡ Some job
   pub n : ℕ
   pub is_page : IsPageOf job n emission
-  pub confirmed : WasConfirmedIn setup earlier job.call is_page.page
-  pub before_it : confirmations_in setup confirmed.earlier ≡ length (pages_of (past_of (sides setup writes earlier)).ended) + n
+  pub confirmed :
+      HasNumber (pages_restored setup.restored) (length (pages_of (past_of (sides setup writes earlier)).ended) + n) job.call is_page.page
+      (IsNumber setup earlier job.call is_page.page)
 
 abbrev pub EachPageHasItsOwnConfirmation : Type 0
 EachPageHasItsOwnConfirmation =

@@ -8,12 +8,14 @@ use Rattle.fax_jobs.specs.declared.outcome.Outcome.{Outcome}
 use Rattle.fax_jobs.specs.declared.report.Report.{Report}
 use Rattle.fax_jobs.specs.Jobs.{JobValue}
 use Rattle.fax_jobs.specs.Books.{Book, confirmed, closed, ended, report_of}
+use Rattle.fax_answer.specs.declared.refusal.Refusal.{Refusal}
 use Rattle.fax_answer.specs.declared.step.Step.{Step}
 use Rattle.fax_answer.specs.Table.{Reading}
 use Rattle.fax_answer.specs.Replies.{ConfirmedPage}
 use Rattle.fax_answer.specs.Calls.{Answering, new_answering}
 use Rattle.fax_answer.specs.Confirmation.{IsRead}
 use Rattle.fax_answer.specs.Reached as answer
+use Rattle.fax_answer.specs.Refusals.{TellsWhy}
 use Rattle.fax_answer.specs.Shown.{confirmed_shown}
 use Rattle.fax_call.specs.declared.procedure.Procedure.{Procedure}
 use Rattle.fax_call.specs.declared.state.State.TheVariants.{Idle}
@@ -22,7 +24,7 @@ use Rattle.fax_call.specs.Calls.{new_calling}
 use Rattle.fax_call.specs.Delivery.{is_over}
 use Rattle.fax_call.specs.Following.{IsJobOfCall}
 use Rattle.fax_call.specs.Reached as call
-use Rattle.fax_gateway.specs.Setups.{AreSet, Setup}
+use Rattle.fax_gateway.specs.Setups.{HasSettings, Setup}
 use Rattle.fax_gateway.specs.declared.settings.Settings.{Settings}
 use Rattle.fax_gateway.specs.declared.leg.Leg.{Leg}
 use Rattle.fax_gateway.specs.declared.called.CalledSide.{CalledSide}
@@ -105,10 +107,16 @@ abbrev pub ticked_on : Option CallingLeg → ℕ → Option CallingLeg
 ticked_on None now = None
 ticked_on (Some l) now = Some (calling_legs.leg_ticked l now)
 
+-- why the page is refused where it gives the RTN frame
+abbrev pub TellsWhyOn : Option CallingLeg → ℕ → Option Refusal → Type 0
+TellsWhyOn None now why = why ≡ None
+TellsWhyOn (Some l) now why = TellsWhy (calling_legs.answers l now) why
+
 -- what is told of it
 pub record TellsTick {S : Type 0} (setup : Setup) (leg : Option CallingLeg) (now : ℕ) (step : Step S) : Type 0 where
   pub packet : step.packet ≡ told_calling setup leg now
   pub confirmed : confirmed_shown step.confirmed ≡ confirmed_on leg now
+  pub refused : TellsWhyOn leg now step.refused
   pub ends : step.ended ≡ ended_on leg now
 
 -- THE CALLED SIDE, in the call of a job; before the first one no call was on
@@ -179,7 +187,7 @@ pub record GatewayValue : Type 0 where
 -- the trace led to it, where this function gives the texts of pages
 pub record IsReachedBy (setup : Setup) (writes : Writing) (trace : List Event) (gateway : GatewayValue) : Type 0 where
   pub is_trace : IsTrace setup writes trace
-  pub set : AreSet setup gateway.settings
+  pub set : HasSettings setup gateway.settings
   pub at : gateway.clock ≡ clock trace
   pub rung : gateway.rings ≡ rings trace
   pub calling : IsCalling setup (calling_leg setup trace) gateway.calling

@@ -1,20 +1,33 @@
 -- How a gateway is set up. (This project's profile.)
-use Rattle.std.specs.Prelude.{◌≡◌, ℕ, ◌≤◌}
+use Rattle.std.specs.Prelude.{◌≡◌, ℕ, ◌≤◌, List, []}
 use Rattle.fax_timers.specs.Paces.{IsPause}
 use Rattle.fax_udptl.specs.Sending.{most_redundancy}
 use Rattle.fax_gateway.specs.declared.settings.Settings.{Settings}
+use Rattle.fax_gateway.specs.Restored.{RestoredCall, pages_restored, ArePages}
 
--- what is set for both legs: how many of the packets before its own each datagram has, and the pause behind a preamble
+-- What is set for both legs: how many of the packets before its own each datagram has, and the pause behind a preamble. And
+-- the calls that it is restored with, the oldest first: a new gateway has none.
 pub record Setup : Type 0 where
   pub redundancy : ℕ
   pub few : redundancy ≤ most_redundancy
   pub pause : ℕ
   pub is_pause : IsPause pause
+  pub restored : List RestoredCall
+  pub are_pages : ArePages (pages_restored restored)
 
 -- the settings of this setup
-pub record AreSet (setup : Setup) (settings : Settings) : Type 0 where
+pub record HasSettings (setup : Setup) (settings : Settings) : Type 0 where
   pub redundancy : settings.redundancy ≡ setup.redundancy
   pub pause : settings.preamble_ms ≡ setup.pause
+
+-- and it is restored with these calls
+pub record AreSetWith (setup : Setup) (settings : Settings) (calls : List RestoredCall) : Type 0 where
+  pub set : HasSettings setup settings
+  pub restored : setup.restored ≡ calls
+
+-- with none: a new gateway
+abbrev pub AreSet : Setup → Settings → Type 0
+AreSet setup settings = AreSetWith setup settings []
 
 -- settings within their limits
 abbrev pub AreAllowed : Settings → Type 0

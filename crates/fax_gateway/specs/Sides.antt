@@ -9,6 +9,7 @@ use Rattle.fax_jobs.specs.Pasts.{Step, Confirms, CallEnds, Sends, Ends, Past, ne
 use Rattle.fax_answer.specs.Replies.{ConfirmedPage}
 use Rattle.fax_call.specs.Writings.{Writing}
 use Rattle.fax_call.specs.Calls.{Calling}
+use Rattle.fax_gateway.specs.Restored.{restores}
 use Rattle.fax_gateway.specs.Setups.{Setup}
 use Rattle.fax_gateway.specs.Events.{Event, Ring, FromCalling, FromCalled, Tick, clock}
 use Rattle.fax_gateway.specs.CallingLegs.{CallingLeg, calling_leg, idle_after, answers, confirmed_by}
@@ -76,8 +77,9 @@ sides_after setup writes old new now (FromCalling octets at decided read) s =
 sides_after setup writes old new now (FromCalled octets at decided) s = record s { leg = option_map (hears writes octets now) s.leg }
 sides_after setup writes old new now (Tick at given) s = serves writes now (before_serving setup writes old now s)
 
+-- It begins with the restored calls, each of which has ended: a new gateway begins with none.
 abbrev pub sides : Setup → Writing → List Event → Sides
-sides setup writes [] = record { steps = []; leg = None }
+sides setup writes [] = record { steps = restores setup.restored []; leg = None }
 sides setup writes (e ∷ earlier) =
     sides_after setup writes (calling_leg setup earlier) (calling_leg setup (e ∷ earlier)) (clock (e ∷ earlier)) e (sides setup writes earlier)
 

@@ -38,6 +38,18 @@ has_mcf before (e ∷ es) = is_mcf (frame_at before e) || has_mcf (e ∷ before)
 abbrev pub gives_mcf : Option (List ℕ) → Bool
 gives_mcf told = has_mcf [] (elements_told told)
 
+-- whether it has the frame RTN
+abbrev pub is_rtn : Option Frame → Bool
+is_rtn (Some frames.Rtn) = true
+is_rtn frame = false
+
+abbrev pub has_rtn : List elements.Element → List elements.Element → Bool
+has_rtn before [] = false
+has_rtn before (e ∷ es) = is_rtn (frame_at before e) || has_rtn (e ∷ before) es
+
+abbrev pub gives_rtn : Option (List ℕ) → Bool
+gives_rtn told = has_rtn [] (elements_told told)
+
 -- What the called leg heard and gave, over all its calls, and where they began: what it gave is read off the answers.
 abbrev pub heard_all : List Piece → List Mark → List Mark
 heard_all [] marks = marks

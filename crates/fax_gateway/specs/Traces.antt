@@ -1,5 +1,5 @@
--- TRACES: what can come to a gateway, with its answers, from a new one on. A trace is a list of accepted events, the newest
--- first. A ring is accepted while no call is on; what was refused, for want of memory too, is not in it.
+-- TRACES: what can come to a gateway, with its answers, from its beginning on: a new one, or one that was restored behind a crash,
+-- as the setup says. A trace is a list of accepted events, the newest first. A ring is accepted while no call is on; what was refused, for want of memory too, is not in it.
 use Rattle.std.specs.Prelude.{◌≡◌, ℕ, ◌<◌, max, true, List, [], ◌∷◌}
 use Rattle.fax_answer.specs.Confirmation.{IsRead}
 use Rattle.fax_call.specs.Writings.{Writing}

@@ -3,12 +3,14 @@ use Rattle.std.specs.Prelude.{◌≡◌, ℕ, max, Bool, true, false, List, [], 
 use Rattle.fax_jobs.specs.declared.report.Report.{Report}
 use Rattle.fax_jobs.specs.Jobs.{JobValue}
 use Rattle.fax_answer.specs.Replies.{ConfirmedPage}
+use Rattle.fax_answer.specs.declared.refusal.Refusal.{Refusal}
 use Rattle.fax_gateway.specs.declared.given.Kept.{Kept}
+use Rattle.fax_gateway.specs.declared.given.Refused.{Refused}
 use Rattle.fax_gateway.specs.Setups.{Setup}
 use Rattle.fax_gateway.specs.Events.{Event, Ring, FromCalling, FromCalled, Tick, clock}
 use Rattle.fax_gateway.specs.CallingLegs.{CallingLeg, answers, calling_leg, confirmed_by, core_of, is_idle}
 use Rattle.fax_gateway.specs.Reports.{report_list, reports_given}
-use Rattle.fax_gateway.specs.Reached.{CallingValue}
+use Rattle.fax_gateway.specs.Reached.{CallingValue, TellsWhyOn}
 
 -- ---- a tick on the calling leg
 
@@ -21,6 +23,18 @@ abbrev pub kept_at : Option CallingLeg → ℕ → Option Kept
 kept_at None now = None
 kept_at (Some l) now = kept_if l.number (confirmed_by (answers l now).given)
 
+-- the page that it refuses, in the call of this number, for a reason that is right
+abbrev pub refused_if : ℕ → Option Refusal → Option Refused
+refused_if number None = None
+refused_if number (Some why) = Some (record { call = number; why = why })
+
+abbrev pub Refuses : Option CallingLeg → ℕ → (number : ℕ) → Option Refused → Type 0
+Refuses leg now number told = (why : Option Refusal) × TellsWhyOn leg now why × (told ≡ refused_if number why)
+
+abbrev pub IsRefusedAt : Option CallingLeg → ℕ → Option Refused → Type 0
+IsRefusedAt None now told = told ≡ None
+IsRefusedAt (Some l) now told = Refuses (Some l) now l.number told
+
 -- the call that it ends, of this number: it was given up
 abbrev pub call_if : Bool → ℕ → Option ℕ
 call_if true number = Some number
@@ -30,7 +44,7 @@ abbrev pub given_up_at : Option CallingLeg → ℕ → Option ℕ
 given_up_at None now = None
 given_up_at (Some l) now = call_if (answers l now).ended l.number
 
--- ---- the ticks of a trace, in the order of time: the pages that they confirmed, and the calls that they gave up
+-- ---- the ticks of a trace, in the order of time: the pages that they confirmed and refused, and the calls that they gave up
 abbrev pub kept_list : Option Kept → List Kept
 kept_list None = []
 kept_list (Some kept) = kept ∷ []
@@ -41,6 +55,19 @@ pages_kept setup (Ring at number ∷ earlier) = pages_kept setup earlier
 pages_kept setup (FromCalling octets at decided read ∷ earlier) = pages_kept setup earlier
 pages_kept setup (FromCalled octets at decided ∷ earlier) = pages_kept setup earlier
 pages_kept setup (Tick at given ∷ earlier) = pages_kept setup earlier ++ kept_list (kept_at (calling_leg setup earlier) (max at (clock earlier)))
+
+abbrev pub refused_list : Option Refused → List Refused
+refused_list None = []
+refused_list (Some refused) = refused ∷ []
+
+abbrev pub AreRefused : Setup → List Event → List Refused → Type 0
+AreRefused setup [] told = told ≡ []
+AreRefused setup (Ring at number ∷ earlier) told = AreRefused setup earlier told
+AreRefused setup (FromCalling octets at decided read ∷ earlier) told = AreRefused setup earlier told
+AreRefused setup (FromCalled octets at decided ∷ earlier) told = AreRefused setup earlier told
+AreRefused setup (Tick at given ∷ earlier) told =
+    (before : List Refused) × (refused : Option Refused) × AreRefused setup earlier before
+    × IsRefusedAt (calling_leg setup earlier) (max at (clock earlier)) refused × (told ≡ before ++ refused_list refused)
 
 abbrev pub call_list : Option ℕ → List ℕ
 call_list None = []
@@ -53,10 +80,12 @@ calls_given_up setup (FromCalling octets at decided read ∷ earlier) = calls_gi
 calls_given_up setup (FromCalled octets at decided ∷ earlier) = calls_given_up setup earlier
 calls_given_up setup (Tick at given ∷ earlier) = calls_given_up setup earlier ++ call_list (given_up_at (calling_leg setup earlier) (max at (clock earlier)))
 
--- What the ticks told by which a trace became longer: at most one report, one page and one call.
-pub record TellTicks (setup : Setup) (older newer : List Event) (report : Option Report) (kept : Option Kept) (gave_up : Option ℕ) : Type 0 where
+-- What the ticks told by which a trace became longer: at most one report, one page that was confirmed, one that was refused, and
+-- one call.
+pub record TellTicks (setup : Setup) (older newer : List Event) (report : Option Report) (kept : Option Kept) (refused : Option Refused) (gave_up : Option ℕ) : Type 0 where
   pub reports : reports_given newer ≡ reports_given older ++ report_list report
   pub pages : pages_kept setup newer ≡ pages_kept setup older ++ kept_list kept
+  pub refusals : (told : List Refused) → AreRefused setup older told → AreRefused setup newer (told ++ refused_list refused)
   pub calls : calls_given_up setup newer ≡ calls_given_up setup older ++ call_list gave_up
 
 -- ---- what is on

@@ -4,7 +4,7 @@ ghost use Rattle.fax_jobs.specs.Jobs.{JobValue};
 ghost use Rattle.fax_call.specs.Writings.{IsWriting, Writing};
 ghost use Rattle.fax_call.specs.Following.{IsJobOfCall};
 ghost use Rattle.fax_call.specs.declared.pending.Pending.TheVariants as Pending;
-ghost use Rattle.fax_gateway.specs.Setups.{AreAllowed, AreSet, Setup};
+ghost use Rattle.fax_gateway.specs.Setups.{AreAllowed, HasSettings, Setup};
 ghost use Rattle.fax_gateway.specs.CalledLegs.{CalledLeg, begun_leg, core_left, core_of, decided_called, hears};
 ghost use Rattle.fax_gateway.specs.Due.{call_due};
 ghost use Rattle.fax_gateway.specs.Reached.{Begins, CalledHasRoom, IsCalled, IsLeg, IsServed, TicksOn, called_alone, most_octets, outcome_kept};
@@ -28,7 +28,7 @@ impl CalledSide {
     /// A side on whose leg no call was. It takes memory for the leg.
     pub fn new(alloc: Global, settings: Settings) -> Result<Self, NoMemory>
         requires { AreAllowed settings }
-        ensures reached { IfOk result (λ side. (setup : Setup) (writes : Writing) → AreSet setup settings → IsCalled setup writes None side) }
+        ensures reached { IfOk result (λ side. (setup : Setup) (writes : Writing) → HasSettings setup settings → IsCalled setup writes None side) }
         ensures idle { IfOk result (λ side. side.caller.procedure.state ≡ State.Idle) }
     {
         let leg = Leg::new(alloc, settings.redundancy)?;

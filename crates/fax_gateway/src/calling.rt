@@ -1,7 +1,7 @@
 //! The calling leg: who calls is answered there.
 ghost use Rattle.std.specs.Prelude.{◌≡◌, ◌≤◌, ◌↔◌, ℕ, true, IsTrue, Option, Some, None, IfOk, OnOk, OnErr};
 ghost use Rattle.fax_udptl.specs.Sending.{most_redundancy};
-ghost use Rattle.fax_gateway.specs.Setups.{AreAllowed, AreSet, Setup};
+ghost use Rattle.fax_gateway.specs.Setups.{AreAllowed, HasSettings, Setup};
 ghost use Rattle.fax_gateway.specs.CallingLegs.{CallingLeg, decided_calling, idle_after, rung_leg};
 ghost use Rattle.fax_gateway.specs.Due.{calling_due};
 ghost use Rattle.fax_gateway.specs.Reached.{IsCalling, HearsCalling, CallingHasRoom, TellsTick, answering_of, calling_alone, ticked_on};
@@ -36,7 +36,7 @@ impl<S: RowStore> CallingSide<S> {
     /// A side on whose leg no call was. It takes memory for the leg.
     pub fn new(alloc: Global, settings: Settings) -> Result<Self, NoMemory>
         requires { AreAllowed settings }
-        ensures { IfOk result (λ side. (setup : Setup) → AreSet setup settings → IsCalling setup None side) }
+        ensures { IfOk result (λ side. (setup : Setup) → HasSettings setup settings → IsCalling setup None side) }
     {
         let leg = Leg::new(alloc, settings.redundancy)?;
         Ok(CallingSide {
@@ -126,7 +126,8 @@ impl<S: RowStore> CallingSide<S> {
         self.leg.reserve()
     }
 
-    /// Time goes on: it answers the datagram that is given, the page that is confirmed, and whether the call has ended.
+    /// Time goes on: it answers the datagram that is given, the page that is confirmed, why one is refused, and whether the call
+    /// has ended.
     /// The memory is reserved.
     pub fn tick(&mut self, now: u64) -> Step<S>
         requires { CallingHasRoom self.old }
@@ -139,6 +140,7 @@ impl<S: RowStore> CallingSide<S> {
             Ok(step) => Step {
                 packet: self.leg.send_if(step.packet),
                 confirmed: step.confirmed,
+                refused: step.refused,
                 ended: step.ended,
             },
         }

@@ -1,29 +1,33 @@
 //! The gateway.
-ghost use Rattle.std.specs.Prelude.{◌≡◌, ◌<◌, ◌≤◌, ◌↔◌, ℕ, max, true, false, not, ◌&&◌, List, [], ◌∷◌, Option, None, Ok, Err, IsSome, IfOk, IfErr, OnOk, OnErr, slice_get, length, option_copied};
+ghost use Rattle.std.specs.Prelude.{◌≡◌, ◌<◌, ◌≤◌, ◌↔◌, ℕ, max, true, false, not, ◌&&◌, List, [], ◌∷◌, Option, None, Ok, Err, IsSome, IfOk, IfErr, OnOk, OnErr, slice_get, length, map, option_copied};
 ghost use Rattle.fax_timers.specs.Moments.{is_due};
-ghost use Rattle.fax_jobs.specs.Books.{confirmed, report_of};
+ghost use Rattle.fax_pagestore.specs.Pages.{IsPage};
+ghost use Rattle.fax_jobs.specs.Books.{closed, confirmed, new_book, report_of};
+ghost use Rattle.fax_jobs.specs.Newest.{newest_page};
 ghost use Rattle.fax_answer.specs.Shown.{confirmed_shown};
 ghost use Rattle.fax_call.specs.Writings.{IsWriting, Writing};
 ghost use Rattle.fax_udptl.specs.Sending.{most_redundancy};
-ghost use Rattle.fax_gateway.specs.Setups.{AreAllowed, AreSet, Setup};
+ghost use Rattle.fax_gateway.specs.Restored.{ArePages, call_shown, confirmation_shown, confirmed_all, pages_restored, pages_with, restored_to};
+ghost use Rattle.fax_gateway.specs.Setups.{AreAllowed, AreSet, AreSetWith, Setup};
 ghost use Rattle.fax_gateway.specs.Events.{Event, Ring, FromCalled, Tick, clock, rings};
 ghost use Rattle.fax_gateway.specs.CallingLegs.{CallingLeg, calling_leg, decided_calling, idle_after, told_calling};
 ghost use Rattle.fax_gateway.specs.CalledLegs.{decided_called};
 ghost use Rattle.fax_gateway.specs.Sides.{book_of, sides};
 ghost use Rattle.fax_gateway.specs.Due.{called_due, due_at, job_due, nothing_given};
 ghost use Rattle.fax_gateway.specs.Reached.{CallingHasRoom, HasRoom, HearsFrom, IsCalling, IsLeg, IsReachedBy, IsServed, alone, closed_if, confirmed_if, confirmed_on, ended_if, ended_on, given_shown, most_octets, outcome_kept, report_if, ticked_on};
-ghost use Rattle.fax_gateway.specs.Turns.{call_if, call_kept, call_on, given_up_at, kept_at, kept_if};
+ghost use Rattle.fax_gateway.specs.Turns.{IsRefusedAt, Refuses, call_if, call_kept, call_on, given_up_at, kept_at, kept_if, refused_if};
 
 use crate::called::CalledSide;
 use crate::calling::CallingSide;
 use crate::fault::RingFault;
-use crate::given::{Given, Kept};
+use crate::given::{Given, Kept, Refused};
 use crate::leg::Leg;
+use crate::restored::RestoredCall;
 use crate::settings::{PREAMBLE_MS, Settings};
-use fax_answer::Confirmed;
+use fax_answer::{Confirmed, Refusal};
 use fax_bits::{NoMemory, Octets};
 use fax_jobs::{Job, Jobs, Outcome, Report};
-use fax_pagestore::RowStore;
+use fax_pagestore::{Page, RowStore};
 use fax_timers::{Clock, earlier};
 use std::alloc::Global;
 use std::marker::Model;
@@ -76,9 +80,26 @@ impl<S: RowStore> Gateway<S> {
         ensures settings { IfOk result (λ gateway. gateway.settings ≡ settings) }
         ensures reached { IfOk result (λ gateway. (setup : Setup) (writes : Writing) → AreSet setup settings → IsReachedBy setup writes [] gateway) }
     {
+        Gateway::restore(alloc, settings, Vec::new(alloc))
+    }
+
+    /// The same behind a crash: it begins with the pages that an earlier life of it confirmed and whose jobs had not ended, the
+    /// oldest call first. A call that was on then ended there: its pages are a job. These jobs wait, cut as a life cuts them,
+    /// and are sent before any of this life. Both legs are new, so it is rung at once, and numbers its calls from 0 again. It
+    /// takes memory for the jobs, too.
+    pub fn restore(
+        alloc: Global,
+        settings: Settings,
+        calls: Vec<RestoredCall<S>>,
+    ) -> Result<Self, NoMemory>
+        requires { AreAllowed settings }
+        ensures settings { IfOk result (λ gateway. gateway.settings ≡ settings) }
+        ensures reached { IfOk result (λ gateway. (setup : Setup) (writes : Writing) → AreSetWith setup settings (map call_shown calls.items) → IsReachedBy setup writes [] gateway) }
+        ensures pages { OnOk result (ArePages (pages_restored (map call_shown calls.items))) }
+    {
         let calling = CallingSide::new(alloc, settings)?;
         let called = CalledSide::new(alloc, settings)?;
-        let jobs = Jobs::new(alloc)?;
+        let jobs = restored_jobs(alloc, calls)?;
         Ok(Gateway {
             alloc,
             settings,
@@ -151,14 +172,16 @@ impl<S: RowStore> Gateway<S> {
     /// Time goes on, on both legs. It answers what is given: on the calling leg the answering side's next datagram, whose
     /// page joins the book where it confirms one; on the called leg that of the job that is being sent, or of the one that
     /// was closed first where none is; and the report of a job whose call has ended, behind which the next one waits for the
-    /// next tick. It tells the page that it confirms, and the call of the calling leg that it gives up. Before the moment of
-    /// `next_due` the clock is read, and nothing else is done. It takes memory for the datagrams, and for a page. An `Err`
-    /// changes nothing but the memory that is reserved.
+    /// next tick. It tells the page that it confirms, the one that it refuses and why, and the call of the calling leg that it
+    /// gives up. Before the moment of `next_due` the clock is read, and nothing else is done. It takes memory for the datagrams,
+    /// and for a page. An `Err` changes nothing but the memory that is reserved.
     pub fn tick(&mut self, now: u64) -> Result<Given, NoMemory>
         ensures ticked { IfOk result (λ given. (setup : Setup) (writes : Writing) (trace : List Event) → IsWriting writes → IsReachedBy setup writes trace self.old
             → IsReachedBy setup writes (Tick now (given_shown given) ∷ trace) self.new) }
         ensures confirmed { IfOk result (λ given. (setup : Setup) (writes : Writing) (trace : List Event) → IsReachedBy setup writes trace self.old
             → given.kept ≡ kept_at (calling_leg setup trace) (max now (clock trace))) }
+        ensures refused { IfOk result (λ given. (setup : Setup) (writes : Writing) (trace : List Event) → IsReachedBy setup writes trace self.old
+            → IsRefusedAt (calling_leg setup trace) (max now (clock trace)) given.refused) }
         ensures given_up { IfOk result (λ given. (setup : Setup) (writes : Writing) (trace : List Event) → IsReachedBy setup writes trace self.old
             → given.gave_up ≡ given_up_at (calling_leg setup trace) (max now (clock trace))) }
         ensures rests { (setup : Setup) (writes : Writing) (trace : List Event) → IsReachedBy setup writes trace self.old
@@ -222,6 +245,8 @@ impl<S: RowStore> Gateway<S> {
             → IsReachedBy setup writes (Tick now (given_shown given) ∷ trace) self.new) }
         ensures confirmed { IfOk result (λ given. (setup : Setup) (writes : Writing) (trace : List Event) → IsReachedBy setup writes trace self.old
             → given.kept ≡ kept_at (calling_leg setup trace) (max now (clock trace))) }
+        ensures refused { IfOk result (λ given. (setup : Setup) (writes : Writing) (trace : List Event) → IsReachedBy setup writes trace self.old
+            → IsRefusedAt (calling_leg setup trace) (max now (clock trace)) given.refused) }
         ensures given_up { IfOk result (λ given. (setup : Setup) (writes : Writing) (trace : List Event) → IsReachedBy setup writes trace self.old
             → given.gave_up ≡ given_up_at (calling_leg setup trace) (max now (clock trace))) }
         ensures err { OnErr result (self.new ≡ self.old) }
@@ -240,6 +265,7 @@ impl<S: RowStore> Gateway<S> {
             called,
             report,
             kept: served.kept,
+            refused: served.refused,
             gave_up: served.gave_up,
         })
     }
@@ -253,6 +279,8 @@ impl<S: RowStore> Gateway<S> {
             → IsReachedBy setup writes (Tick now (given_shown result) ∷ trace) self.new }
         ensures confirmed { (setup : Setup) (writes : Writing) (trace : List Event) → IsReachedBy setup writes trace self.old
             → result.kept ≡ kept_at (calling_leg setup trace) (max now (clock trace)) }
+        ensures refused { (setup : Setup) (writes : Writing) (trace : List Event) → IsReachedBy setup writes trace self.old
+            → IsRefusedAt (calling_leg setup trace) (max now (clock trace)) result.refused }
         ensures given_up { (setup : Setup) (writes : Writing) (trace : List Event) → IsReachedBy setup writes trace self.old
             → result.gave_up ≡ given_up_at (calling_leg setup trace) (max now (clock trace)) }
     {
@@ -266,6 +294,7 @@ impl<S: RowStore> Gateway<S> {
             called,
             report,
             kept: served.kept,
+            refused: served.refused,
             gave_up: served.gave_up,
         }
     }
@@ -286,6 +315,15 @@ impl<S: RowStore> Gateway<S> {
             → option_copied result ≡ (book_of (sides setup writes trace)).sending }
     {
         self.jobs.sending()
+    }
+
+    /// The page that was confirmed last, for as long as its job has not ended: behind a tick that tells one in `kept`, that page.
+    pub fn newest_page(&self) -> Option<&Page<S>>
+        ensures newest { option_copied result ≡ newest_page self.now.book }
+        ensures told { (setup : Setup) (writes : Writing) (trace : List Event) → IsReachedBy setup writes trace self.now
+            → option_copied result ≡ newest_page (book_of (sides setup writes trace)) }
+    {
+        self.jobs.newest_page()
     }
 
     /// How many jobs wait.
@@ -336,12 +374,42 @@ fn has_ended(was_idle: bool, is_idle: bool) -> bool
     !was_idle && is_idle
 }
 
-/// What the calling leg was served in a tick: the datagram that is given, the page that is confirmed, and the call that is
-/// given up.
+/// The book of the jobs of calls that are restored.
+fn restored_jobs<S: RowStore>(
+    alloc: Global,
+    calls: Vec<RestoredCall<S>>,
+) -> Result<Jobs<S>, NoMemory>
+    ensures book { IfOk result (λ jobs. jobs.book ≡ restored_to new_book (map call_shown calls.items)) }
+    ensures pages { OnOk result (ArePages (pages_restored (map call_shown calls.items))) }
+{
+    let mut book = Jobs::new(alloc)?;
+    for call in calls {
+        restore_call(&mut book, call)?;
+    }
+    Ok(book)
+}
+
+/// The book hears of the pages of a call that is restored, and of its end.
+fn restore_call<S: RowStore>(book: &mut Jobs<S>, call: RestoredCall<S>) -> Result<(), NoMemory>
+    ensures book { OnOk result (book.new.book ≡ closed (confirmed_all book.old.book call.number (map confirmation_shown call.confirmed.items))) }
+    ensures pages { OnOk result (ArePages (pages_with call.number (map confirmation_shown call.confirmed.items))) }
+{
+    let RestoredCall { number, confirmed } = call;
+    for found in confirmed {
+        book.reserve()?;
+        confirm(book, number, found);
+    }
+    book.end_call();
+    Ok(())
+}
+
+/// What the calling leg was served in a tick: the datagram that is given, the page that is confirmed, the one that is refused,
+/// and the call that is given up.
 #[derive(Drop)]
 struct Served {
     packet: Option<Octets>,
     kept: Option<Kept>,
+    refused: Option<Refused>,
     gave_up: Option<u32>,
 }
 
@@ -353,6 +421,7 @@ fn serve_calling<S: RowStore>(calling: &mut CallingSide<S>, jobs: &mut Jobs<S>, 
     ensures ticked { (setup : Setup) (leg : Option CallingLeg) → IsCalling setup leg calling.old → IsCalling setup (ticked_on leg now) calling.new }
     ensures told { (setup : Setup) (leg : Option CallingLeg) → IsCalling setup leg calling.old → result.packet ≡ told_calling setup leg now }
     ensures kept { (setup : Setup) (leg : Option CallingLeg) → IsCalling setup leg calling.old → result.kept ≡ kept_if calling.old.number (confirmed_on leg now) }
+    ensures refused { (setup : Setup) (leg : Option CallingLeg) → IsCalling setup leg calling.old → Refuses leg now calling.old.number result.refused }
     ensures gave_up { (setup : Setup) (leg : Option CallingLeg) → IsCalling setup leg calling.old → result.gave_up ≡ call_if (ended_on leg now) calling.old.number }
     ensures heard { (setup : Setup) (leg : Option CallingLeg) → IsCalling setup leg calling.old
         → jobs.new.book ≡ closed_if (ended_on leg now) (confirmed_if calling.old.number (confirmed_on leg now) jobs.old.book) }
@@ -361,11 +430,13 @@ fn serve_calling<S: RowStore>(calling: &mut CallingSide<S>, jobs: &mut Jobs<S>, 
     let number = calling.number();
     let step = calling.tick(now);
     let kept = kept_in(number, &step.confirmed);
+    let refused = refused_in(number, step.refused);
     let gave_up = call_in(number, step.ended);
     hear(jobs, number, step.confirmed, step.ended);
     Served {
         packet: step.packet,
         kept,
+        refused,
         gave_up,
     }
 }
@@ -383,6 +454,14 @@ fn kept_in<S: RowStore>(call: u32, confirmed: &Option<Confirmed<S>>) -> Option<K
             closes: found.closes,
         }),
     }
+}
+
+/// What is told of a page that is refused in the call of this number.
+fn refused_in(call: u32, why: Option<Refusal>) -> Option<Refused>
+    ensures { result ≡ refused_if call why }
+{
+    let why = why?;
+    Some(Refused { call, why })
 }
 
 /// The call of this number, where it ended.
@@ -409,7 +488,8 @@ fn hear<S: RowStore>(jobs: &mut Jobs<S>, number: u32, confirmed: Option<Confirme
 /// The book hears of a page that was confirmed in the call of this number. The memory is reserved.
 fn confirm<S: RowStore>(jobs: &mut Jobs<S>, number: u32, found: Confirmed<S>)
     requires { 1 ≤ jobs.old.spare }
-    ensures { jobs.new.book ≡ confirmed jobs.old.book number found.page found.closes }
+    ensures confirmed { jobs.new.book ≡ confirmed jobs.old.book number found.page found.closes }
+    ensures page { IsPage found.page }
 {
     match jobs.confirm(number, found.page, found.closes) {
         Ok(()) => {}

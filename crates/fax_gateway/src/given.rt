@@ -2,6 +2,7 @@
 ghost use Rattle.std.specs.Prelude.{◌≡◌, None, is_some};
 ghost use Rattle.fax_gateway.specs.Due.{nothing_given};
 
+use fax_answer::Refusal;
 use fax_bits::Octets;
 use fax_jobs::Report;
 use fax_pagestore::Format;
@@ -15,6 +16,8 @@ pub struct Given {
     pub report: Option<Report>,
     /// The page that it confirmed.
     pub kept: Option<Kept>,
+    /// The page that it refused: it gives an RTN.
+    pub refused: Option<Refused>,
     /// The number of the calling leg's call where it ended that: T1 or T2 was due (ITU-T T.30, 5.4.3), and our DCN is given.
     pub gave_up: Option<u32>,
 }
@@ -31,22 +34,32 @@ pub struct Kept {
     pub closes: bool,
 }
 
+/// A page that was refused (RTN, ITU-T T.30, 5.3.6.1.7).
+#[derive(Clone, Copy, PartialEq, Eq, Debug)]
+pub struct Refused {
+    /// The number of the call in which it came.
+    pub call: u32,
+    pub why: Refusal,
+}
+
 /// What a tick told, beside the datagrams.
 #[derive(Clone, Copy)]
 pub(crate) struct Told {
     pub report: Option<Report>,
     pub kept: Option<Kept>,
+    pub refused: Option<Refused>,
     pub gave_up: Option<u32>,
 }
 
 impl Told {
     /// What a tick told that was refused.
     pub fn nothing() -> Self
-        ensures { result ≡ record { report = None; kept = None; gave_up = None } }
+        ensures { result ≡ record { report = None; kept = None; refused = None; gave_up = None } }
     {
         Told {
             report: None,
             kept: None,
+            refused: None,
             gave_up: None,
         }
     }
@@ -62,6 +75,7 @@ impl Given {
             called: None,
             report: None,
             kept: None,
+            refused: None,
             gave_up: None,
         }
     }
@@ -75,11 +89,12 @@ impl Given {
 
     /// What is told.
     pub(crate) fn told(&self) -> Told
-        ensures { result ≡ record { report = self.now.report; kept = self.now.kept; gave_up = self.now.gave_up } }
+        ensures { result ≡ record { report = self.now.report; kept = self.now.kept; refused = self.now.refused; gave_up = self.now.gave_up } }
     {
         Told {
             report: self.report,
             kept: self.kept,
+            refused: self.refused,
             gave_up: self.gave_up,
         }
     }

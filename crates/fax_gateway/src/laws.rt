@@ -1,5 +1,6 @@
 //! Laws of the gateway: functions that do nothing, each of whose contracts is a theorem. Each is told of every trace: any
-//! rings, datagrams of both legs and ticks, with the answers of a gateway, from a new one on.
+//! rings, datagrams of both legs and ticks, with the answers of a gateway, from its beginning on. A gateway that was restored behind
+//! a crash has the restored pages before those that it confirms in its trace; a new one has none.
 ghost use Rattle.fax_gateway.specs.Alone.{IsServedAlone};
 ghost use Rattle.fax_gateway.specs.Answers.{EachMcfAnswers};
 ghost use Rattle.fax_gateway.specs.Apart.{DatagramsAreApart};
@@ -8,10 +9,14 @@ ghost use Rattle.fax_gateway.specs.Cuts.{JobsAreCut};
 ghost use Rattle.fax_gateway.specs.Forwards.{ForwardsWhatItConfirmed};
 ghost use Rattle.fax_gateway.specs.GoesOn.{LegsAreRead, TracesGoOn};
 ghost use Rattle.fax_gateway.specs.Lacking.{NoneIsLacking};
+ghost use Rattle.fax_gateway.specs.Newest.{ConfirmsTheNewest};
+ghost use Rattle.fax_gateway.specs.Lives.{ForwardsOverLives, NoneIsLost};
 ghost use Rattle.fax_gateway.specs.Origins.{JobsAreOfTheirCalls};
 ghost use Rattle.fax_gateway.specs.OwnConfirmations.{EachPageHasItsOwnConfirmation};
+ghost use Rattle.fax_gateway.specs.Refused.{ReportsTheRefusal};
 ghost use Rattle.fax_gateway.specs.Reports.{JobsHaveStates};
 ghost use Rattle.fax_gateway.specs.ReportsTold.{ReportsTheJob};
+ghost use Rattle.fax_gateway.specs.Rtns.{CommandsAreJudged, EachRtnAnswers};
 ghost use Rattle.fax_gateway.specs.Sent.{ConfirmsSignals, HearsSentFrames};
 
 /// Whatever comes: each image that a tick ends on the called leg is a page of the job that is being sent, under the DCS that
@@ -27,6 +32,20 @@ pub fn forwards_what_it_confirmed()
 /// pages never share one, equal as they may be, and later pages have later ones.
 pub fn each_page_has_its_own_confirmation()
     ensures { EachPageHasItsOwnConfirmation }
+{}
+
+/// Over lives of a gateway that may stop at any moment, each of which is restored with some of the pages that the one before it
+/// had, whichever were kept: each image that goes out is a page of the job that is being sent, as in a life with none before it,
+/// and the page was confirmed at an earlier tick, of that life or of one before it, in the call that the job names.
+pub fn forwards_over_lives()
+    ensures { ForwardsOverLives }
+{}
+
+/// Where each life is restored with the pages of the jobs that had not ended, the pages of the jobs that ended, over all lives, and
+/// behind them those that are left, are the pages that were confirmed, over all lives, in their order: none is lost, none is added
+/// and none comes twice.
+pub fn none_is_lost()
+    ensures { NoneIsLost }
 {}
 
 /// Every trace goes on with a ring while no call is on, any octets on either leg and a tick, at any moment. (Of octets of the
@@ -46,9 +65,28 @@ pub fn each_mcf_answers()
     ensures { EachMcfAnswers }
 {}
 
+/// Each RTN that is given refuses the last command, judged by what the image before it means: where one whole image came in Page
+/// with nothing behind it, that means no page. And the book gets no page.
+pub fn each_rtn_answers()
+    ensures { EachRtnAnswers }
+{}
+
+/// Each command that came on the calling leg, in Page or behind the MCF to an EOM, has the DCS that a CFR answered, and is judged
+/// under it: where one whole image came in Page with nothing behind it, the answer is RTN exactly where that means no page, and
+/// else MCF for the page that it means.
+pub fn commands_are_judged()
+    ensures { CommandsAreJudged }
+{}
+
+/// The page that a tick confirms is the newest of the book behind that tick, also where its job was closed, or begins to be sent,
+/// in it: so `Gateway::newest_page` is the page for which the MCF is given, and who keeps it elsewhere finds it there.
+pub fn confirms_the_newest()
+    ensures { ConfirmsTheNewest }
+{}
+
 /// The jobs that were closed are those into which the confirmations of each call are cut, call by call in the order of the
 /// rings, and each names the number that its ring was answered with: behind a page confirmed for EOP, behind the 999th page
-/// and at the end of the call, and nowhere else. So each confirmed page, of whatever format, stands in one job, at its place,
+/// and at the end of the call, and nowhere else. The jobs of restored calls, cut in the same way, are the first. So each confirmed page, of whatever format, stands in one job, at its place,
 /// no job has another page, and none has pages of two calls. While a call is on, the open job is the rest of it.
 pub fn jobs_are_cut()
     ensures { JobsAreCut }
@@ -73,6 +111,12 @@ pub fn jobs_have_states()
 /// the pace not yet over: an answer that comes in that while may not be counted.)
 pub fn reports_the_job()
     ensures { ReportsTheJob }
+{}
+
+/// A job for which a DIS leaves no choice (the called machine receives no pages, lacks the width or the resolution of the page that
+/// is due, or has no rate left) is reported with that refusal, whatever comes behind it.
+pub fn reports_the_refusal()
+    ensures { ReportsTheRefusal }
 {}
 
 /// No image goes out of a page whose width or resolution the called machine lacks: the DIS that was taken last before it, in

@@ -6,7 +6,7 @@ ghost use Rattle.fax_gateway.specs.Setups.{Setup};
 ghost use Rattle.fax_gateway.specs.Events.{Event};
 ghost use Rattle.fax_gateway.specs.Reached.{IsReachedBy};
 ghost use Rattle.fax_gateway.specs.Wires.{greatest_count};
-ghost use Rattle.fax_gateway.specs.Driving.{AreRounds, Entry, Happens, IsRingIf, Tells, events, is_refused_ring, log_of, moment_of};
+ghost use Rattle.fax_gateway.specs.Driving.{AreRounds, AreWanting, Entry, Happens, IsRingIf, Tells, events, is_refused_ring, log_of, moment_of};
 
 use crate::buffer::Buffer;
 use crate::driven::Driven;
@@ -55,7 +55,7 @@ pub fn drive<S: RowStore, W: Wire>(
 /// Rings where it is to. It answers whether the ring was refused.
 fn ring_if<S: RowStore>(is_due: bool, gateway: &mut Gateway<S>, now: u64) -> bool
     ensures { (setup : Setup) (writes : Writing) (trace : List Event) → IsReachedBy setup writes trace gateway.old
-        → (log : List Entry) × IsRingIf is_due now log × (count_by is_refused_ring log ≡ cond result 1 0) × IsReachedBy setup writes (events log ++ trace) gateway.new }
+        → (log : List Entry) × IsRingIf is_due now log × (count_by is_refused_ring log ≡ cond result 1 0) × IsReachedBy setup writes (events log ++ trace) gateway.new × AreWanting setup writes trace log }
 {
     if !is_due {
         return false;

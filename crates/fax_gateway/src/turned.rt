@@ -1,5 +1,5 @@
 //! What a turn told.
-use crate::given::Kept;
+use crate::given::{Kept, Refused};
 use fax_jobs::Report;
 
 /// What a turn told: whether a driver goes on, and what happened on the legs. What its tick did is lacking where that was
@@ -12,6 +12,8 @@ pub struct Turned {
     pub report: Option<Report>,
     /// The page that was confirmed in it.
     pub kept: Option<Kept>,
+    /// The page that was refused in it.
+    pub refused: Option<Refused>,
     /// The number of the calling leg's call that ended in it: the peer's DCN came, or it was given up.
     pub ended: Option<u32>,
     /// The same where it was given up: T1 or T2 was due (ITU-T T.30, 5.4.3).

@@ -10,10 +10,10 @@ returns-then-not-turned-clause-driven g c setup writes trace writing reached =
     let rounds : List (List Entry) = before.0 in
     let log : List Entry = log_of rounds in
     let ring = c.ring_if-is_refused.ensures setup writes (events log ++ trace) before.5.reached in
-    let rung = ring_made setup writes c.contains.result c.moment-now.result ring.0 log (events log ++ trace) _ (g.W.Wire.known c.loop-turn.wire) _ ring.1 ring.3 before.6 in
+    let rung = ring_made setup writes c.contains.result c.moment-now.result ring.0 log (events log ++ trace) _ (g.W.Wire.known c.loop-turn.wire) _ ring.1 ring.4 ring.3 before.6 in
     let turn = c.turn-turned.ensures.turned setup writes (events ring.0 ++ (events log ++ trace)) (ring.0 ++ log) writing ring.3 rung in
     let more = round_more setup writes c.args.start c.loop-turn.turn-counter c.moment-now.result c.args.rings.now c.contains.result rounds ring.0 turn.0 trace _ _ _ _ _ _ _ _ _ _
-    before.1 before.2 before.3 before.5 before.6 before.4 c.moment-now.ensures c.contains.ensures.value ring.1 (ring.2 ∙ sym (byte_is _) ∙ sym c.from-rings_refused.ensures) ring.3 turn.1 turn.2 turn.3 in
+    before.1 before.2 before.3 before.5 before.6 before.4 c.moment-now.ensures c.contains.ensures.value ring.1 (ring.2 ∙ sym (byte_is _) ∙ sym c.from-rings_refused.ensures) ring.4 ring.3 turn.1 turn.2 turn.3 in
     let all : List (List Entry) = (turn.0 ++ ring.0) ∷ rounds in
     let many : length rounds ≡ c.loop-turn.turn-counter = before.2 in (
       all,
@@ -43,10 +43,10 @@ loop-turn-preserved g c = record {
       let rounds : List (List Entry) = before.0 in
       let log : List Entry = log_of rounds in
       let ring = c.ring_if-is_refused.ensures setup writes (events log ++ trace) before.5.reached in
-      let rung = ring_made setup writes c.contains.result c.moment-now.result ring.0 log (events log ++ trace) _ (g.W.Wire.known c.loop-turn.wire) _ ring.1 ring.3 before.6 in
+      let rung = ring_made setup writes c.contains.result c.moment-now.result ring.0 log (events log ++ trace) _ (g.W.Wire.known c.loop-turn.wire) _ ring.1 ring.4 ring.3 before.6 in
       let turn = c.turn-turned.ensures.turned setup writes (events ring.0 ++ (events log ++ trace)) (ring.0 ++ log) writing ring.3 rung in
       let more = round_more setup writes c.args.start c.loop-turn.turn-counter c.moment-now.result c.args.rings.now c.contains.result rounds ring.0 turn.0 trace _ _ _ _ _ _ _ _ _ _
-      before.1 before.2 before.3 before.5 before.6 before.4 c.moment-now.ensures c.contains.ensures.value ring.1 (ring.2 ∙ sym (byte_is _) ∙ sym c.from-rings_refused.ensures) ring.3 turn.1 turn.2 turn.3 in
+      before.1 before.2 before.3 before.5 before.6 before.4 c.moment-now.ensures c.contains.ensures.value ring.1 (ring.2 ∙ sym (byte_is _) ∙ sym c.from-rings_refused.ensures) ring.4 ring.3 turn.1 turn.2 turn.3 in
       let all : List (List Entry) = (turn.0 ++ ring.0) ∷ rounds in
       let many : length rounds ≡ c.loop-turn.turn-counter = before.2 in
       (all, more.are, omega arith, (c.turn-turned.ensures.goes_on (log_of all) more.made).0 (goes _ c.if-not-turned.false), more.refused_is, more.happens, more.made);

@@ -15,4 +15,4 @@ returns-clause-told g c setup leg r =
     let inside = c.self.inside in
     let s = subst (λ (k : CallingValue). IsCalling setup leg k) (sym c.self.view_is) r in
     let new : CallingValue = record { number = inside.number; kept = c.tick.new.self; leg = c.send_if.new.self } in
-    side_tells {S = g.row.S.Denot} setup leg c.args.now _ new c.in-Ok.step _ c.in-Ok.ensures.ticked (c.send_if.ensures setup) refl refl s
+    side_tells {S = g.row.S.Denot} setup leg c.args.now _ new c.in-Ok.step _ c.in-Ok.ensures.ticked (c.send_if.ensures setup) refl refl refl s

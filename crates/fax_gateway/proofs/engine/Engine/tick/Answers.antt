@@ -1,11 +1,12 @@
-use Rattle.std.proofs.Common.{[], ◌∷◌, ◌++◌, ◌∙◌, ap, inl, inr, refl, sym, subst}
-use Rattle.fax_gateway.specs.Events.{Tick}
+use Rattle.std.proofs.Common.{max, [], ◌∷◌, ◌++◌, ◌∙◌, ap, inl, inr, refl, sym, subst}
+use Rattle.fax_gateway.specs.CallingLegs.{calling_leg}
+use Rattle.fax_gateway.specs.Events.{Tick, clock}
 use Rattle.fax_gateway.specs.Reached.{given_shown}
-use Rattle.fax_gateway.specs.Turns.{TellTicks}
+use Rattle.fax_gateway.specs.Turns.{IsRefusedAt, TellTicks}
 use Rattle.fax_gateway.specs.declared.side.Side.TheVariants as side
 use Rattle.fax_gateway.specs.Driving.{Accepts, DriverValue, Entry, HasMade, RefusesTick, Steps, events}
 use Rattle.fax_gateway.proofs.DrivingLemmas.{carries_unseen, made_refused_tick, made_unseen, steps_more, steps_send}
-use Rattle.fax_gateway.proofs.Turning.{refused_tells, tick_tells}
+use Rattle.fax_gateway.proofs.Turning.{due_where_refused, refused_tells, tick_tells}
 use Rattle.fax_gateway.proofs.engine.Engine.tick.Goals as goal
 
 pub returns-in-Ok : goal.returns-in-Ok
@@ -27,23 +28,24 @@ returns-in-Ok g c setup writes trace earlier writing reached made =
       inl (given_shown c.in-Ok.given, first.0, second.0, first.1, second.1, refl),
       steps_more setup writes (first.0 ++ e ∷ []) second.0 trace earlier _ _ _ _ _ _ _ steps
           (steps_send setup writes side.Called c.in-Ok.given.called second.0 (events (first.0 ++ e ∷ []) ++ trace) ((first.0 ++ e ∷ []) ++ earlier) _ _ _ _ second.1 second.2 second.3 steps.happens.reached),
-      tick_tells setup trace c.args.now (given_shown c.in-Ok.given) first.0 second.0 c.told.result.report c.told.result.kept c.told.result.gave_up first.1 second.1
+      tick_tells setup trace c.args.now (given_shown c.in-Ok.given) first.0 second.0 c.told.result.report c.told.result.kept c.told.result.refused c.told.result.gave_up first.1 second.1
           (ap (λ t. t.report) c.told.ensures)
           (ap (λ t. t.kept) c.told.ensures ∙ c.in-Ok.ensures.confirmed setup writes trace reached)
+          (subst (IsRefusedAt (calling_leg setup trace) (max c.args.now (clock trace))) (sym (ap (λ t. t.refused) c.told.ensures)) (c.in-Ok.ensures.refused setup writes trace reached))
           (ap (λ t. t.gave_up) c.told.ensures ∙ c.in-Ok.ensures.given_up setup writes trace reached),
     )
 
 pub returns-in-Err : goal.returns-in-Err
 returns-in-Err g c setup writes trace earlier writing reached made = (
-  RefusesTick ∷ [],
+  RefusesTick c.args.now ∷ [],
   inr refl,
   record {
     happens = record {
       reached = c.in-Err.ensures.kept setup writes trace reached;
-      wanting = (tt, tt);
-      carried = carries_unseen RefusesTick _ refl refl refl refl;
+      wanting = (due_where_refused _ _ _ _ refl (c.in-Err.ensures.rests setup writes trace reached), tt);
+      carried = carries_unseen (RefusesTick c.args.now) _ refl refl refl refl;
     };
-    made = made_refused_tick earlier _ _ c.saturating_add-self-inside.ensures (subst (λ (d : DriverValue). HasMade earlier d) (sym c.self.view_is) made);
+    made = made_refused_tick c.args.now earlier _ _ c.saturating_add-self-inside.ensures (subst (λ (d : DriverValue). HasMade earlier d) (sym c.self.view_is) made);
   },
-  subst (λ t. TellTicks setup trace trace t.report t.kept t.gave_up) (sym c.nothing.ensures) (refused_tells setup trace),
+  subst (λ t. TellTicks setup trace trace t.report t.kept t.refused t.gave_up) (sym c.nothing.ensures) (refused_tells setup trace),
 )

@@ -15,5 +15,5 @@ returns-clause-turned g c setup writes trace earlier writing reached made =
       record { calling = a.0; called = b.0; tick = t.0; log_is = refl; on_calling = a.1; on_called = b.1; ticks = t.1 },
       all.happens,
       all.made,
-      turn_tells setup c.args.now a.0 b.0 t.0 trace _ _ _ a.1 b.1 t.3,
+      turn_tells setup c.args.now a.0 b.0 t.0 trace _ _ _ _ a.1 b.1 t.3,
     )

@@ -6,7 +6,7 @@ use Rattle.fax_gateway.specs.CallingLegs.{CallingLeg, calling_leg, told_calling}
 use Rattle.fax_gateway.specs.CalledLegs.{CalledLeg}
 use Rattle.fax_gateway.specs.Sides.{in_tick}
 use Rattle.fax_gateway.specs.Reached.{GatewayValue, IsCalling, IsCalled, IsReachedBy, TicksOn, ended_if, outcome_kept, report_if, ticked_on}
-use Rattle.fax_gateway.proofs.Turning.{call_told, page_told}
+use Rattle.fax_gateway.proofs.Turning.{call_told, page_told, refusal_told}
 use Rattle.fax_gateway.proofs.Ticking.{IsHeard, same_served, serves_on, ticks}
 use Rattle.fax_gateway.proofs.gateway.Gateway.tick_in_call.Goals as goal
 
@@ -46,6 +46,14 @@ returns-clause-confirmed g c setup writes trace r =
     let now_is : c.read-moment.result ≡ max c.args.now (clock trace) = c.read-moment.ensures.moment ∙ c.read-moment.ensures.later ∙ ap (λ (m : ℕ). max c.args.now m) s.at in
     page_told (calling_leg setup trace) c.read-moment.result (max c.args.now (clock trace)) inside.calling.number c.serve_calling-served.result.kept now_is s.calling.number
     (c.serve_calling-served.ensures.kept setup (calling_leg setup trace) s.calling)
+
+pub returns-clause-refused : goal.returns-clause-refused
+returns-clause-refused g c setup writes trace r =
+    let inside = c.self.inside in
+    let s = subst (λ (k : GatewayValue). IsReachedBy setup writes trace k) (sym c.self.view_is) r in
+    let now_is : c.read-moment.result ≡ max c.args.now (clock trace) = c.read-moment.ensures.moment ∙ c.read-moment.ensures.later ∙ ap (λ (m : ℕ). max c.args.now m) s.at in
+    refusal_told (calling_leg setup trace) c.read-moment.result (max c.args.now (clock trace)) inside.calling.number c.serve_calling-served.result.refused now_is s.calling.number
+    (c.serve_calling-served.ensures.refused setup (calling_leg setup trace) s.calling)
 
 pub returns-clause-given_up : goal.returns-clause-given_up
 returns-clause-given_up g c setup writes trace r =
