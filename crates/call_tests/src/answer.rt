@@ -4,10 +4,10 @@ mod hostile;
 mod memory;
 mod timing;
 
-use fax_answer::{Answerer, Confirmed, State, Step};
+use fax_answer::{Answerer, Confirmed, Refusal, State, Step};
 use fax_bits::{NoMemory, Octets};
 use fax_frames::{Dcs, Length, Rate};
-use fax_pagestore::{Page, PlainRows, RowStore};
+use fax_pagestore::{Page, PageFault, PlainRows, RowStore};
 use fax_runcodes::Width;
 use fax_udptl::Receiver;
 use std::alloc::{AllocError, Global};
@@ -61,6 +61,8 @@ enum Event<'a> {
     Gives(u64, &'a str),
     /// A tick gives this packet and one white row as a page, behind which none follows where it closes.
     Confirms(u64, &'a str, bool),
+    /// A tick gives the RTN frame, and this as the reason.
+    Refuses(u64, Refusal),
     /// A tick gives this packet, and the call has ended.
     Ends(u64, &'a str),
     /// The call stands here.
@@ -85,12 +87,14 @@ struct Call {
 struct Told<'a> {
     packet: Option<&'a str>,
     closes: Option<bool>,
+    refused: Option<Refusal>,
     ended: bool,
 }
 
 const NOTHING: Told<'static> = Told {
     packet: None,
     closes: None,
+    refused: None,
     ended: false,
 };
 
@@ -100,6 +104,8 @@ struct Answered {
     packet: Option<Octets>,
     /// Whether a page was confirmed, and closes.
     closes: Option<bool>,
+    /// Why a page was refused.
+    refused: Option<Refusal>,
     ended: bool,
 }
 
@@ -138,8 +144,29 @@ const CONFIRMED: &[Event<'static>] = &[
     Event::Confirms(240, MCF, true),
 ];
 
-/// It is answered by RTN.
-const REFUSED: &[Event<'static>] = &[Event::Gives(200, PREAMBLE), Event::Gives(240, RTN)];
+/// It is answered by RTN, since no image came.
+const NO_IMAGE: &[Event<'static>] = &[
+    Event::Gives(200, PREAMBLE),
+    Event::Refuses(240, Refusal::NoImage),
+];
+
+/// It is answered by RTN, since a slot of the image is missing.
+const NOT_WHOLE: &[Event<'static>] = &[
+    Event::Gives(200, PREAMBLE),
+    Event::Refuses(240, Refusal::NotWhole),
+];
+
+/// It is answered by RTN, since a slot is missing behind the image.
+const GAP_BEHIND: &[Event<'static>] = &[
+    Event::Gives(200, PREAMBLE),
+    Event::Refuses(240, Refusal::GapBehind),
+];
+
+/// It is answered by RTN, since the image has no EOL.
+const NO_EOL: &[Event<'static>] = &[
+    Event::Gives(200, PREAMBLE),
+    Event::Refuses(240, Refusal::Fault(PageFault::NoEol)),
+];
 
 /// A call with one page.
 const ONE_PAGE: &[&[Event<'static>]] = &[ANSWERED, TRAINED, PAGE, EOP, CONFIRMED];
@@ -220,15 +247,23 @@ impl Leg {
                 let told = Told {
                     packet: Some(packet),
                     closes: Some(closes),
-                    ended: false,
+                    ..NOTHING
+                };
+                self.expect_tick(rt, moment, told)
+            }
+            Event::Refuses(moment, why) => {
+                let told = Told {
+                    packet: Some(RTN),
+                    refused: Some(why),
+                    ..NOTHING
                 };
                 self.expect_tick(rt, moment, told)
             }
             Event::Ends(moment, packet) => {
                 let told = Told {
                     packet: Some(packet),
-                    closes: None,
                     ended: true,
+                    ..NOTHING
                 };
                 self.expect_tick(rt, moment, told)
             }
@@ -382,12 +417,14 @@ impl Leg {
         let Step {
             packet,
             confirmed,
+            refused,
             ended,
         } = self.tick(now)?;
         let closes = self.keep(rt, confirmed);
         Ok(Answered {
             packet,
             closes,
+            refused,
             ended,
         })
     }
@@ -403,8 +440,9 @@ impl Leg {
     /// Whether a tick answered what is told; where the call has ended, the leg is idle.
     fn is_told(&mut self, answered: &Answered, told: Told<'_>) -> Result<bool, NoMemory> {
         let is_packet = self.is_packet(&answered.packet, told.packet)?;
+        let is_page = answered.closes == told.closes && answered.refused == told.refused;
         let is_over = !answered.ended || self.is_idle();
-        Ok(is_packet && is_over && answered.closes == told.closes && answered.ended == told.ended)
+        Ok(is_packet && is_page && is_over && answered.ended == told.ended)
     }
 
     /// Whether a packet was given that a hex text shows, or none where there is no text.

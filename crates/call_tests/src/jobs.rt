@@ -208,6 +208,55 @@ fn a_job_goes_through_the_book(rt: HostRuntime) -> Result<(), Fail> {
     Ok(())
 }
 
+/// How many rows the page has that joined last, 0 where there is none.
+fn newest(jobs: &Jobs<PlainRows>) -> u32 {
+    match jobs.newest_page() {
+        Some(page) => page.rows().len(),
+        None => 0,
+    }
+}
+
+/// Sends the job that waits first, and ends it: the newest page behind each of both, where none was being sent.
+fn newest_behind_one(jobs: &mut Jobs<PlainRows>) -> Option<(u32, u32)> {
+    if jobs.sending().is_some() {
+        return None;
+    }
+    jobs.next();
+    let sent = newest(jobs);
+    jobs.sending()?;
+    jobs.end(Outcome::Delivered, 1);
+    Some((sent, newest(jobs)))
+}
+
+/// Confirms a page, and tells the newest one.
+fn newest_with(
+    alloc: Global,
+    jobs: &mut Jobs<PlainRows>,
+    octets: &[u8],
+    closes: bool,
+) -> Result<u32, Fail> {
+    let page = page_of(alloc, octets, STANDARD)?;
+    taken(jobs.confirm(7, page, closes))?;
+    Ok(newest(jobs))
+}
+
+#[test]
+fn the_newest_page_is_the_one_confirmed_last(rt: HostRuntime) -> Result<(), Fail> {
+    let mut jobs = Jobs::new(rt.alloc())?;
+    let none = newest(&jobs);
+    let one = newest_with(rt.alloc(), &mut jobs, ONE_ROW, false)?;
+    // its job is closed
+    let two = newest_with(rt.alloc(), &mut jobs, TWO_ROWS, true)?;
+    // the next one is of a job that waits behind
+    let three = newest_with(rt.alloc(), &mut jobs, THREE_ROWS, true)?;
+    assert!(rt; (none, one, two, three) == (0, 1, 2, 3));
+    // also while the first is sent, and behind its end; then its own is sent, and is gone with it
+    let first = newest_behind_one(&mut jobs);
+    let second = newest_behind_one(&mut jobs);
+    assert!(rt; first == Some((3, 3)) && second == Some((3, 0)));
+    Ok(())
+}
+
 /// Confirms a page of call 7, into room that is reserved before.
 fn confirm_with_room(
     alloc: Global,

@@ -7,9 +7,12 @@ mod due;
 mod hostile;
 mod list_wire;
 mod lossy;
+mod restored;
 
-use call::{Change, play_call, play_nothing};
+use call::{Change, octets_of, play_call, play_nothing};
+use fax_answer::Refusal;
 use fax_gateway::RingFault;
+use fax_pagestore::PageFault;
 use std::alloc::Global;
 use std::process::Abort;
 use std::test::Fail;
@@ -35,6 +38,20 @@ fn refused(rt: &impl Abort, calls: u64, texts: u64) -> &'static str {
         (0, 1) => "a text",
         _ => rt.abort(),
     }
+}
+
+#[test]
+fn a_page_that_is_refused(rt: HostRuntime) {
+    assert!(rt; tells_why_it_refuses(&rt, rt.alloc()));
+}
+
+/// Whether the reason is told where in place of the page an EOL, a white row, an EOL and what no code word begins with come,
+/// and where the page's datagram is lost.
+fn tells_why_it_refuses(rt: &impl Abort, alloc: Global) -> bool {
+    let bad = octets_of("00040cc201f000060014d9a80080400000", 0, "");
+    let fails = play_call(rt, alloc, Change::Instead(4, &bad));
+    let lacks = play_call(rt, alloc, Change::WithoutDatagram(4));
+    fails.has_refused(Refusal::Fault(PageFault::BadLine(1))) && lacks.has_refused(Refusal::NoImage)
 }
 
 #[test]

@@ -1,9 +1,10 @@
 //! Calls in which pages come.
 use super::{
-    ANSWERED, CED, CFR, CONFIRMED, Call, DCS, DIS, EOP, Event, FTT, MCF, PAGE, PREAMBLE, REFUSED,
-    RTN, TRAINED, play_each,
+    ANSWERED, CED, CFR, CONFIRMED, Call, DCS, DIS, EOP, Event, FTT, MCF, NO_IMAGE, NOT_WHOLE, PAGE,
+    PREAMBLE, TRAINED, play_each,
 };
-use fax_answer::State;
+use fax_answer::{Refusal, State};
+use fax_pagestore::PageFault;
 use std::test::Fail;
 
 /// EOP again behind a call with one page, with the number behind its own.
@@ -39,7 +40,8 @@ const TURNED: &[Event<'static>] = &[
     Event::Stands(State::Again),
 ];
 
-const CALLS: &[Call] = &[
+/// Calls in which an EOM comes.
+const EOM_CALLS: &[Call] = &[
     Call {
         name: "an EOM, another exchange, and a fine page",
         scripts: &[
@@ -96,7 +98,7 @@ const CALLS: &[Call] = &[
                 Event::Comes("000801060000"),
                 Event::Comes("000909c002800002ffc8f1400000"),
                 Event::Gives(280, PREAMBLE),
-                Event::Gives(320, RTN),
+                Event::Refuses(320, Refusal::NoImage),
                 Event::Stands(State::Again),
                 Event::Pages(1),
             ],
@@ -113,7 +115,7 @@ const CALLS: &[Call] = &[
             &[
                 EOP_AGAIN,
                 Event::Gives(280, PREAMBLE),
-                Event::Gives(320, RTN),
+                Event::Refuses(320, Refusal::NoImage),
                 Event::Comes("000801060000"),
                 Event::Comes("000909c002800002ffc8f1400000"),
                 Event::Gives(360, PREAMBLE),
@@ -124,8 +126,132 @@ const CALLS: &[Call] = &[
     },
     Call {
         name: "an EOM behind no image",
-        scripts: &[ANSWERED, TRAINED, EOM_FIRST, REFUSED],
+        scripts: &[ANSWERED, TRAINED, EOM_FIRST, NO_IMAGE],
     },
+    Call {
+        name: "an image behind an EOM, with no training check",
+        scripts: &[
+            ANSWERED,
+            TRAINED,
+            PAGE,
+            EOM,
+            TURNED,
+            &[
+                Event::Comes("000701080000"),
+                Event::Comes("000812c201f0000c0014d9a80080080080080080080000"),
+                Event::Comes("000901060000"),
+                Event::Comes("000a09c002800002ffc8f4400000"),
+                Event::Gives(280, PREAMBLE),
+                Event::Refuses(320, Refusal::Untrained),
+                Event::Pages(1),
+            ],
+        ],
+    },
+];
+
+/// Calls in which a check or a page is refused.
+const REFUSALS: &[Call] = &[
+    Call {
+        name: "a training check that is too short",
+        scripts: &[
+            ANSWERED,
+            &[
+                Event::Comes("00000cc002800005ffc8c1004000400000"),
+                Event::Comes("000101080000"),
+                Event::ZerosCome("00028130c201f0012a", 299, "0000"),
+                Event::Gives(120, PREAMBLE),
+                Event::Gives(160, FTT),
+                Event::Stands(State::Listen),
+            ],
+        ],
+    },
+    Call {
+        name: "an image whose only slot is missing",
+        scripts: &[
+            ANSWERED,
+            TRAINED,
+            &[Event::Comes("000301080000")],
+            EOP,
+            NO_IMAGE,
+            &[Event::AllQuiet(280, 6200), Event::Pages(0)],
+        ],
+    },
+    // number 5 is missing
+    Call {
+        name: "a missing slot in an image",
+        scripts: &[
+            ANSWERED,
+            TRAINED,
+            &[
+                Event::Comes("000301080000"),
+                Event::Comes("000412c201e0000c0014d9a80080080080080080080000"),
+                Event::Comes("000603c201700000"),
+                Event::Comes("000701060000"),
+                Event::Comes("000809c002800002ffc8f4400000"),
+            ],
+            NOT_WHOLE,
+            &[Event::Pages(0)],
+        ],
+    },
+    // EOL, a white row, EOL, and 8 zeros before a 1, with which no code word begins; the command comes again behind the RTN
+    Call {
+        name: "a line that cannot be read behind a row",
+        scripts: &[
+            ANSWERED,
+            TRAINED,
+            &[
+                Event::Comes("000301080000"),
+                Event::Comes("00040cc201f000060014d9a80080400000"),
+            ],
+            EOP,
+            &[
+                Event::Gives(200, PREAMBLE),
+                Event::Refuses(240, Refusal::Fault(PageFault::BadLine(1))),
+                EOP_AGAIN,
+                Event::Gives(280, PREAMBLE),
+                Event::Refuses(320, Refusal::Fault(PageFault::BadLine(1))),
+                Event::Pages(0),
+            ],
+        ],
+    },
+    Call {
+        name: "two images before a command",
+        scripts: &[
+            ANSWERED,
+            TRAINED,
+            PAGE,
+            &[
+                Event::Comes("000501080000"),
+                Event::Comes("000612c201f0000c0014d9a80080080080080080080000"),
+                Event::Comes("000701060000"),
+                Event::Comes("000809c002800002ffc8f4400000"),
+                Event::Gives(200, PREAMBLE),
+                Event::Refuses(240, Refusal::SeveralImages),
+                Event::Pages(0),
+            ],
+        ],
+    },
+    Call {
+        name: "a page that is cut inside a line",
+        scripts: &[
+            ANSWERED,
+            TRAINED,
+            &[
+                Event::Comes("000301080000"),
+                Event::Comes("000408c201f0000200143f0000"),
+            ],
+            EOP,
+            &[
+                Event::Gives(200, PREAMBLE),
+                Event::Refuses(240, Refusal::Fault(PageFault::BadLine(0))),
+                Event::Pages(0),
+            ],
+        ],
+    },
+];
+
+/// Calls whose pages are confirmed, and how calls end.
+const CALLS: &[Call] = &[
     Call {
         name: "a call with one page",
         scripts: &[
@@ -166,31 +292,6 @@ const CALLS: &[Call] = &[
     },
     // 299 zero octets, where one second and a half of 2400 bit/s has 300 at least
     Call {
-        name: "a training check that is too short",
-        scripts: &[
-            ANSWERED,
-            &[
-                Event::Comes("00000cc002800005ffc8c1004000400000"),
-                Event::Comes("000101080000"),
-                Event::ZerosCome("00028130c201f0012a", 299, "0000"),
-                Event::Gives(120, PREAMBLE),
-                Event::Gives(160, FTT),
-                Event::Stands(State::Listen),
-            ],
-        ],
-    },
-    Call {
-        name: "a missing slot in an image",
-        scripts: &[
-            ANSWERED,
-            TRAINED,
-            &[Event::Comes("000301080000")],
-            EOP,
-            REFUSED,
-            &[Event::AllQuiet(280, 6200), Event::Pages(0)],
-        ],
-    },
-    Call {
         name: "a repeated command",
         scripts: &[
             ANSWERED,
@@ -220,7 +321,7 @@ const CALLS: &[Call] = &[
                 Event::Comes("000801060000"),
                 Event::Comes("000909c002800002ffc8f4400000"),
                 Event::Gives(280, PREAMBLE),
-                Event::Gives(320, RTN),
+                Event::Refuses(320, Refusal::NoImage),
                 Event::AllQuiet(360, 6280),
                 Event::Pages(1),
             ],
@@ -238,24 +339,10 @@ const CALLS: &[Call] = &[
                 Event::Comes("000701080000"),
                 Event::Comes("000809c002800002ffc8f4400000"),
                 Event::Gives(280, PREAMBLE),
-                Event::Gives(320, RTN),
+                Event::Refuses(320, Refusal::NoImage),
                 Event::AllQuiet(360, 6280),
                 Event::Pages(1),
             ],
-        ],
-    },
-    Call {
-        name: "a page that is cut inside a line",
-        scripts: &[
-            ANSWERED,
-            TRAINED,
-            &[
-                Event::Comes("000301080000"),
-                Event::Comes("000408c201f0000200143f0000"),
-            ],
-            EOP,
-            REFUSED,
-            &[Event::Pages(0)],
         ],
     },
     Call {
@@ -327,5 +414,17 @@ const CALLS: &[Call] = &[
 #[test]
 fn calls(rt: HostRuntime) -> Result<(), Fail> {
     play_each(&rt, rt.alloc(), CALLS)?;
+    Ok(())
+}
+
+#[test]
+fn calls_with_eom(rt: HostRuntime) -> Result<(), Fail> {
+    play_each(&rt, rt.alloc(), EOM_CALLS)?;
+    Ok(())
+}
+
+#[test]
+fn calls_with_refusals(rt: HostRuntime) -> Result<(), Fail> {
+    play_each(&rt, rt.alloc(), REFUSALS)?;
     Ok(())
 }

@@ -1,7 +1,7 @@
 //! Calls in which what comes makes no sense or is cut off.
 use super::{
-    ANSWERED, Call, DCS, Event, Leg, PAGE, REFUSED, TRAINED, datagram_of, play, play_each,
-    zeros_between,
+    ANSWERED, Call, DCS, Event, GAP_BEHIND, Leg, NO_EOL, NOT_WHOLE, PAGE, TRAINED, datagram_of,
+    play, play_each, zeros_between,
 };
 use fax_answer::State;
 use fax_bits::NoMemory;
@@ -23,7 +23,7 @@ const CALLS: &[Call] = &[
                 Event::Comes("400401060000"),
                 Event::Comes("400509c002800002ffc8f4400000"),
             ],
-            REFUSED,
+            NOT_WHOLE,
             &[Event::Pages(0)],
         ],
     },
@@ -38,7 +38,7 @@ const CALLS: &[Call] = &[
                 Event::Comes("800401060000"),
                 Event::Comes("800509c002800002ffc8f4400000"),
             ],
-            REFUSED,
+            NOT_WHOLE,
             &[Event::Pages(0)],
         ],
     },
@@ -53,7 +53,7 @@ const CALLS: &[Call] = &[
                 Event::Comes("400401060000"),
                 Event::Comes("400509c002800002ffc8f4400000"),
             ],
-            REFUSED,
+            GAP_BEHIND,
             &[Event::Pages(0)],
         ],
     },
@@ -67,7 +67,7 @@ const CALLS: &[Call] = &[
                 Event::Comes("800401060000"),
                 Event::Comes("800509c002800002ffc8f4400000"),
             ],
-            REFUSED,
+            GAP_BEHIND,
             &[Event::Pages(0)],
         ],
     },
@@ -106,7 +106,7 @@ const CALLS: &[Call] = &[
                 Event::Comes("04068001060000"),
                 Event::Comes("04078009c002800002ffc8f4400000"),
             ],
-            REFUSED,
+            NO_EOL,
             &[Event::Pages(0)],
         ],
     },
@@ -122,7 +122,7 @@ const CALLS: &[Call] = &[
                 Event::Comes("00098001060000"),
                 Event::Comes("000a8009c002800002ffc8f4400000"),
             ],
-            REFUSED,
+            NO_EOL,
             &[Event::Pages(0)],
         ],
     },

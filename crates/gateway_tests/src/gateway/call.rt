@@ -1,7 +1,8 @@
 //! A whole call: what comes on both legs, and what is given there.
 use super::list_wire::{OnWire, ShortOctets};
+use fax_answer::Refusal;
 use fax_bits::{NoMemory, Octets};
-use fax_gateway::{Gateway, Given, Kept, RingFault, Side};
+use fax_gateway::{Gateway, Given, Kept, Refused, RingFault, Side};
 use fax_jobs::{Outcome, Report};
 use fax_pagestore::{Format, PlainRows};
 use fax_runcodes::Width;
@@ -133,6 +134,8 @@ pub(super) struct Played {
     ended: Option<u32>,
     /// The page that was confirmed, and the turn.
     kept: Option<(u32, Kept)>,
+    /// The page that was refused, and the turn.
+    refused: Option<(u32, Refused)>,
     pub report: Option<Report>,
     /// Whether the gateway tells that report alone, the call is still on, and no job is sent or waits.
     is_reported: bool,
@@ -148,8 +151,16 @@ impl Played {
             && self.is_reported
             && self.ended == Some(LAST_TURN)
             && self.kept == Some((CONFIRMED, KEPT))
+            && self.refused.is_none()
             && self.decided as usize == COMES.len()
             && is_whole_call(self.given.as_slice())
+    }
+
+    /// Whether the page was refused for this reason, in the turn in which the whole call confirms it, and no page went out.
+    pub fn has_refused(&self, why: Refusal) -> bool {
+        self.refused == Some((CONFIRMED, Refused { call: 0, why }))
+            && self.kept.is_none()
+            && self.report.is_none()
     }
 
     /// Whether octets that came in place of a datagram did no harm: they were taken, which malformed ones are not; or
@@ -193,6 +204,7 @@ impl Playing {
                 is_taken: false,
                 ended: None,
                 kept: None,
+                refused: None,
                 report: None,
                 is_reported: false,
                 refused_calls,
@@ -323,6 +335,9 @@ impl Playing {
         self.note(rt, turn, Side::Called, &given.called);
         if let Some(kept) = given.kept {
             self.told.kept = Some((turn, kept));
+        }
+        if let Some(refused) = given.refused {
+            self.told.refused = Some((turn, refused));
         }
         if given.ended() {
             self.told.ended = Some(turn);

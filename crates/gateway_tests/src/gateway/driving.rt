@@ -87,6 +87,7 @@ const NOTHING: Turned = Turned {
     goes_on: true,
     report: None,
     kept: None,
+    refused: None,
     ended: None,
     gave_up: None,
     dialled: None,
