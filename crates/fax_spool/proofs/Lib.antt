@@ -7,3 +7,4 @@ mod Digests
 mod SpoolSteps
 mod Loops
 mod Shares
+mod Openings

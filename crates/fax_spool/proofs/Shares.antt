@@ -1,7 +1,6 @@
 -- What waits by the records of two files.
-use Rattle.std.proofs.Common.{◌≡◌, Bool, true, false, not, cond, List, [], ◌∷◌, ◌++◌, refl, sym, ◌∙◌, ap, append_assoc}
+use Rattle.std.proofs.Common.{◌≡◌, true, false, not, cond, List, [], ◌∷◌, ◌++◌, refl, sym, ◌∙◌, ap, append_assoc}
 use Rattle.std.proofs.lemmas.List.{append-nil}
-use Rattle.std.specs.List.{filter}
 use Rattle.fax_spool.specs.RecordOctets.{PageValue, EndedValue}
 use Rattle.fax_spool.specs.Waits.{name_of, ends, without, left_of, after, left_behind, waiting_behind, waiting}
 use Rattle.fax_spool.specs.declared.kept_record.KeptRecord.{KeptRecord}
@@ -26,7 +25,7 @@ splits a b [] = refl
 splits a b (r ∷ records) =
     ap (λ (l : List PageValue). waiting_behind l records) (after-append a b r) ∙ splits (left_of a r) (after b r) records
 
-follows : (pages : List PageValue) (olds news : List KeptRecord) → waiting_behind pages (olds ++ news) ≡ waiting_behind (waiting_behind pages olds) news
+pub follows : (pages : List PageValue) (olds news : List KeptRecord) → waiting_behind pages (olds ++ news) ≡ waiting_behind (waiting_behind pages olds) news
 follows pages [] news = refl
 follows pages (r ∷ olds) news = follows (after pages r) olds news
 

@@ -1,10 +1,11 @@
 -- What the calls of a spool make of its records.
-use Rattle.std.proofs.Common.{◌≡◌, ◌⊎◌, inl, inr, ℕ, ◌+◌, ◌<◌, ◌≤◌, Bool, true, false, not, cond, List, [], ◌∷◌, ◌++◌, length, map, max, refl, sym, ◌∙◌, ap, subst, arith}
+use Rattle.std.proofs.Common.{◌≡◌, ◌⊎◌, inl, inr, ℕ, ◌≤◌, Bool, true, false, not, cond, List, [], ◌∷◌, ◌++◌, map, max, refl, sym, ◌∙◌, ap, subst, arith, append_assoc}
+use Rattle.std.proofs.lemmas.List.{append-nil, map-append}
 use Rattle.std.specs.List.{filter}
-use Rattle.fax_spool.specs.Records.{blocks, Stands}
+use Rattle.fax_spool.specs.Records.{Stands}
 use Rattle.fax_spool.specs.Settled.{IsSettled}
 use Rattle.fax_spool.specs.RecordOctets.{PageValue, EndedValue}
-use Rattle.fax_spool.specs.KeptRecords.{IsReadAs, AreReadAs}
+use Rattle.fax_spool.specs.KeptRecords.{IsReadAs, AreReadAs, kept_of, kept_page}
 use Rattle.fax_spool.specs.Waits.{PageName, name_of, ends, without, left_of, after, left_behind, waiting_behind, waiting}
 use Rattle.fax_spool.specs.Spools.{epoch_of, greatest_behind, greatest_epoch, Tells, MayLeaveBoth, Keeps, NoneIsLeft, TellBoth}
 use Rattle.fax_spool.specs.declared.file.RecordFile.{RecordFile}
@@ -18,6 +19,39 @@ read_push [] [] item r are is = (is, tt)
 read_push [] (q ∷ records) item r are is = absurd are
 read_push (i ∷ items) [] item r are is = absurd are
 read_push (i ∷ items) (q ∷ records) item r are is = (are.0, read_push items records item r are.1 is)
+
+read_append : (items more : List (List ℕ)) (records others : List KeptRecord) → AreReadAs items records → AreReadAs more others → AreReadAs (items ++ more) (records ++ others)
+read_append [] more [] others are behind = behind
+read_append [] more (q ∷ records) others are behind = absurd are
+read_append (i ∷ items) more [] others are behind = absurd are
+read_append (i ∷ items) more (q ∷ records) others are behind = (are.0, read_append items more records others are.1 behind)
+
+sealed_read : (pages : List PageValue) → AreReadAs (map kept_page pages) (map kept_of pages)
+sealed_read [] = tt
+sealed_read (p ∷ pages) = (refl, sealed_read pages)
+
+pages_read : (items : List (List ℕ)) (pages : List PageValue) → items ≡ map kept_page pages → AreReadAs items (map kept_of pages)
+pages_read items pages are = subst (λ (l : List (List ℕ)). AreReadAs l (map kept_of pages)) (sym are) (sealed_read pages)
+
+-- pages end none of those before them
+left_pages : (waits : List PageValue) (records : List KeptRecord) (pages : List PageValue) → left_behind waits (records ++ map kept_of pages) ≡ left_behind waits records
+left_pages waits [] [] = refl
+left_pages waits [] (p ∷ pages) = left_pages waits [] pages
+left_pages waits (q ∷ records) pages = left_pages (left_of waits q) records pages
+
+-- and each of them waits
+waiting_pages : (waits : List PageValue) (records : List KeptRecord) (pages : List PageValue) → waiting_behind waits (records ++ map kept_of pages) ≡ waiting_behind waits records ++ pages
+waiting_pages waits [] [] = sym (append-nil waits)
+waiting_pages waits [] (p ∷ pages) = waiting_pages (waits ++ p ∷ []) [] pages ∙ append_assoc waits (p ∷ []) pages
+waiting_pages waits (q ∷ records) pages = waiting_pages (after waits q) records pages
+
+epoch_pages : (records : List KeptRecord) (pages : List PageValue) (most : ℕ) → epoch_of records ≤ most → epoch_of (records ++ map kept_of pages) ≤ most
+epoch_pages [] [] most was = was
+epoch_pages [] (p ∷ pages) most was = omega arith
+epoch_pages (Page page ∷ records) pages most was = was
+epoch_pages (Ended ended ∷ records) pages most was = was
+epoch_pages (Epoch number ∷ records) pages most was = was
+epoch_pages (Damaged ∷ records) pages most was = was
 
 pub read_none : (records : List KeptRecord) → AreReadAs [] records → records ≡ []
 read_none [] are = refl
@@ -133,6 +167,33 @@ module _ {D : Type 0} (seen : D → List ℕ) (may_leave : D → List ℕ → Ty
       elim (crash k.newer_items k.newer newer left.1) [
         | inl stands ↦ inl (first, record { items = k.newer_items; stands = stands; read = k.newer_read })
         | inr stands ↦ inr (first, record { items = k.newer_items ++ item ∷ []; stands = stands; read = read_push k.newer_items news item r k.newer_read is })
+      ]
+
+  -- the records of pages, one behind the other
+  pub keeps_pages : (items : List (List ℕ)) (pages : List PageValue) → items ≡ map kept_page pages → new.older ≡ old.older
+      → IsSettled seen may_leave is_usable new.newer.disk new.newer.end (k.newer_items ++ items)
+      → new.older_pages.items ≡ old.older_pages.items → new.newer_pages.items ≡ old.newer_pages.items ++ map name_of pages → new.epoch ≡ old.epoch
+      → Keeps seen may_leave is_usable new olds (news ++ map kept_of pages)
+  keeps_pages items pages are same settled older newer epoch = record {
+    older_items = k.older_items;
+    newer_items = k.newer_items ++ items;
+    older = subst (λ (f : RecordFile D). IsSettled seen may_leave is_usable f.disk f.end k.older_items) (sym same) k.older;
+    newer = settled;
+    older_read = k.older_read;
+    newer_read = read_append k.newer_items items news (map kept_of pages) k.newer_read (pages_read items pages are);
+    older_waits = older ∙ k.older_waits ∙ sym (ap (λ (l : List PageValue). map name_of l) (left_pages (waiting olds) news pages));
+    newer_waits = newer ∙ ap (λ (l : List PageName). l ++ map name_of pages) k.newer_waits ∙ sym (map-append name_of (waiting news) pages) ∙ sym (ap (λ (l : List PageValue). map name_of l) (waiting_pages [] news pages));
+    epoch = omega (arith, epoch_pages news pages old.epoch k.epoch, epoch);
+  }
+
+  pub leaves_pages : (items : List (List ℕ)) (pages : List PageValue) → items ≡ map kept_page pages → new.older ≡ old.older
+      → ((rs : List (List ℕ)) → IsSettled seen may_leave is_usable old.newer.disk old.newer.end rs → (c : List ℕ) → may_leave new.newer.disk c → Stands c rs ⊎ Stands c (rs ++ items))
+      → (older newer : List ℕ) → MayLeaveBoth may_leave new older newer → TellBoth older newer olds news ⊎ TellBoth older newer olds (news ++ map kept_of pages)
+  leaves_pages items pages are same crash older newer left =
+      let first : Tells older olds = older_tells older (subst (λ (f : RecordFile D). may_leave f.disk older) same left.0) in
+      elim (crash k.newer_items k.newer newer left.1) [
+        | inl stands ↦ inl (first, record { items = k.newer_items; stands = stands; read = k.newer_read })
+        | inr stands ↦ inr (first, record { items = k.newer_items ++ items; stands = stands; read = read_append k.newer_items items news (map kept_of pages) k.newer_read (pages_read items pages are) })
       ]
 
   -- no page of the older file waits

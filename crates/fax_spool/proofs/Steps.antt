@@ -1,14 +1,20 @@
 -- What a crash leaves in each step of a `put`.
 use Rattle.std.proofs.Common.{◌≡◌, ◌≢◌, ◌⊎◌, inl, inr, ℕ, ◌+◌, ◌<◌, ◌≤◌, Bool, IsTrue, List, [], ◌∷◌, ◌++◌, length, take, drop, get_or, refl, sym, ◌∙◌, ap, subst, arith, append_assoc, length-append, take-append-drop}
 use Rattle.std.proofs.lemmas.List.{take_at, drop_at, drop_more, append-nil}
-use Rattle.std.proofs.lemmas.List.Elements.{All-push, All-nil}
+use Rattle.std.proofs.lemmas.List.Elements.{All-append, All-nil}
 use Rattle.std.proofs.lemmas.Bool.{cases_eq}
 use Rattle.std.specs.List.{All}
-use Rattle.std.specs.Int.{w32, to_be_bytes}
 use Rattle.sqlite_disk.specs.Disk.{Torn, Holds, Follows, Only}
 use Rattle.fax_spool.specs.Records.{body, block, blocks, IsShort, Ends, Stands}
 use Rattle.fax_spool.specs.Settled.{IsSettled}
 use Rattle.fax_spool.proofs.Files.{torn_front, torn_back, held}
+
+pub blocks-append : (rs qs : List (List ℕ)) (rest : List ℕ) → blocks (rs ++ qs) ++ rest ≡ blocks rs ++ (blocks qs ++ rest)
+blocks-append [] qs rest = refl
+blocks-append (q ∷ rs) qs rest =
+    append_assoc (block q) (blocks (rs ++ qs)) rest
+    ∙ ap (λ (l : List ℕ). block q ++ l) (blocks-append rs qs rest)
+    ∙ sym (append_assoc (block q) (blocks rs) (blocks qs ++ rest))
 
 pub blocks-push : (rs : List (List ℕ)) (r rest : List ℕ) → blocks (rs ++ r ∷ []) ++ rest ≡ blocks rs ++ (block r ++ rest)
 blocks-push [] r rest = ap (λ (l : List ℕ). l ++ rest) (append-nil (block r))
@@ -43,16 +49,16 @@ module _ (rs : List (List ℕ)) (gate : ℕ) (behind old : List ℕ) (is : old �
       ∙ append_assoc (blocks rs) (gate ∷ []) (drop (length (blocks rs) + 1) c)
 
   -- and then what was written
-  pub staged : (r c : List ℕ) → Torn (length (blocks rs) + 1) (length (body r ++ 0 ∷ [])) old c → Holds c (length (blocks rs) + 1) (body r ++ 0 ∷ [])
-      → (tail : List ℕ) × (c ≡ blocks rs ++ (gate ∷ (body r ++ 0 ∷ tail)))
-  staged r c torn holds =
-      let bytes = body r ++ 0 ∷ [] in
+  pub staged : (b c : List ℕ) → Torn (length (blocks rs) + 1) (length (b ++ 0 ∷ [])) old c → Holds c (length (blocks rs) + 1) (b ++ 0 ∷ [])
+      → (tail : List ℕ) × (c ≡ blocks rs ++ (gate ∷ (b ++ 0 ∷ tail)))
+  staged b c torn holds =
+      let bytes = b ++ 0 ∷ [] in
       let back = drop (length (blocks rs) + 1) c in
       let tail = drop (length bytes) back in
-      let split : back ≡ body r ++ 0 ∷ tail =
+      let split : back ≡ b ++ 0 ∷ tail =
       sym (take-append-drop (length bytes) back)
       ∙ ap (λ (l : List ℕ). l ++ tail) (held c (length (blocks rs) + 1) bytes holds)
-      ∙ append_assoc (body r) (0 ∷ []) tail in
+      ∙ append_assoc b (0 ∷ []) tail in
       (tail, kept _ c torn ∙ ap (λ (l : List ℕ). blocks rs ++ gate ∷ l) split)
 
   -- the gate is anything, and all else as it was
@@ -70,24 +76,26 @@ module _ (rs : List (List ℕ)) (gate : ℕ) (behind old : List ℕ) (is : old �
       ∙ ap (λ (l : List ℕ). blocks rs ++ l)
       (drop_more c (length (blocks rs)) 0 (omega (arith, le, torn.no_shorter)) ∙ ap (λ (l : List ℕ). get_or c (length (blocks rs)) 0 ∷ l) back)
 
-pub opened : (rs : List (List ℕ)) (r tail c : List ℕ) → c ≡ blocks rs ++ (1 ∷ (body r ++ 0 ∷ tail)) → c ≡ blocks (rs ++ r ∷ []) ++ 0 ∷ tail
-opened rs r tail c is = is ∙ sym (blocks-push rs r (0 ∷ tail))
+pub opened : (rs others : List (List ℕ)) (r tail c : List ℕ) → c ≡ blocks rs ++ (1 ∷ (body r ++ blocks others ++ 0 ∷ tail)) → c ≡ blocks (rs ++ r ∷ others) ++ 0 ∷ tail
+opened rs others r tail c is = is ∙ sym (blocks-append rs (r ∷ others) (0 ∷ tail))
 
--- a whole record behind any gate counts or it does not
-pub either : (rs : List (List ℕ)) (r tail c : List ℕ) (gate : ℕ) → All IsShort rs → IsShort r → c ≡ blocks rs ++ (gate ∷ (body r ++ 0 ∷ tail)) → Stands c rs ⊎ Stands c (rs ++ r ∷ [])
-either rs r tail c gate shorts short is = elim (cases_eq gate 1) [
+-- whole records behind any gate count or they do not
+pub either : (rs others : List (List ℕ)) (r tail c : List ℕ) (gate : ℕ) → All IsShort rs → All IsShort (r ∷ others) → c ≡ blocks rs ++ (gate ∷ (body r ++ blocks others ++ 0 ∷ tail))
+    → Stands c rs ⊎ Stands c (rs ++ r ∷ others)
+either rs others r tail c gate shorts short is = elim (cases_eq gate 1) [
   | inl open_gate ↦
-      inr (stands_shut (rs ++ r ∷ []) 0 tail c (omega arith) (All-push IsShort rs r shorts short)
-      (opened rs r tail c (is ∙ ap (λ (g : ℕ). blocks rs ++ (g ∷ (body r ++ 0 ∷ tail))) open_gate)))
-  | inr shut ↦ inl (stands_shut rs gate (body r ++ 0 ∷ tail) c shut shorts is)
+      inr (stands_shut (rs ++ r ∷ others) 0 tail c (omega arith) (All-append IsShort rs (r ∷ others) shorts short)
+      (opened rs others r tail c (is ∙ ap (λ (g : ℕ). blocks rs ++ (g ∷ (body r ++ blocks others ++ 0 ∷ tail))) open_gate)))
+  | inr shut ↦ inl (stands_shut rs gate (body r ++ blocks others ++ 0 ∷ tail) c shut shorts is)
 ]
 
-pub length-push : (rs : List (List ℕ)) (r : List ℕ) → length (blocks (rs ++ r ∷ [])) ≡ length (blocks rs) + (length r + 5)
-length-push rs r =
-    ap length (sym (append-nil (blocks (rs ++ r ∷ []))) ∙ blocks-push rs r [])
-    ∙ ap (λ (l : List ℕ). length (blocks rs ++ l)) (append-nil (block r))
-    ∙ length-append (blocks rs) (block r)
-    ∙ omega (arith, length-append (to_be_bytes w32 (length r)) r)
+-- how many octets records take behind others: those behind the gate of the first, and a gate
+pub length-more : (rs others : List (List ℕ)) (r : List ℕ) → length (blocks (rs ++ r ∷ others)) ≡ length (blocks rs) + length (body r ++ blocks others ++ 0 ∷ [])
+length-more rs others r =
+    ap length (sym (append-nil (blocks (rs ++ r ∷ others))) ∙ blocks-append rs (r ∷ others) [])
+    ∙ ap (λ (l : List ℕ). length (blocks rs ++ l)) (append-nil (blocks (r ∷ others)))
+    ∙ length-append (blocks rs) (blocks (r ∷ others))
+    ∙ omega (arith, length-append (body r ++ blocks others) (0 ∷ []))
 
 -- a spool between two calls, and the two writes of a `put`
 module _ {D : Type 0} (seen : D → List ℕ) (may_leave : D → List ℕ → Type 0) (is_usable : D → Bool) (disk : D) (at : ℕ) (rs : List (List ℕ)) (s : IsSettled seen may_leave is_usable disk at rs) where
@@ -104,43 +112,43 @@ module _ {D : Type 0} (seen : D → List ℕ) (may_leave : D → List ℕ → Ty
       stands_shut rs s.gate (drop (length (blocks rs) + 1) c) c s.shut s.short
       (kept rs s.gate s.behind (seen disk) s.file m c (at_place (λ (p : ℕ). Torn (p + 1) m (seen disk) c) here))
 
-  pub first_written : (r bytes next : List ℕ) → bytes ≡ body r ++ 0 ∷ [] → Torn (at + 1) (length bytes) (seen disk) next → Holds next (at + 1) bytes
-      → (tail : List ℕ) × (next ≡ blocks rs ++ (s.gate ∷ (body r ++ 0 ∷ tail)))
-  first_written r bytes next are torn holds =
-      staged rs s.gate s.behind (seen disk) s.file r next
+  pub first_written : (b bytes next : List ℕ) → bytes ≡ b ++ 0 ∷ [] → Torn (at + 1) (length bytes) (seen disk) next → Holds next (at + 1) bytes
+      → (tail : List ℕ) × (next ≡ blocks rs ++ (s.gate ∷ (b ++ 0 ∷ tail)))
+  first_written b bytes next are torn holds =
+      staged rs s.gate s.behind (seen disk) s.file b next
       (subst (λ (l : List ℕ). Torn (length (blocks rs) + 1) (length l) (seen disk) next) are (at_place (λ (p : ℕ). Torn (p + 1) (length bytes) (seen disk) next) torn))
       (subst (λ (l : List ℕ). Holds next (length (blocks rs) + 1) l) are (at_place (λ (p : ℕ). Holds next (p + 1) bytes) holds))
 
-  module _ (r tail file : List ℕ) (is : file ≡ blocks rs ++ (s.gate ∷ (body r ++ 0 ∷ tail))) (short : IsShort r) where
+  module _ (others : List (List ℕ)) (r tail file : List ℕ) (is : file ≡ blocks rs ++ (s.gate ∷ (body r ++ blocks others ++ 0 ∷ tail))) (short : All IsShort (r ∷ others)) where
     pub before_gate : Stands file rs
-    before_gate = stands_shut rs s.gate (body r ++ 0 ∷ tail) file s.shut s.short is
+    before_gate = stands_shut rs s.gate (body r ++ blocks others ++ 0 ∷ tail) file s.shut s.short is
 
-    pub second_left : (old new : List ℕ → Type 0) → Only file old → Follows (Torn at 1) old new → (c : List ℕ) → new c → Stands c rs ⊎ Stands c (rs ++ r ∷ [])
+    pub second_left : (old new : List ℕ → Type 0) → Only file old → Follows (Torn at 1) old new → (c : List ℕ) → new c → Stands c rs ⊎ Stands c (rs ++ r ∷ others)
     second_left old new only follows c left =
         let from = follows c left in
         let here : Torn at 1 file c = subst (λ (d : List ℕ). Torn at 1 d c) (only from.0 from.1) from.2 in
-        either rs r tail c (get_or c (length (blocks rs)) 0) s.short short
-        (turned rs s.gate (body r ++ 0 ∷ tail) file is c (at_place (λ (p : ℕ). Torn p 1 file c) here))
+        either rs others r tail c (get_or c (length (blocks rs)) 0) s.short short
+        (turned rs s.gate (body r ++ blocks others ++ 0 ∷ tail) file is c (at_place (λ (p : ℕ). Torn p 1 file c) here))
 
-    pub second_written : (c : List ℕ) → Torn at 1 file c → Holds c at (1 ∷ []) → c ≡ blocks (rs ++ r ∷ []) ++ 0 ∷ tail
+    pub second_written : (c : List ℕ) → Torn at 1 file c → Holds c at (1 ∷ []) → c ≡ blocks (rs ++ r ∷ others) ++ 0 ∷ tail
     second_written c torn holds =
         let there : Holds c (length (blocks rs)) (1 ∷ []) = at_place (λ (p : ℕ). Holds c p (1 ∷ [])) holds in
         let gate : get_or c (length (blocks rs)) 0 ≡ 1 = ap (λ (p : ℕ). get_or c p 0) (omega arith) ∙ there.each 0 (omega arith) in
-        opened rs r tail c
-        (turned rs s.gate (body r ++ 0 ∷ tail) file is c (at_place (λ (p : ℕ). Torn p 1 file c) torn)
-        ∙ ap (λ (g : ℕ). blocks rs ++ (g ∷ (body r ++ 0 ∷ tail))) gate)
+        opened rs others r tail c
+        (turned rs s.gate (body r ++ blocks others ++ 0 ∷ tail) file is c (at_place (λ (p : ℕ). Torn p 1 file c) torn)
+        ∙ ap (λ (g : ℕ). blocks rs ++ (g ∷ (body r ++ blocks others ++ 0 ∷ tail))) gate)
 
-    pub settled_more : (next : D) → seen next ≡ blocks (rs ++ r ∷ []) ++ 0 ∷ tail → Only (seen next) (may_leave next) → IsTrue (is_usable next)
-        → IsSettled seen may_leave is_usable next (at + (length r + 5)) (rs ++ r ∷ [])
-    settled_more next file_is only usable = record {
+    pub settled_more : (bytes : List ℕ) (next : D) → bytes ≡ body r ++ blocks others ++ 0 ∷ [] → seen next ≡ blocks (rs ++ r ∷ others) ++ 0 ∷ tail → Only (seen next) (may_leave next) → IsTrue (is_usable next)
+        → IsSettled seen may_leave is_usable next (at + length bytes) (rs ++ r ∷ others)
+    settled_more bytes next are file_is only usable = record {
       gate = 0;
       behind = tail;
       shut = omega arith;
       file = file_is;
-      place = ap (λ (p : ℕ). p + (length r + 5)) s.place ∙ sym (length-push rs r);
+      place = ap (λ (p : ℕ). p + length bytes) s.place ∙ ap (λ (l : List ℕ). length (blocks rs) + length l) are ∙ sym (length-more rs others r);
       durable = only;
       usable = usable;
-      short = All-push IsShort rs r s.short short;
+      short = All-append IsShort rs (r ∷ others) s.short short;
     }
 
 -- the first gate, which a `clear` shuts

@@ -1,5 +1,5 @@
 -- What a sealed record of a spool says. (This project's profile.)
-use Rattle.std.specs.Prelude.{◌≡◌, ◌≢◌, ℕ, List, [], ◌∷◌, ◌+◌, Bool, ◌&&◌, nat_eq, nat_le, nat_lt, bytes_eq}
+use Rattle.std.specs.Prelude.{◌≡◌, ◌≢◌, ℕ, List, [], ◌∷◌}
 use Rattle.fax_spool.specs.RecordOctets.{PageValue, EndedValue, page_octets, ended_octets, epoch_octets}
 use Rattle.fax_spool.specs.Seals.{sealed}
 use Rattle.fax_spool.specs.declared.kept_record.KeptRecord.{KeptRecord}
@@ -31,3 +31,7 @@ abbrev pub AreReadAs : List (List ℕ) → List KeptRecord → Type 0
 AreReadAs [] [] = Unit {0}
 AreReadAs (octets ∷ items) (record_of ∷ records) = IsReadAs octets record_of × AreReadAs items records
 AreReadAs items records = ⊥
+
+-- a page's record, as one of the three kinds
+abbrev pub kept_of : PageValue → KeptRecord
+kept_of page = Page page

@@ -6,3 +6,4 @@ pub mod RecordOctets
 pub mod KeptRecords
 pub mod Waits
 pub mod Spools
+pub mod Opened

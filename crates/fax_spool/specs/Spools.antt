@@ -1,5 +1,5 @@
 -- A spool between two calls, and what a crash may leave of it. (This project's profile.)
-use Rattle.std.specs.Prelude.{◌≡◌, ◌≤◌, ℕ, max, Bool, List, [], ◌∷◌, map}
+use Rattle.std.specs.Prelude.{◌≡◌, ◌≤◌, ℕ, max, Bool, IsTrue, List, [], ◌∷◌, map}
 use Rattle.fax_spool.specs.Records.{Stands}
 use Rattle.fax_spool.specs.Settled.{IsSettled}
 use Rattle.fax_spool.specs.KeptRecords.{AreReadAs}
@@ -38,6 +38,10 @@ pub record Keeps {D : Type 0} (seen : D → List ℕ) (may_leave : D → List �
   pub older_waits : spool.older_pages.items ≡ map name_of (left_behind (waiting olds) news)
   pub newer_waits : spool.newer_pages.items ≡ map name_of (waiting news)
   pub epoch : epoch_of news ≤ spool.epoch
+
+-- no wrong answer of either file was taken as true
+abbrev pub AreClean : {D : Type 0} → (D → Bool) → RecordFile D × RecordFile D → Type 0
+AreClean is_clean files = IsTrue (is_clean files.0.disk) × IsTrue (is_clean files.1.disk)
 
 -- no page of the first records waits behind the others
 abbrev pub NoneIsLeft : List KeptRecord → List KeptRecord → Type 0

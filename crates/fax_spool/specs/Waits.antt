@@ -1,5 +1,5 @@
 -- Which pages wait, by the records of a spool. (This project's profile.)
-use Rattle.std.specs.Prelude.{◌≡◌, ℕ, List, [], ◌∷◌, ◌++◌, ◌+◌, map, Bool, not, ◌&&◌, nat_eq, nat_le, nat_lt, bytes_eq}
+use Rattle.std.specs.Prelude.{◌≡◌, ℕ, List, [], ◌∷◌, ◌++◌, ◌+◌, Bool, not, ◌&&◌, nat_eq, nat_le, nat_lt, bytes_eq}
 use Rattle.std.specs.List.{filter}
 use Rattle.fax_spool.specs.RecordOctets.{PageValue, EndedValue}
 use Rattle.fax_spool.specs.declared.kept_record.KeptRecord.{KeptRecord}

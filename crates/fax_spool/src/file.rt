@@ -1,8 +1,9 @@
 //! A file of records: before each stands a gate of one octet and its length in four. A record counts where its gate is open (1).
 //! A shut gate stands behind the last one, and is on the disk before anything is written behind it.
-ghost use Rattle.std.specs.Prelude.{◌≡◌, ◌⊎◌, ◌+◌, ◌<◌, ◌≤◌, ◌^◌, ◌++◌, [], ◌∷◌, List, ℕ, length, IfOk, OnOk, IsTrue, MatchOption, ◌≢◌, ◌↔◌, slice_index};
+ghost use Rattle.std.specs.Prelude.{◌≡◌, ◌⊎◌, ◌+◌, ◌<◌, ◌≤◌, ◌^◌, ◌++◌, [], ◌∷◌, List, ℕ, length, map, IfOk, OnOk, IsTrue, MatchOption, ◌≢◌, ◌↔◌, slice_index};
+ghost use Rattle.std.specs.List.{All};
 ghost use Rattle.std.specs.Int.{w32, to_be_bytes};
-ghost use Rattle.fax_spool.specs.Records.{Stands, body, block, Ends, IsShort};
+ghost use Rattle.fax_spool.specs.Records.{Stands, body, block, blocks, Ends, IsShort};
 ghost use Rattle.fax_spool.specs.Found.{IsFoundIn, items_of};
 ghost use Rattle.sqlite_disk.specs.Disk.{Torn, Holds, Only, Follows};
 ghost use Rattle.fax_spool.specs.Settled.{IsSettled};
@@ -13,6 +14,9 @@ use std::io;
 
 const MOST: usize = 1 << 60;
 
+/// The most octets of a record.
+const MOST_OCTETS: usize = 0xffff_ffff;
+
 /// A file of records, with the place behind the last of them, in octets. What `recover` answers begins one.
 #[derive(Drop)]
 pub struct RecordFile<D: Disk> {
@@ -20,26 +24,46 @@ pub struct RecordFile<D: Disk> {
     pub end: usize,
 }
 
-/// What is written behind the gate of a record: its length, the record, and the gate of the next one, closed.
-fn body_of(alloc: Global, item: &[u8]) -> Result<Vec<u8>, AllocError>
-    requires { length item.now < 2 ^ 32 }
-    ensures octets { IfOk result (λ v. v.items ≡ body item.now ++ 0 ∷ []) }
+/// The length of a record and the record go behind other octets. It refuses a record of 2 ^ 32 octets or more.
+fn push_body(octets: &mut Vec<u8>, item: &[u8]) -> io::Result<()>
+    ensures short { OnOk result (IsShort item.now) }
+    ensures octets { OnOk result (octets.new.items ≡ octets.old.items ++ body item.now) }
 {
-    let mut octets = Vec::with_capacity(alloc, item.len() + 5)?;
+    if item.len() > MOST_OCTETS {
+        return Err(io::ErrorKind::FileTooLarge.into());
+    }
     octets.extend_from_slice(&(item.len() as u32).to_be_bytes())?;
     octets.extend_from_slice(item)?;
+    Ok(())
+}
+
+/// What is written behind the gate of the first of some records: its length, the record, the others with open gates, and the
+/// gate of the next one, closed.
+fn bodies_of(alloc: Global, first: &[u8], others: &[Vec<u8>]) -> io::Result<Vec<u8>>
+    ensures short { OnOk result (All IsShort (first.now ∷ map (λ v. v.items) others.now)) }
+    ensures octets { IfOk result (λ v. v.items ≡ body first.now ++ blocks (map (λ v. v.items) others.now) ++ 0 ∷ []) }
+{
+    let mut octets = Vec::new(alloc);
+    push_body(&mut octets, first)?;
+    let mut rest = others;
+    while let Some((item, behind)) = rest.split_first() {
+        octets.push(1)?;
+        push_body(&mut octets, item.as_slice())?;
+        rest = behind;
+    }
     octets.push(0)?;
     Ok(octets)
 }
 
 impl<D: Disk> RecordFile<D> {
-    /// Adds a record, shorter than 2 ^ 32 octets. At `Ok` it is on the disk, and each later crash leaves it. At `Err` (the disk's
-    /// failure, no memory, or `StorageFull`) it may be on the disk or not, and the file has to be recovered before it is used again.
+    /// Adds a record. At `Ok` it is on the disk, and each later crash leaves it. At `Err` (the disk's failure, no memory,
+    /// `FileTooLarge` of a record of 2 ^ 32 octets or more, or `StorageFull`) it may be on the disk or not, and the file has to be
+    /// recovered before it is used again.
     pub fn put(&mut self, alloc: Global, item: &[u8]) -> io::Result<()>
-        requires short { length item.now < 2 ^ 32 }
         requires usable { IsTrue (D.is_usable self.old.disk) }
 
         ensures usable { OnOk result (IsTrue (D.is_usable self.new.disk)) }
+        ensures clean { IsTrue (D.is_clean self.new.disk) → IsTrue (D.is_clean self.old.disk) }
 
         ensures acknowledged { OnOk result ((rs : List (List ℕ)) → IsSettled D.seen D.may_leave D.is_usable self.old.disk self.old.end rs
             → IsSettled D.seen D.may_leave D.is_usable self.new.disk self.new.end (rs ++ item.now ∷ [])) }
@@ -48,15 +72,58 @@ impl<D: Disk> RecordFile<D> {
         ensures crash { (rs : List (List ℕ)) → IsSettled D.seen D.may_leave D.is_usable self.old.disk self.old.end rs
             → (c : List ℕ) → D.may_leave self.new.disk c → Stands c rs ⊎ Stands c (rs ++ item.now ∷ []) }
     {
+        let octets = bodies_of(alloc, item, &[])?;
+        self.write(octets.as_slice())?;
+        Ok(())
+    }
+
+    /// Adds records, by two syncs for all of them. At `Ok` each is on the disk, and each later crash leaves them. At `Err` all of
+    /// them are on the disk or none, and the file has to be recovered before it is used again.
+    pub fn put_all(&mut self, alloc: Global, items: &[Vec<u8>]) -> io::Result<()>
+        requires usable { IsTrue (D.is_usable self.old.disk) }
+
+        ensures usable { OnOk result (IsTrue (D.is_usable self.new.disk)) }
+        ensures clean { IsTrue (D.is_clean self.new.disk) → IsTrue (D.is_clean self.old.disk) }
+
+        ensures acknowledged { OnOk result ((rs : List (List ℕ)) → IsSettled D.seen D.may_leave D.is_usable self.old.disk self.old.end rs
+            → IsSettled D.seen D.may_leave D.is_usable self.new.disk self.new.end (rs ++ map (λ v. v.items) items.now)) }
+
+        // Whenever the machine stops, the file stands for the records from before, with all of the new ones or with none.
+        ensures crash { (rs : List (List ℕ)) → IsSettled D.seen D.may_leave D.is_usable self.old.disk self.old.end rs
+            → (c : List ℕ) → D.may_leave self.new.disk c → Stands c rs ⊎ Stands c (rs ++ map (λ v. v.items) items.now) }
+    {
+        let Some((first, others)) = items.split_first() else {
+            return Ok(());
+        };
+        let octets = bodies_of(alloc, first.as_slice(), others)?;
+        self.write(octets.as_slice())?;
+        Ok(())
+    }
+
+    /// Writes records behind the shut gate, and opens it once they are on the disk. The octets are what stands behind the gate of
+    /// the first, and a shut gate.
+    fn write(&mut self, octets: &[u8]) -> io::Result<()>
+        requires usable { IsTrue (D.is_usable self.old.disk) }
+
+        ensures usable { OnOk result (IsTrue (D.is_usable self.new.disk)) }
+        ensures clean { IsTrue (D.is_clean self.new.disk) → IsTrue (D.is_clean self.old.disk) }
+
+        ensures acknowledged { OnOk result ((rs others : List (List ℕ)) (r : List ℕ) → octets.now ≡ body r ++ blocks others ++ 0 ∷ [] → All IsShort (r ∷ others)
+            → IsSettled D.seen D.may_leave D.is_usable self.old.disk self.old.end rs
+            → IsSettled D.seen D.may_leave D.is_usable self.new.disk self.new.end (rs ++ r ∷ others)) }
+
+        ensures crash { (rs others : List (List ℕ)) (r : List ℕ) → octets.now ≡ body r ++ blocks others ++ 0 ∷ [] → All IsShort (r ∷ others)
+            → IsSettled D.seen D.may_leave D.is_usable self.old.disk self.old.end rs
+            → (c : List ℕ) → D.may_leave self.new.disk c → Stands c rs ⊎ Stands c (rs ++ r ∷ others) }
+    {
         if self.end > MOST {
             return Err(io::ErrorKind::StorageFull.into());
         }
-        let octets = body_of(alloc, item)?;
-        self.disk.write_at(self.end + 1, octets.as_slice())?;
+        self.disk.write_at(self.end + 1, octets)?;
         self.disk.sync()?;
         self.disk.write_at(self.end, &[1])?;
         self.disk.sync()?;
-        self.end += item.len() + 5;
+        self.end += octets.len();
         Ok(())
     }
 

@@ -1,5 +1,5 @@
 //! What a sealed record of a spool says, whichever it is.
-ghost use Rattle.std.specs.Prelude.{◌≡◌, ◌≢◌, ◌<◌, ℕ, List, length, IfOk, MatchOption};
+ghost use Rattle.std.specs.Prelude.{◌≡◌, ◌≢◌, ◌<◌, ℕ, List, length, map, IfOk, MatchOption};
 ghost use Rattle.fax_spool.specs.RecordOctets.{PageValue, EndedValue, epoch_octets};
 ghost use Rattle.fax_spool.specs.KeptRecords.{IsReadAs, kept_page, kept_ended, kept_epoch};
 
@@ -8,9 +8,13 @@ use crate::record::{
 };
 use crate::{EndedRecord, PageRecord, seal, unseal};
 use std::alloc::{AllocError, Global};
+use std::io;
 
 /// The first octet of the record of an epoch.
 const EPOCH: u8 = 3;
+
+/// The most octets of the name of a line, and of a tag.
+const MOST_NAME: usize = 255;
 
 /// What a sealed record says.
 #[derive(Drop)]
@@ -52,6 +56,20 @@ pub(crate) fn seal_page(alloc: Global, page: &PageRecord<'_>) -> Result<Vec<u8>,
 {
     let kept = write_page_record(alloc, page)?;
     seal(alloc, kept.as_slice())
+}
+
+/// The records of pages, sealed. It refuses a page whose line or tag has more than 255 octets.
+pub(crate) fn seal_pages(alloc: Global, pages: &[PageRecord<'_>]) -> io::Result<Vec<Vec<u8>>>
+    ensures { IfOk result (λ items. map (λ v. v.items) items.items ≡ map kept_page pages.now) }
+{
+    let mut items = Vec::with_capacity(alloc, pages.len())?;
+    for page in pages {
+        if page.line.len() > MOST_NAME || page.tag.len() > MOST_NAME {
+            return Err(io::ErrorKind::InvalidInput.into());
+        }
+        items.push(seal_page(alloc, page)?)?;
+    }
+    Ok(items)
 }
 
 /// The record of a job that ended, sealed.

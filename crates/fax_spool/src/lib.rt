@@ -5,14 +5,17 @@
 mod file;
 mod kept_record;
 pub mod laws;
+mod opening;
 mod page_name;
 mod record;
 mod sealing;
 mod spool;
 mod waiting;
+mod waiting_page;
 
 pub use file::{Found, RecordFile, recover};
 pub use kept_record::{KeptRecord, read_kept_record};
+pub use opening::{Opened, open_spool};
 pub use record::{
     EndedRecord, PageRecord, read_ended_record, read_page_record, write_ended_record,
     write_page_record,
@@ -20,3 +23,4 @@ pub use record::{
 pub use sealing::{seal, unseal};
 pub use spool::Spool;
 pub use waiting::{first_epoch, read_kept_records, waiting_pages};
+pub use waiting_page::WaitingPage;

@@ -1,24 +1,21 @@
 //! A spool: the records of confirmed pages and of jobs that ended, in two files in turn.
-ghost use Rattle.std.specs.Prelude.{◌≡◌, ◌⊎◌, ◌<◌, ◌≤◌, ◌^◌, ◌++◌, [], ◌∷◌, true, false, List, ℕ, length, not, IfOk, OnOk, OnErr, IsErr};
+ghost use Rattle.std.specs.Prelude.{◌≡◌, ◌⊎◌, ◌<◌, ◌≤◌, ◌++◌, [], ◌∷◌, List, ℕ, length, map, not, IfOk, OnOk, IsTrue};
 ghost use Rattle.std.specs.List.{filter};
 ghost use Rattle.std.specs.Bool.{MatchBool};
 ghost use Rattle.fax_spool.specs.Records.{Stands};
 ghost use Rattle.fax_spool.specs.Settled.{IsSettled};
-ghost use Rattle.fax_spool.specs.KeptRecords.{AreReadAs};
+ghost use Rattle.fax_spool.specs.KeptRecords.{AreReadAs, kept_of};
 ghost use Rattle.fax_spool.specs.Waits.{ends};
-ghost use Rattle.fax_spool.specs.Spools.{Keeps, NoneIsLeft, MayLeaveBoth, TellBoth, epoch_now, epoch_of, files_of, greatest_epoch};
+ghost use Rattle.fax_spool.specs.Spools.{AreClean, Keeps, NoneIsLeft, MayLeaveBoth, TellBoth, epoch_now, epoch_of, files_of, greatest_epoch};
 ghost use Rattle.fax_spool.specs.declared.kept_record.KeptRecord.{KeptRecord as KeptShown};
 
-use crate::kept_record::{seal_ended, seal_epoch, seal_page};
+use crate::kept_record::{seal_ended, seal_epoch, seal_page, seal_pages};
 use crate::page_name::PageName;
 use crate::waiting::{drop_ended, names_of, newest_epoch};
 use crate::{EndedRecord, KeptRecord, PageRecord, RecordFile, waiting_pages};
 use sqlite_disk::Disk;
 use std::alloc::Global;
 use std::{io, mem};
-
-/// The most octets of a record.
-const MOST_OCTETS: usize = 0xffff_ffff;
 
 /// Records of confirmed pages and of jobs that ended, in two files in turn: what is new is put into the newer one, and the older
 /// one is cleared once no page in it waits. `begin` makes one of two files that were recovered.
@@ -52,6 +49,7 @@ impl<D: Disk + Drop> Spool<D> {
             → IsSettled D.seen D.may_leave D.is_usable older.disk older.end older_items → AreReadAs older_items olds.now
             → IsSettled D.seen D.may_leave D.is_usable newer.disk newer.end newer_items → AreReadAs newer_items news.now
             → Keeps D.seen D.may_leave D.is_usable spool olds.now (news.now ++ KeptRecord.Epoch (epoch_now spool) ∷ [])) }
+        ensures clean { IfOk result (λ spool. AreClean D.is_clean (files_of spool) → AreClean D.is_clean (older, newer)) }
         ensures older_epochs { IfOk result (λ spool. greatest_epoch olds.now < epoch_now spool) }
         ensures newer_epochs { IfOk result (λ spool. greatest_epoch news.now < epoch_now spool) }
     {
@@ -119,6 +117,24 @@ impl<D: Disk> Spool<D> {
         self.newer_pages.reserve(1)?;
         append(&mut self.newer, &mut self.refuses, alloc, octets.as_slice())?;
         self.newer_pages.push_reserved(name);
+        Ok(())
+    }
+
+    /// Pages were confirmed, as of several lines in one turn. At `Ok` the record of each is on the disk, behind those before it and
+    /// in this order, and each later crash leaves it. It costs two syncs, however many there are. A line or a tag of more than 255
+    /// octets is `InvalidInput`, and nothing is put then.
+    pub fn put_all(&mut self, alloc: Global, pages: &[PageRecord<'_>]) -> io::Result<()>
+        ensures acknowledged { OnOk result ((olds news : List KeptShown) → Keeps D.seen D.may_leave D.is_usable self.old olds news
+            → Keeps D.seen D.may_leave D.is_usable self.new olds (news ++ map kept_of pages.now)) }
+        // Whenever the machine stops, the files tell the records from before, with all of the new ones or with none.
+        ensures crash { (olds news : List KeptShown) → Keeps D.seen D.may_leave D.is_usable self.old olds news
+            → (older newer : List ℕ) → MayLeaveBoth D.may_leave self.new older newer
+            → TellBoth older newer olds news ⊎ TellBoth older newer olds (news ++ map kept_of pages.now) }
+    {
+        let mut names = names_of(alloc, pages)?;
+        let items = seal_pages(alloc, pages)?;
+        self.newer_pages.append(&mut names)?;
+        append_all(&mut self.newer, &mut self.refuses, alloc, items.as_slice())?;
         Ok(())
     }
 
@@ -195,8 +211,9 @@ fn append<D: Disk>(
         → IsSettled D.seen D.may_leave D.is_usable file.new.disk file.new.end (rs ++ item.now ∷ [])) }
     ensures crash { (rs : List (List ℕ)) → IsSettled D.seen D.may_leave D.is_usable file.old.disk file.old.end rs
         → (c : List ℕ) → D.may_leave file.new.disk c → Stands c rs ⊎ Stands c (rs ++ item.now ∷ []) }
+    ensures clean { IsTrue (D.is_clean file.new.disk) → IsTrue (D.is_clean file.old.disk) }
 {
-    if *refuses || item.len() > MOST_OCTETS {
+    if *refuses {
         return Err(io::ErrorKind::Other.into());
     }
     *refuses = true;
@@ -204,6 +221,30 @@ fn append<D: Disk>(
         return Err(io::ErrorKind::Other.into());
     }
     file.put(alloc, item)?;
+    *refuses = false;
+    Ok(())
+}
+
+/// Adds records to a file, unless a call of the disk has failed; if one of these fails, that is noted.
+fn append_all<D: Disk>(
+    file: &mut RecordFile<D>,
+    refuses: &mut bool,
+    alloc: Global,
+    items: &[Vec<u8>],
+) -> io::Result<()>
+    ensures acknowledged { OnOk result ((rs : List (List ℕ)) → IsSettled D.seen D.may_leave D.is_usable file.old.disk file.old.end rs
+        → IsSettled D.seen D.may_leave D.is_usable file.new.disk file.new.end (rs ++ map (λ v. v.items) items.now)) }
+    ensures crash { (rs : List (List ℕ)) → IsSettled D.seen D.may_leave D.is_usable file.old.disk file.old.end rs
+        → (c : List ℕ) → D.may_leave file.new.disk c → Stands c rs ⊎ Stands c (rs ++ map (λ v. v.items) items.now) }
+{
+    if *refuses {
+        return Err(io::ErrorKind::Other.into());
+    }
+    *refuses = true;
+    if !file.disk.may_be_used() {
+        return Err(io::ErrorKind::Other.into());
+    }
+    file.put_all(alloc, items)?;
     *refuses = false;
     Ok(())
 }

@@ -1,7 +1,7 @@
 //! Which pages wait, by the records that were read.
 ghost use Rattle.std.specs.Prelude.{◌≡◌, ◌++◌, map, IfOk, OnOk};
 ghost use Rattle.fax_spool.specs.KeptRecords.{AreReadAs};
-ghost use Rattle.fax_spool.specs.Waits.{name_of, left_of, after, left_behind, waiting, without};
+ghost use Rattle.fax_spool.specs.Waits.{name_of, left_of, after, left_behind, waiting, waiting_behind, without};
 ghost use Rattle.fax_spool.specs.Spools.{epoch_of, greatest_epoch, raised};
 
 use crate::page_name::{PageName, had};
@@ -32,10 +32,21 @@ pub fn waiting_pages<'a>(
     ensures { IfOk result (λ pages. pages.items ≡ waiting records.now) }
 {
     let mut pages = Vec::new(alloc);
-    for kept in records {
-        follow(&mut pages, kept)?;
-    }
+    follow_all(&mut pages, records)?;
     Ok(pages)
+}
+
+/// The pages that wait behind these records, where some waited before them.
+pub(crate) fn follow_all<'a>(
+    pages: &mut Vec<PageRecord<'a>>,
+    records: &[KeptRecord<'a>],
+) -> Result<(), AllocError>
+    ensures { OnOk result (pages.new.items ≡ waiting_behind pages.old.items records.now) }
+{
+    for kept in records {
+        follow(pages, kept)?;
+    }
+    Ok(())
 }
 
 /// Drops the pages whose jobs ended by these records.

@@ -1,5 +1,4 @@
-use Rattle.std.proofs.Common.{◌≡◌, List, ℕ, sym, ◌∙◌, ap}
-use Rattle.fax_spool.specs.RecordOctets.{page_octets, ended_octets, epoch_octets}
+use Rattle.std.proofs.Common.{List, ℕ, sym, ◌∙◌, ap}
 use Rattle.fax_spool.specs.Seals.{sealed}
 use Rattle.fax_spool.proofs.Digests.{seals_are_one}
 use Rattle.fax_spool.proofs.kept_record.read_kept_record.Goals as goal

@@ -1,4 +1,3 @@
-use Rattle.std.proofs.Common.{◌≡◌, List, ℕ, sym, ◌∙◌}
 use Rattle.fax_spool.proofs.Shorts.{no_second}
 use Rattle.fax_spool.proofs.record.read_texts.Goals as goal
 

@@ -1,4 +1,4 @@
-use Rattle.std.proofs.Common.{◌≡◌, List, ℕ, Vec, Global, map, ap, sym, ◌∙◌, subst}
+use Rattle.std.proofs.Common.{List, ℕ, Vec, Global, map, ap, subst}
 use Rattle.fax_spool.specs.KeptRecords.{IsReadAs}
 use Rattle.fax_spool.proofs.Loops.{next_read, last_read, none_more}
 use Rattle.fax_spool.proofs.waiting.read_kept_records.Goals as goal

@@ -1,4 +1,4 @@
-use Rattle.std.proofs.Common.{◌≡◌, ◌+◌, ◌≤◌, ℕ, max, map, List, true, false, refl, ◌∙◌, ap, arith}
+use Rattle.std.proofs.Common.{◌≡◌, ◌+◌, ◌≤◌, map, List, false, refl, ◌∙◌, ap, arith}
 use Rattle.fax_spool.specs.RecordOctets.{PageValue}
 use Rattle.fax_spool.specs.Waits.{name_of, waiting, left_behind}
 use Rattle.fax_spool.specs.Spools.{greatest_epoch}

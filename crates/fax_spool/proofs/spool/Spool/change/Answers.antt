@@ -1,4 +1,4 @@
-use Rattle.std.proofs.Common.{◌≡◌, ◌+◌, ◌<◌, inr, Vec, Global, true, false, refl, sym, ◌∙◌, ap, subst, arith}
+use Rattle.std.proofs.Common.{◌≡◌, ◌+◌, inr, Vec, Global, sym, ◌∙◌, ap, subst, arith}
 use Rattle.fax_spool.specs.Settled.{IsSettled}
 use Rattle.fax_spool.specs.Waits.{PageName}
 use Rattle.fax_spool.specs.declared.file.RecordFile.{RecordFile}

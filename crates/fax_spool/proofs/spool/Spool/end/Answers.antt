@@ -1,4 +1,4 @@
-use Rattle.std.proofs.Common.{List, ℕ, refl, inl, sym, ◌∙◌, ap, arith}
+use Rattle.std.proofs.Common.{refl, inl, ◌∙◌, arith}
 use Rattle.fax_spool.specs.Waits.{waiting, left_behind}
 use Rattle.fax_spool.specs.declared.kept_record.KeptRecord.TheVariants.{Ended}
 use Rattle.fax_spool.proofs.SpoolSteps.{at_rest, keeps_more, leaves_more, names_left}

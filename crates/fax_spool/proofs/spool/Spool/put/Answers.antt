@@ -1,6 +1,5 @@
-use Rattle.std.proofs.Common.{List, [], ◌∷◌, ◌++◌, map, ℕ, refl, inl, sym, ◌∙◌, ap, arith}
+use Rattle.std.proofs.Common.{List, [], ◌∷◌, ◌++◌, map, refl, inl, sym, ◌∙◌, ap, arith}
 use Rattle.std.proofs.lemmas.List.{map_push}
-use Rattle.fax_spool.specs.RecordOctets.{PageValue}
 use Rattle.fax_spool.specs.Waits.{PageName, name_of, waiting}
 use Rattle.fax_spool.specs.declared.kept_record.KeptRecord.TheVariants.{Page}
 use Rattle.fax_spool.proofs.SpoolSteps.{at_rest, keeps_more, leaves_more}

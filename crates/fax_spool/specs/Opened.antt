@@ -1,0 +1,52 @@
+-- What the two files of a spool are found to hold as they are opened. (This project's profile.)
+use Rattle.std.specs.Prelude.{◌≡◌, ℕ, Bool, true, false, not, ◌&&◌, ◌||◌, nat_eq, nat_le, bytes_eq, List, [], ◌∷◌, ◌++◌, if◌then◌else◌}
+use Rattle.std.specs.List.{count_by, list_any}
+use Rattle.fax_spool.specs.RecordOctets.{PageValue}
+use Rattle.fax_spool.specs.Waits.{waiting}
+use Rattle.fax_spool.specs.Spools.{Keeps, Tells, epoch_now, epoch_of}
+use Rattle.fax_spool.specs.declared.kept_record.KeptRecord.{KeptRecord}
+use Rattle.fax_spool.specs.declared.kept_record.KeptRecord.TheVariants.{Page, Ended, Epoch, Damaged}
+use Rattle.fax_spool.specs.declared.opening.Opened.{Opened}
+
+-- Of the records of two files those are the older ones whose first epoch has the smaller number.
+abbrev pub comes_first : List KeptRecord → List KeptRecord → Bool
+comes_first one other = nat_le (epoch_of one) (epoch_of other)
+
+abbrev pub older_of : List KeptRecord → List KeptRecord → List KeptRecord
+older_of one other = if comes_first one other then one else other
+
+abbrev pub newer_of : List KeptRecord → List KeptRecord → List KeptRecord
+newer_of one other = if comes_first one other then other else one
+
+-- two pages came in one call
+abbrev pub same_call : PageValue → PageValue → Bool
+same_call page other = nat_eq page.life other.life && nat_eq page.call other.call && bytes_eq page.line other.line
+
+abbrev pub closing : Bool → PageValue → PageValue
+closing closes page = record { life = page.life; call = page.call; number = page.number; format = page.format; closes = closes; line = page.line; tag = page.tag; text = page.text }
+
+-- A call that was on ended with its process: the last page of each call that waits closes its job.
+abbrev pub closed : List PageValue → List PageValue
+closed [] = []
+closed (page ∷ pages) = closing (page.closes || not (list_any (same_call page) pages)) page ∷ closed pages
+
+abbrev pub is_damaged : KeptRecord → Bool
+is_damaged (Page page) = false
+is_damaged (Ended ended) = false
+is_damaged (Epoch number) = false
+is_damaged Damaged = true
+
+abbrev pub damaged : List KeptRecord → ℕ
+damaged records = count_by is_damaged records
+
+-- A SPOOL WAS OPENED OVER TWO FILES: it keeps what both of them tell, the older one first, and the epoch that begins; the pages
+-- that wait by them are told in order; and so is how many records are damaged.
+pub record IsOpened {D : Type 0} (seen : D → List ℕ) (may_leave : D → List ℕ → Type 0) (is_usable : D → Bool) (one other : List ℕ) (opened : Opened D) : Type 0 where
+  pub ones : List KeptRecord
+  pub others : List KeptRecord
+  pub one_tells : Tells one ones
+  pub other_tells : Tells other others
+  pub keeps : Keeps seen may_leave is_usable opened.spool (older_of ones others) (newer_of ones others ++ Epoch (epoch_now opened.spool) ∷ [])
+  pub pages : opened.pages.items ≡ closed (waiting (older_of ones others ++ newer_of ones others))
+  pub older_damaged : opened.older_damaged ≡ damaged (older_of ones others)
+  pub newer_damaged : opened.newer_damaged ≡ damaged (newer_of ones others)

@@ -1,0 +1,162 @@
+//! Both files of a spool, opened.
+ghost use Rattle.std.specs.Prelude.{◌≡◌, ◌++◌, ◌∷◌, ◌||◌, [], List, ℕ, not, IfOk, OnOk, IsTrue};
+ghost use Rattle.std.specs.List.{list_any};
+ghost use Rattle.sqlite_disk.specs.Disk.{Only};
+ghost use Rattle.fax_spool.specs.Settled.{IsSettled};
+ghost use Rattle.fax_spool.specs.KeptRecords.{AreReadAs};
+ghost use Rattle.fax_spool.specs.Waits.{waiting};
+ghost use Rattle.fax_spool.specs.Spools.{AreClean, Keeps, epoch_now, files_of};
+ghost use Rattle.fax_spool.specs.Opened.{IsOpened, closed, damaged, is_damaged, same_call};
+
+use crate::waiting::follow_all;
+use crate::{
+    KeptRecord, PageRecord, RecordFile, Spool, WaitingPage, first_epoch, read_kept_records,
+    recover, waiting_pages,
+};
+use sqlite_disk::Disk;
+use std::alloc::{AllocError, Global};
+use std::io;
+
+/// A spool that was opened, and what its files were found to hold.
+#[derive(Drop)]
+pub struct Opened<D: Disk> {
+    /// The spool, ready for a new life, whose number is its epoch.
+    pub spool: Spool<D>,
+    /// The pages that wait, in the order in which they were confirmed. The last one of each call closes its job, since a call that
+    /// was on ended with its process.
+    pub pages: Vec<WaitingPage>,
+    /// How many records of the older file are damaged. What they said is lost.
+    pub older_damaged: usize,
+    /// How many of the newer one.
+    pub newer_damaged: usize,
+}
+
+/// Opens a spool over its two files, whichever of them is the older one: reads what a crash may have left, and begins a life. At
+/// an `Err` (the disk's failure, or no memory) the files stand for the same records, with the epoch's or without.
+pub fn open_spool<D: Disk + Drop>(alloc: Global, one: D, other: D) -> io::Result<Opened<D>>
+    requires one_usable { IsTrue (D.is_usable one) }
+    requires other_usable { IsTrue (D.is_usable other) }
+    // After a restart, what is read is what is on the disk.
+    requires one_durable { Only (D.seen one) (D.may_leave one) }
+    requires other_durable { Only (D.seen other) (D.may_leave other) }
+    ensures opened { IfOk result (λ opened. AreClean D.is_clean (files_of opened.spool) → IsOpened D.seen D.may_leave D.is_usable (D.seen one) (D.seen other) opened) }
+{
+    let mut one = one;
+    let mut other = other;
+    let first = recover(alloc, &mut one)?;
+    let second = recover(alloc, &mut other)?;
+    let ones = read_kept_records(alloc, first.items.as_slice())?;
+    let others = read_kept_records(alloc, second.items.as_slice())?;
+    let one = RecordFile {
+        disk: one,
+        end: first.end,
+    };
+    let other = RecordFile {
+        disk: other,
+        end: second.end,
+    };
+    if first_epoch(ones.as_slice()) > first_epoch(others.as_slice()) {
+        return Ok(begin(alloc, other, one, others.as_slice(), ones.as_slice())?);
+    }
+    Ok(begin(alloc, one, other, ones.as_slice(), others.as_slice())?)
+}
+
+/// Begins a life over two files, of which the older one is known, and tells what waits.
+fn begin<D: Disk + Drop>(
+    alloc: Global,
+    older: RecordFile<D>,
+    newer: RecordFile<D>,
+    olds: &[KeptRecord<'_>],
+    news: &[KeptRecord<'_>],
+) -> io::Result<Opened<D>>
+    ensures begun { IfOk result (λ opened. (older_items newer_items : List (List ℕ))
+        → IsSettled D.seen D.may_leave D.is_usable older.disk older.end older_items → AreReadAs older_items olds.now
+        → IsSettled D.seen D.may_leave D.is_usable newer.disk newer.end newer_items → AreReadAs newer_items news.now
+        → Keeps D.seen D.may_leave D.is_usable opened.spool olds.now (news.now ++ KeptRecord.Epoch (epoch_now opened.spool) ∷ [])) }
+    ensures clean { IfOk result (λ opened. AreClean D.is_clean (files_of opened.spool) → AreClean D.is_clean (older, newer)) }
+    ensures pages { IfOk result (λ opened. opened.pages.items ≡ closed (waiting (olds.now ++ news.now))) }
+    ensures older_damaged { IfOk result (λ opened. opened.older_damaged ≡ damaged olds.now) }
+    ensures newer_damaged { IfOk result (λ opened. opened.newer_damaged ≡ damaged news.now) }
+{
+    let pages = pages_of(alloc, olds, news)?;
+    let spool = Spool::begin(alloc, older, newer, olds, news)?;
+    Ok(Opened {
+        spool,
+        pages,
+        older_damaged: damaged(olds),
+        newer_damaged: damaged(news),
+    })
+}
+
+/// The pages that wait by the records of both files, in the order in which they were put.
+fn pages_of<'a>(
+    alloc: Global,
+    olds: &[KeptRecord<'a>],
+    news: &[KeptRecord<'a>],
+) -> Result<Vec<WaitingPage>, AllocError>
+    ensures { IfOk result (λ pages. pages.items ≡ closed (waiting (olds.now ++ news.now))) }
+{
+    let mut pages = waiting_pages(alloc, olds)?;
+    follow_all(&mut pages, news)?;
+    Ok(closed(alloc, pages.as_slice())?)
+}
+
+/// These pages, where the last one of each call closes its job.
+fn closed(alloc: Global, pages: &[PageRecord<'_>]) -> Result<Vec<WaitingPage>, AllocError>
+    ensures { IfOk result (λ waits. waits.items ≡ closed pages.now) }
+{
+    let mut waits = Vec::with_capacity(alloc, pages.len())?;
+    for (i, page) in pages.iter().enumerate() {
+        let closes = closes_its_job(page, &pages[i + 1..]);
+        waits.push(WaitingPage::of_record(alloc, page, closes)?)?;
+    }
+    Ok(waits)
+}
+
+/// Whether a page closes its job, where these pages wait behind it.
+fn closes_its_job(page: &PageRecord<'_>, behind: &[PageRecord<'_>]) -> bool
+    ensures { result ≡ (page.now.closes || not (list_any (same_call page.now) behind.now)) }
+{
+    if page.closes {
+        return true;
+    }
+    !has_call(behind, page)
+}
+
+/// Whether one of these pages came in the call of a page.
+fn has_call(pages: &[PageRecord<'_>], page: &PageRecord<'_>) -> bool
+    ensures { result ≡ list_any (same_call page.now) pages.now }
+{
+    for other in pages {
+        if is_of_call(page, other) {
+            return true;
+        }
+    }
+    false
+}
+
+/// Whether two pages came in one call.
+fn is_of_call(page: &PageRecord<'_>, other: &PageRecord<'_>) -> bool
+    ensures { result ≡ same_call page.now other.now }
+{
+    page.life == other.life && page.call == other.call && page.line == other.line
+}
+
+/// How many records are damaged.
+fn damaged(records: &[KeptRecord<'_>]) -> usize
+    ensures { result ≡ damaged records.now }
+{
+    records.iter().filter(|kept| is_damaged(kept)).count()
+}
+
+/// Whether a record is damaged.
+fn is_damaged(kept: &KeptRecord<'_>) -> bool
+    ensures { result ≡ is_damaged kept.now }
+{
+    match kept {
+        KeptRecord::Damaged => true,
+        KeptRecord::Page(_) => false,
+        KeptRecord::Ended(_) => false,
+        KeptRecord::Epoch(_) => false,
+    }
+}
