@@ -1,0 +1,40 @@
+//! Both files of a spool in a folder.
+ghost use Rattle.std.specs.Prelude.{◌≡◌, IfOk};
+ghost use Rattle.fax_spool.specs.Spools.{AreClean, files_of};
+ghost use Rattle.fax_spool.specs.Opened.{IsOpened};
+
+use crate::fault::FolderFault;
+use fax_spool::{Opened, open_spool};
+use sqlite_disk::{Disk, Files, Start, Unknown};
+use sqlite_std_file::{File, FileFrom, open};
+
+/// A file of a spool.
+pub type KeptFile = File;
+
+/// Opens the spool of a folder, which has to be there: the files `pages` and `pages-wal`, made where they are missing, each locked
+/// for as long as the spool lives. `S` stands for what the files hold.
+pub fn open_folder<S: Start>(
+    rt: &HostRuntime,
+    folder: &str,
+    start: S,
+) -> Result<Opened<FileFrom<S>>, FolderFault>
+    ensures opened { IfOk result (λ opened. AreClean ⟦<FileFrom<S> as Disk>⟧.is_clean (files_of opened.spool)
+        → IsOpened ⟦<FileFrom<S> as Disk>⟧.seen ⟦<FileFrom<S> as Disk>⟧.may_leave ⟦<FileFrom<S> as Disk>⟧.is_usable S.db S.log opened) }
+{
+    let path = format!(in rt.alloc(); "{folder}/pages")?;
+    let files = open(rt, path.as_str(), start)?;
+    let Files { log, db } = files;
+    Ok(open_spool(rt.alloc(), db, log)?)
+}
+
+/// A system that has spools in folders.
+pub trait Folders {
+    /// Opens the spool of a folder, as `open_folder`.
+    fn open_spool(&self, folder: &str) -> Result<Opened<KeptFile>, FolderFault>;
+}
+
+impl Folders for HostRuntime {
+    fn open_spool(&self, folder: &str) -> Result<Opened<KeptFile>, FolderFault> {
+        open_folder(self, folder, Unknown)
+    }
+}
