@@ -159,6 +159,8 @@ impl<W: Wire + Drop> Wire for RepeatingWire<W> {
 }
 
 impl<W: Wire + Drop> TimedWire for RepeatingWire<W> {
+    ghost due = { λ wire. earlier_of wire.calling.due wire.called.due };
+
     /// The last datagram of each leg whose moment has come is sent again, once. A moment before another reads as the latest.
     fn go_on(&mut self, now: u64)
         ensures told { IsToldAs (told_of self.old) (told_of self.new) }
