@@ -1,0 +1,81 @@
+-- A wire that holds back what goes out on the calling leg. Lists have the newest first. (This project's profile.)
+use Rattle.std.specs.Prelude.{◌≡◌, ℕ, Bool, true, false, List, [], ◌∷◌, Option, Some, None, Result, Ok, Err, Vec, if◌then◌else◌}
+use Rattle.std.specs.declared.alloc.Global.{Global}
+use Rattle.fax_gateway.specs.declared.side.Side.{Side}
+use Rattle.fax_gateway.specs.declared.side.Side.TheVariants as side
+use Rattle.fax_gateway.specs.declared.wire.WireFault.{WireFault}
+use Rattle.fax_gateway.specs.Wires.{Grows, Handed, Known}
+use Rattle.fax_repeat.specs.Policies.{IsToldAs}
+
+-- The octets of the datagram that is held, where one is; whether the calling leg is mute; how many calls failed; what is known
+-- of the wire below, and from which moment on that has something to do.
+pub record HoldingValue : Type 0 where
+  pub held : Option (List ℕ)
+  pub is_mute : Bool
+  pub failures : ℕ
+  pub wire : Known
+  pub due : Option ℕ
+
+abbrev pub octets_of : Option (Vec ℕ Global) → Option (List ℕ)
+octets_of None = None
+octets_of (Some octets) = Some octets.items
+
+-- over a wire it holds nothing at first
+abbrev pub fresh : Known → Option ℕ → HoldingValue
+fresh wire due = record { held = None; is_mute = false; failures = 0; wire = wire; due = due }
+
+-- what is told of it: nothing of what it was handed to send
+abbrev pub as_told : HoldingValue → Known
+as_told wire = record { failures = wire.failures; received = wire.wire.received; sent = None }
+
+-- a datagram of the calling leg
+abbrev pub on_calling_leg : List ℕ → Handed
+on_calling_leg octets = record { side = side.Calling; octets = octets }
+
+-- what a release hands over
+abbrev pub what_is_held : Option (List ℕ) → List Handed
+what_is_held None = []
+what_is_held (Some octets) = on_calling_leg octets ∷ []
+
+-- a datagram is held in place of another one, but by a mute leg
+pub record Holds (octets : List ℕ) (old new : HoldingValue) : Type 0 where
+  pub held : new.held ≡ (if old.is_mute then old.held else Some octets)
+  pub is_mute : new.is_mute ≡ old.is_mute
+  pub wire : new.wire ≡ old.wire
+
+-- a datagram that memory is refused for is lost
+pub record Loses (old new : HoldingValue) : Type 0 where
+  pub held : new.held ≡ None
+  pub is_mute : new.is_mute ≡ old.is_mute
+  pub wire : new.wire ≡ old.wire
+
+-- a datagram of the called leg goes on at once
+pub record HandsOn (octets : List ℕ) (old new : HoldingValue) : Type 0 where
+  pub held : new.held ≡ old.held
+  pub is_mute : new.is_mute ≡ old.is_mute
+  pub received : Grows [] old.wire.received new.wire.received
+  pub sent : Grows (record { side = side.Called; octets = octets } ∷ []) old.wire.sent new.wire.sent
+
+-- a send on a leg
+abbrev pub Sends : Side → List ℕ → Result (Unit {0}) WireFault → HoldingValue → HoldingValue → Type 0
+Sends side.Calling octets (Ok answer) old new = Holds octets old new
+Sends side.Calling octets (Err fault) old new = Loses old new
+Sends side.Called octets answer old new = HandsOn octets old new
+
+-- what is held goes on
+pub record Releases (old new : HoldingValue) : Type 0 where
+  pub held : new.held ≡ None
+  pub is_mute : new.is_mute ≡ old.is_mute
+  pub received : Grows [] old.wire.received new.wire.received
+  pub sent : Grows (what_is_held old.held) old.wire.sent new.wire.sent
+
+-- what is held is dropped, and nothing goes on
+pub record Mutes (old new : HoldingValue) : Type 0 where
+  pub held : new.held ≡ None
+  pub is_mute : new.is_mute ≡ true
+  pub wire : IsToldAs old.wire new.wire
+
+-- a call begins on a leg: the calling one holds nothing then, and is not mute
+abbrev pub Speaks : Side → HoldingValue → HoldingValue → Type 0
+Speaks side.Calling old new = (new.held ≡ None) × (new.is_mute ≡ false)
+Speaks side.Called old new = (new.held ≡ old.held) × (new.is_mute ≡ old.is_mute)

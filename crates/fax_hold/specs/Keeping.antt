@@ -1,0 +1,72 @@
+-- No confirmation goes out of a page that is not kept. Lists have the newest first, but those of pages. (This project's profile.)
+use Rattle.std.specs.Prelude.{◌≡◌, Bool, true, false, not, ◌&&◌, ◌||◌, ℕ, List, [], ◌∷◌, ◌++◌, Option, Some, None, if◌then◌else◌}
+use Rattle.fax_gateway.specs.declared.side.Side.{Side}
+use Rattle.fax_gateway.specs.declared.side.Side.TheVariants as side
+use Rattle.fax_gateway.specs.Wires.{Handed}
+use Rattle.fax_hold.specs.Holding.{HoldingValue}
+
+-- What happens on the calling leg of a line: a turn, which gave a datagram or none, confirmed a page or not, and had it kept or
+-- not; or the next call begins.
+pub data Deed : Type 0 where
+  Turn : (given : Option (List ℕ)) → (confirms : Bool) → (is_kept : Bool) → Deed
+  Begins : Deed
+
+-- a turn whose page was not kept
+abbrev pub failed : Bool → Bool → Bool
+failed confirms is_kept = confirms && not is_kept
+
+-- The leg is mute behind a turn whose page was not kept, until the next call begins.
+abbrev pub mute_after : List Deed → Bool
+mute_after [] = false
+mute_after (Begins ∷ earlier) = false
+mute_after (Turn given confirms is_kept ∷ earlier) = mute_after earlier || failed confirms is_kept
+
+abbrev pub with_given : Option (List ℕ) → List (List ℕ) → List (List ℕ)
+with_given None earlier = earlier
+with_given (Some octets) earlier = octets ∷ earlier
+
+-- the datagrams that went out on the leg: what a turn gave, unless the leg is mute behind it
+abbrev pub went_out : List Deed → List (List ℕ)
+went_out [] = []
+went_out (Begins ∷ earlier) = went_out earlier
+went_out (Turn given confirms is_kept ∷ earlier) =
+    if mute_after earlier || failed confirms is_kept then went_out earlier else with_given given (went_out earlier)
+
+abbrev pub is_calling : Side → Bool
+is_calling side.Calling = true
+is_calling side.Called = false
+
+-- of what a wire was handed, the datagrams of the calling leg
+abbrev pub on_calling : List Handed → List (List ℕ)
+on_calling [] = []
+on_calling (h ∷ earlier) = if is_calling h.side then h.octets ∷ on_calling earlier else on_calling earlier
+
+-- of a wire that tells what it was handed, these are the datagrams of its calling leg
+abbrev pub HasSent : List (List ℕ) → Option (List Handed) → Type 0
+HasSent out told = (sent : List Handed) → told ≡ Some sent → on_calling sent ≡ out
+
+-- A WIRE HAS DONE THESE DEEDS: it holds nothing, it is mute where they say so, and what went out below is what they let out.
+pub record HasDone (deeds : List Deed) (wire : HoldingValue) : Type 0 where
+  pub held : wire.held ≡ None
+  pub is_mute : wire.is_mute ≡ mute_after deeds
+  pub out : HasSent (went_out deeds) wire.wire.sent
+
+-- In a turn behind these deeds it holds what the turn gave, unless it is mute, and none of that went out.
+pub record HoldsBehind (deeds : List Deed) (given : Option (List ℕ)) (wire : HoldingValue) : Type 0 where
+  pub held : wire.held ≡ (if mute_after deeds then None else given)
+  pub is_mute : wire.is_mute ≡ mute_after deeds
+  pub out : HasSent (went_out deeds) wire.wire.sent
+
+-- no call begins in these deeds
+abbrev pub BeginsNone : List Deed → Type 0
+BeginsNone [] = Unit {0}
+BeginsNone (Begins ∷ earlier) = ⊥
+BeginsNone (Turn given confirms is_kept ∷ earlier) = BeginsNone earlier
+
+-- a turn that confirmed a page that was not kept gave nothing that went out
+abbrev pub KeptFirst : Type 0
+KeptFirst = (given : Option (List ℕ)) (earlier : List Deed) → went_out (Turn given true false ∷ earlier) ≡ went_out earlier
+
+-- and nothing goes out behind it until the next call begins
+abbrev pub MuteUntilTheNextCall : Type 0
+MuteUntilTheNextCall = (later earlier : List Deed) (given : Option (List ℕ)) → BeginsNone later → went_out (later ++ Turn given true false ∷ earlier) ≡ went_out earlier

@@ -1,0 +1,198 @@
+//! The wire that holds back.
+ghost use Rattle.std.specs.Prelude.{◌≡◌, ℕ, List, [], ◌∷◌, None, Some, true, false, OnOk, OnErr};
+ghost use Rattle.fax_gateway.specs.Wires.{Grows, failures_after};
+ghost use Rattle.fax_gateway.specs.declared.side.Side.{Side as SideShown};
+ghost use Rattle.fax_repeat.specs.Policies.{IsToldAs};
+ghost use Rattle.fax_hold.specs.Holding.{Holds, Mutes, Releases, Sends, Speaks, as_told, fresh};
+
+use fax_gateway::{Side, Wire, WireFault};
+use fax_repeat::TimedWire;
+use std::alloc::Global;
+use std::marker::Model;
+
+/// A wire over another one. What is handed over on the calling leg is held, one datagram at most, until it is released; what is
+/// handed over on the called leg goes on at once. While the calling leg is mute nothing goes on there.
+///
+/// What is told of it is how many of its calls failed, and what it received; of what it was handed to send nothing is told, since
+/// that may never leave.
+#[derive(Drop)]
+pub struct HoldingWire<W: TimedWire + Drop> {
+    wire: W,
+    alloc: Global,
+    /// The octets of the datagram that is held.
+    held: Option<Vec<u8>>,
+    is_mute: bool,
+    /// How many receives and sends failed. That a datagram failed to leave when it was released is not among them.
+    failures: u64,
+}
+
+impl<W: TimedWire + Drop> Model for HoldingWire<W> {
+    ghost use Rattle.std.specs.Prelude.{◌≡◌, true, None};
+    ghost use Rattle.fax_hold.specs.Holding.{HoldingValue, octets_of};
+
+    ghost Value = { HoldingValue };
+
+    ghost view = { λ w. record { held = octets_of w.held; is_mute = w.is_mute; failures = w.failures; wire = W.known w.wire; due = W.due w.wire } };
+
+    ghost invariant = { λ w. w.is_mute ≡ true → octets_of w.held ≡ None };
+}
+
+impl<W: TimedWire + Drop> HoldingWire<W> {
+    /// A wire that holds nothing, over this one. The calling leg is not mute.
+    pub fn new(alloc: Global, wire: W) -> Self
+        ensures { result ≡ fresh (W.known wire) (W.due wire) }
+    {
+        HoldingWire {
+            wire,
+            alloc,
+            held: None,
+            is_mute: false,
+            failures: 0,
+        }
+    }
+
+    /// The wire below.
+    pub fn wire(&self) -> &W
+        ensures { W.known result.now ≡ self.now.wire }
+    {
+        &self.wire
+    }
+
+    /// Whether the calling leg is mute.
+    pub fn is_mute(&self) -> bool
+        ensures { result ≡ self.now.is_mute }
+    {
+        self.is_mute
+    }
+
+    /// What is held goes on to the wire below, where something is. An `Err`: its send failed, and it counts as lost.
+    pub fn release(&mut self) -> Result<(), WireFault>
+        ensures released { Releases self.old self.new }
+        ensures told { IsToldAs (as_told self.old) (as_told self.new) }
+    {
+        match self.held.take() {
+            None => Ok(()),
+            Some(octets) => self.wire.send(Side::Calling, octets.as_slice()),
+        }
+    }
+
+    /// What is held is dropped, and the calling leg is mute from now on: the wire below repeats nothing there, and is handed nothing
+    /// until the next call begins.
+    pub fn mute(&mut self)
+        ensures muted { Mutes self.old self.new }
+        ensures told { IsToldAs (as_told self.old) (as_told self.new) }
+    {
+        self.held = None;
+        self.is_mute = true;
+        self.wire.cease(Side::Calling);
+    }
+
+    /// The calling leg is mute no more; what is held stays.
+    pub fn speak(&mut self)
+        ensures speaks { self.new ≡ record self.old { is_mute = false } }
+    {
+        self.is_mute = false;
+    }
+
+    /// Holds a datagram in place of the one that is held, unless the leg is mute. An `Err`: memory was refused, and none is held.
+    fn hold(&mut self, octets: &[u8]) -> Result<(), WireFault>
+        ensures held { OnOk result (Holds octets.now self.old self.new) }
+        ensures lost { OnErr result (self.new.held ≡ None) }
+        ensures mute { self.new.is_mute ≡ self.old.is_mute }
+        ensures failures { self.new.failures ≡ failures_after self.old.failures result }
+        ensures wire { self.new.wire ≡ self.old.wire }
+    {
+        if self.is_mute {
+            return Ok(());
+        }
+        self.held = None;
+        match octets.to_vec(self.alloc) {
+            Ok(copy) => {
+                self.held = Some(copy);
+                Ok(())
+            }
+            Err(_) => {
+                self.failures = self.failures.saturating_add(1);
+                Err(WireFault)
+            }
+        }
+    }
+
+    /// Hands a datagram of the called leg on.
+    fn hand_on(&mut self, octets: &[u8]) -> Result<(), WireFault>
+        ensures held { self.new.held ≡ self.old.held }
+        ensures mute { self.new.is_mute ≡ self.old.is_mute }
+        ensures failures { self.new.failures ≡ failures_after self.old.failures result }
+        ensures received { Grows [] self.old.wire.received self.new.wire.received }
+        ensures sent { Grows (record { side = SideShown.Called; octets = octets.now } ∷ []) self.old.wire.sent self.new.wire.sent }
+    {
+        match self.wire.send(Side::Called, octets) {
+            Ok(()) => Ok(()),
+            Err(WireFault) => {
+                self.failures = self.failures.saturating_add(1);
+                Err(WireFault)
+            }
+        }
+    }
+}
+
+impl<W: TimedWire + Drop> Wire for HoldingWire<W> {
+    ghost use Rattle.fax_hold.specs.Holding.{as_told};
+
+    ghost known = { as_told };
+
+    fn receive(&mut self, side: Side, buffer: &mut [u8]) -> Result<Option<usize>, WireFault> {
+        match self.wire.receive(side, buffer) {
+            Ok(came) => Ok(came),
+            Err(WireFault) => {
+                self.failures = self.failures.saturating_add(1);
+                Err(WireFault)
+            }
+        }
+    }
+
+    /// On the calling leg the datagram is held; on the called leg it goes on at once.
+    fn send(&mut self, side: Side, octets: &[u8]) -> Result<(), WireFault>
+        ensures failures { self.new.failures ≡ failures_after self.old.failures result }
+        ensures received { Grows [] self.old.wire.received self.new.wire.received }
+        ensures sends { Sends side octets.now result self.old self.new }
+    {
+        match side {
+            Side::Calling => self.hold(octets),
+            Side::Called => self.hand_on(octets),
+        }
+    }
+}
+
+impl<W: TimedWire + Drop> TimedWire for HoldingWire<W> {
+    ghost due = { λ wire. wire.due };
+
+    fn go_on(&mut self, now: u64)
+        ensures told { IsToldAs (as_told self.old) (as_told self.new) }
+        ensures held { self.new.held ≡ self.old.held }
+        ensures mute { self.new.is_mute ≡ self.old.is_mute }
+        ensures wire { IsToldAs self.old.wire self.new.wire }
+    {
+        self.wire.go_on(now);
+    }
+
+    /// On the calling leg what is held is dropped, and the leg is mute no more.
+    fn cease(&mut self, side: Side)
+        ensures told { IsToldAs (as_told self.old) (as_told self.new) }
+        ensures speaks { Speaks side self.old self.new }
+        ensures wire { IsToldAs self.old.wire self.new.wire }
+    {
+        self.wire.cease(side);
+        match side {
+            Side::Calling => {
+                self.held = None;
+                self.speak();
+            }
+            Side::Called => {}
+        }
+    }
+
+    fn next_due(&self) -> Option<u64> {
+        self.wire.next_due()
+    }
+}
