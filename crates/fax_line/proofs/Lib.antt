@@ -1,3 +1,5 @@
 mod Goings
+mod Missing
+mod Places
 mod Stepping
-mod Running
+pub mod Running

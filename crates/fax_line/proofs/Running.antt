@@ -5,13 +5,14 @@ use Rattle.fax_gateway.specs.declared.fault.RingFault.{RingFault}
 use Rattle.fax_gateway.proofs.DrivingLemmas.{grows_more}
 use Rattle.fax_line.specs.declared.order.Order.{Order}
 use Rattle.fax_line.specs.declared.order.Order.TheVariants as order
-use Rattle.fax_line.specs.Actions.{Action, LineValue, Rings, Turns}
-use Rattle.fax_line.specs.Deeds.{AreRising, Deed, LinesValue, RingsLine, TurnsSlot, Went, actions_of, slot_after, slot_of}
-use Rattle.fax_line.specs.Runs.{Done, Rung, Turned, call_if, deeds_of, latest, next_slot, words_of}
+use Rattle.fax_line.specs.Actions.{Action, Rings, Wakes}
+use Rattle.fax_line.specs.Deeds.{AreRising, Deed, LinesValue, RingsLine, TurnsSlot, WakesLine, Went, actions_of, slot_after, slot_of}
+use Rattle.fax_line.specs.Places.{PlaceValue, visit_of}
+use Rattle.fax_line.specs.Runs.{Done, Rung, Turned, Woken, call_if, deeds_of, latest, next_slot, words_of}
 use Rattle.fax_line.specs.Words.{Answers, Asks, Word}
 use Rattle.fax_line.proofs.Stepping.{each_more, each_none, each_with}
 
-pub went_none : (lines : List LineValue) → Went [] lines lines
+pub went_none : (lines : List PlaceValue) → Went [] lines lines
 went_none lines = each_none lines
 
 if_more : (b : Bool) (a : Action) (rest : List Action) → (if b then a ∷ [] else []) ++ rest ≡ (if b then a ∷ rest else rest)
@@ -19,22 +20,28 @@ if_more true a rest = refl
 if_more false a rest = refl
 
 actions_more : (i : ℕ) (deed : Deed) (older : List Deed) → actions_of i (deed ∷ []) ++ actions_of i older ≡ actions_of i (deed ∷ older)
-actions_more i (TurnsSlot slot now) older = if_more (nat_eq (slot_of i) slot) (Turns now) (actions_of i older)
+actions_more i (TurnsSlot slot now rests) older = if_more (nat_eq (slot_of i) slot) (visit_of now (rests i)) (actions_of i older)
 actions_more i (RingsLine line now call) older = if_more (nat_eq i line) (Rings now call) (actions_of i older)
+actions_more i (WakesLine line) older = if_more (nat_eq i line) Wakes (actions_of i older)
 
-pub went_more : (deed : Deed) (older : List Deed) (a b c : List LineValue) → Went older a b → Went (deed ∷ []) b c → Went (deed ∷ older) a c
+pub went_more : (deed : Deed) (older : List Deed) (a b c : List PlaceValue) → Went older a b → Went (deed ∷ []) b c → Went (deed ∷ older) a c
 went_more deed older a b c first second =
     each_with (λ i. actions_of i (deed ∷ []) ++ actions_of i older) (λ i. actions_of i (deed ∷ older)) a c (λ i lt. actions_more i deed older)
     (each_more (λ i. actions_of i older) (λ i. actions_of i (deed ∷ [])) a b c first second)
 
+-- and where no deed follows, as at the end of a turn
+pub went_settled : (older : List Deed) (a b c : List PlaceValue) → Went older a b → Went [] b c → Went older a c
+went_settled older a b c first second = each_more (λ i. actions_of i older) (λ i. []) a b c first second
+
 -- the moments of deeds never fall
 pub rising : (first : ℕ) (done : List Done) → AreRising (deeds_of first done) (latest done)
 rising first [] = refl
-rising first (Turned now ∷ earlier) = (latest earlier, omega arith, refl, rising first earlier)
+rising first (Turned now rests ∷ earlier) = (latest earlier, omega arith, refl, rising first earlier)
 rising first (Rung line now answer ∷ earlier) = (latest earlier, omega arith, refl, rising first earlier)
+rising first (Woken line ∷ earlier) = rising first earlier
 
 -- a run so far
-pub record Run (first moment : ℕ) (done : List Done) (old new : List LineValue) (slot count : ℕ) (before after : Option (List Word)) : Type 0 where
+pub record Run (first moment : ℕ) (done : List Done) (old new : List PlaceValue) (slot count : ℕ) (before after : Option (List Word)) : Type 0 where
   pub went : Went (deeds_of first done) old new
   pub slot_is : slot ≡ next_slot first done
   pub moment_is : moment ≡ latest done
@@ -42,13 +49,13 @@ pub record Run (first moment : ℕ) (done : List Done) (old new : List LineValue
   pub words : Grows (words_of done) before after
 
 pub turned_on :
-    (first now moment later count slot next : ℕ) (done : List Done) (a b c : List LineValue) (x y z : Option (List Word))
-    → Run first moment done a b slot count x y → later ≡ max moment now → Went (TurnsSlot slot later ∷ []) b c → next ≡ slot_after slot → Grows (Asks (Some (order.Turn now)) ∷ []) y z
-    → Run first later (Turned now ∷ done) a c next (count + 1) x z
-turned_on first now moment later count slot next done a b c x y z run later_is went next_is asked =
+    (first now moment later count slot next : ℕ) (rests : ℕ → Bool) (done : List Done) (a b c : List PlaceValue) (x y z : Option (List Word))
+    → Run first moment done a b slot count x y → later ≡ max moment now → Went (TurnsSlot slot later rests ∷ []) b c → next ≡ slot_after slot → Grows (Asks (Some (order.Turn now)) ∷ []) y z
+    → Run first later (Turned now rests ∷ done) a c next (count + 1) x z
+turned_on first now moment later count slot next rests done a b c x y z run later_is went next_is asked =
     let moment_now : later ≡ max (latest done) now = later_is ∙ ap (λ (m : ℕ). max m now) run.moment_is in record {
-      went = went_more (TurnsSlot (next_slot first done) (max (latest done) now)) (deeds_of first done) a b c run.went
-          (subst (λ (s : ℕ). Went (TurnsSlot s (max (latest done) now) ∷ []) b c) run.slot_is (subst (λ (m : ℕ). Went (TurnsSlot slot m ∷ []) b c) moment_now went));
+      went = went_more (TurnsSlot (next_slot first done) (max (latest done) now) rests) (deeds_of first done) a b c run.went
+          (subst (λ (s : ℕ). Went (TurnsSlot s (max (latest done) now) rests ∷ []) b c) run.slot_is (subst (λ (m : ℕ). Went (TurnsSlot slot m rests ∷ []) b c) moment_now went));
       slot_is = next_is ∙ ap slot_after run.slot_is;
       moment_is = moment_now;
       many = omega (arith, run.many);
@@ -56,7 +63,7 @@ turned_on first now moment later count slot next done a b c x y z run later_is w
     }
 
 pub rung_on :
-    (first line now moment later count slot next : ℕ) (answer : Option (Result ℕ RingFault)) (done : List Done) (a b c : List LineValue) (x y z w : Option (List Word))
+    (first line now moment later count slot next : ℕ) (answer : Option (Result ℕ RingFault)) (done : List Done) (a b c : List PlaceValue) (x y z w : Option (List Word))
     → Run first moment done a b slot count x y → later ≡ max moment now → Went (RingsLine line later (call_if answer) ∷ []) b c → next ≡ slot
     → Grows (Asks (Some (order.Ring line now)) ∷ []) y z → Grows (Answers line answer ∷ []) z w
     → Run first later (Rung line now answer ∷ done) a c next (count + 1) x w
@@ -71,8 +78,32 @@ rung_on first line now moment later count slot next answer done a b c x y z w ru
           (grows_more (words_of done) (Asks (Some (order.Ring line now)) ∷ []) x y z run.words asked) answered;
     }
 
+pub woken_on :
+    (first line moment count slot next : ℕ) (done : List Done) (a b c : List PlaceValue) (x y z : Option (List Word))
+    → Run first moment done a b slot count x y → Went (WakesLine line ∷ []) b c → next ≡ slot → Grows (Asks (Some (order.Wake line)) ∷ []) y z
+    → Run first moment (Woken line ∷ done) a c next (count + 1) x z
+woken_on first line moment count slot next done a b c x y z run went next_is asked = record {
+  went = went_more (WakesLine line) (deeds_of first done) a b c run.went went;
+  slot_is = next_is ∙ run.slot_is;
+  moment_is = run.moment_is;
+  many = omega (arith, run.many);
+  words = grows_more (words_of done) (Asks (Some (order.Wake line)) ∷ []) x y z run.words asked;
+}
+
+-- behind the turn of a slot
+pub settled_on :
+    (first moment count slot next : ℕ) (done : List Done) (a b c : List PlaceValue) (x y z : Option (List Word))
+    → Run first moment done a b slot count x y → Went [] b c → next ≡ slot → z ≡ y → Run first moment done a c next count x z
+settled_on first moment count slot next done a b c x y z run went same words = record {
+  went = went_settled (deeds_of first done) a b c run.went went;
+  slot_is = same ∙ run.slot_is;
+  moment_is = run.moment_is;
+  many = run.many;
+  words = subst (λ (o : Option (List Word)). Grows (words_of done) x o) (sym words) run.words;
+}
+
 pub run_is :
-    (first count : ℕ) (done : List Done) (old : List LineValue) (x : Option (List Word)) (m moment : ℕ) (l lines : LinesValue) (y after : Option (List Word))
+    (first count : ℕ) (done : List Done) (old : List PlaceValue) (x : Option (List Word)) (m moment : ℕ) (l lines : LinesValue) (y after : Option (List Word))
     → moment ≡ m → lines ≡ l → after ≡ y → Run first m done old l.lines l.slot count x y → Run first moment done old lines.lines lines.slot count x after
 run_is first count done old x m moment l lines y after same_moment same_lines same_words run =
     subst (λ (z : Option (List Word)). Run first moment done old lines.lines lines.slot count x z) (sym same_words)

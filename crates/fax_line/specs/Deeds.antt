@@ -1,12 +1,13 @@
 -- All lines of a server, in forty slots: what is done with them, and what each goes through. Lists of deeds have the newest
 -- first. (This project's profile.)
-use Rattle.std.specs.Prelude.{◌≡◌, ℕ, ◌<◌, ◌≤◌, ◌+◌, ◌%◌, nat_eq, List, [], ◌∷◌, length, slice_index_or, Option, if◌then◌else◌}
+use Rattle.std.specs.Prelude.{◌≡◌, ℕ, ◌<◌, ◌≤◌, ◌+◌, ◌%◌, Bool, false, nat_eq, List, [], ◌∷◌, ◌++◌, length, map, slice_get, slice_index_or, Option, Some, if◌then◌else◌}
 use Rattle.std.specs.List.{All}
-use Rattle.fax_line.specs.Actions.{Action, Goes, IsNew, LineValue, Rings, Turns}
+use Rattle.fax_line.specs.Actions.{Action, LineValue, Rings, Wakes}
+use Rattle.fax_line.specs.Places.{GoesInPlace, IsBegun, IsNewPlace, PlaceValue, is_at_rest, visit_of}
 
 -- the lines, in the order in which they were added, and the slot that has the next turn
 pub record LinesValue : Type 0 where
-  pub lines : List LineValue
+  pub lines : List PlaceValue
   pub slot : ℕ
 
 -- Line i, counted from 0, stands in slot i mod 40.
@@ -20,33 +21,58 @@ slot_of line = line % 40
 abbrev pub slot_after : ℕ → ℕ
 slot_after slot = if nat_eq slot 39 then 0 else slot + 1
 
--- What is done: all lines of a slot have their turn, or one line rings.
+-- which lines are at rest at a moment
+abbrev pub rests_at : ℕ → List PlaceValue → ℕ → Bool
+rests_at now lines line = slice_index_or (map (is_at_rest now) lines) line false
+
+-- which lines were turned in the last turns of their slots
+abbrev pub have_turned : List PlaceValue → List Bool
+have_turned lines = map (λ place. place.turned) lines
+
+-- What is done: all lines of a slot have their turn, in which these of them are left at rest; or one line rings; or one is
+-- told that something may have come for it.
 pub data Deed : Type 0 where
-  TurnsSlot : (slot now : ℕ) → Deed
+  TurnsSlot : (slot now : ℕ) → (rests : ℕ → Bool) → Deed
   RingsLine : (line now : ℕ) → (call : Option ℕ) → Deed
+  WakesLine : (line : ℕ) → Deed
 
 -- what of it is done with one line
 abbrev pub actions_of : ℕ → List Deed → List Action
 actions_of line [] = []
-actions_of line (TurnsSlot slot now ∷ earlier) = if nat_eq (slot_of line) slot then Turns now ∷ actions_of line earlier else actions_of line earlier
+actions_of line (TurnsSlot slot now rests ∷ earlier) = if nat_eq (slot_of line) slot then visit_of now (rests line) ∷ actions_of line earlier else actions_of line earlier
 actions_of line (RingsLine rung now call ∷ earlier) = if nat_eq line rung then Rings now call ∷ actions_of line earlier else actions_of line earlier
+actions_of line (WakesLine woken ∷ earlier) = if nat_eq line woken then Wakes ∷ actions_of line earlier else actions_of line earlier
 
 -- Each line went through its own actions, by itself.
-pub record EachGoes (actions : ℕ → List Action) (old new : List LineValue) : Type 0 where
+pub record EachGoes (actions : ℕ → List Action) (old new : List PlaceValue) : Type 0 where
   pub as_many : length new ≡ length old
-  pub each : (line : ℕ) (other : LineValue) → line < length old → Goes (actions line) (slice_index_or old line other) (slice_index_or new line other)
+  pub each : (line : ℕ) (other : PlaceValue) → line < length old → GoesInPlace (actions line) (slice_index_or old line other) (slice_index_or new line other)
 
-abbrev pub Went : List Deed → List LineValue → List LineValue → Type 0
+abbrev pub Went : List Deed → List PlaceValue → List PlaceValue → Type 0
 Went deeds old new = EachGoes (λ line. actions_of line deeds) old new
 
-abbrev pub AreNew : List LineValue → Type 0
-AreNew lines = All IsNew lines
+abbrev pub AreNew : List PlaceValue → Type 0
+AreNew lines = All IsNewPlace lines
 
--- the moment of a deed, and that the moments of deeds never go back, up to this one
-abbrev pub moment_of : Deed → ℕ
-moment_of (TurnsSlot slot now) = now
-moment_of (RingsLine line now call) = now
+-- no event came to them, and each is restored with calls of its own, where it has some
+abbrev pub AreBegun : List PlaceValue → Type 0
+AreBegun lines = All IsBegun lines
 
+-- a line joins the others, behind them
+pub record IsAdded (line : LineValue) (old new : List PlaceValue) : Type 0 where
+  pub place : PlaceValue
+  pub lines : new ≡ old ++ place ∷ []
+  pub line_is : place.line ≡ line
+
+-- the line at a place
+pub record IsLineAt (i : ℕ) (lines : List PlaceValue) (line : LineValue) : Type 0 where
+  pub place : PlaceValue
+  pub there : slice_get lines i ≡ Some place
+  pub line_is : place.line ≡ line
+
+-- The moments of deeds never go back, up to this one. To be woken has no moment.
 abbrev pub AreRising : List Deed → ℕ → Type 0
 AreRising [] latest = latest ≡ 0
-AreRising (deed ∷ earlier) latest = (before : ℕ) × (before ≤ latest) × (moment_of deed ≡ latest) × AreRising earlier before
+AreRising (TurnsSlot slot now rests ∷ earlier) latest = (before : ℕ) × (before ≤ latest) × (now ≡ latest) × AreRising earlier before
+AreRising (RingsLine line now call ∷ earlier) latest = (before : ℕ) × (before ≤ latest) × (now ≡ latest) × AreRising earlier before
+AreRising (WakesLine line ∷ earlier) latest = AreRising earlier latest

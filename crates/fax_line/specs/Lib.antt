@@ -1,4 +1,7 @@
 pub mod Actions
 pub mod Deeds
+pub mod Laws
+pub mod Places
 pub mod Runs
+pub mod Settling
 pub mod Words

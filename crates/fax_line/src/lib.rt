@@ -1,15 +1,20 @@
 //! The lines of a server: each is a gateway over a wire of its own, and none sees another.
 //!
-//! What is done with a line, and what comes of it, is told in `specs/Actions`; what is done with all lines, in `specs/Deeds`;
-//! and what is ordered and answered in a whole run, in `specs/Runs`.
+//! What is done with a line, and what comes of it, is told in `specs/Actions`; when it is left at rest, in `specs/Places`; what
+//! is done with all lines, in `specs/Deeds`; what is ordered and answered in a whole run, in `specs/Runs`; and what is kept of the
+//! page that a turn confirmed, before what confirms it goes out, in `specs/Settling`.
 #![tactic(auto)]
 
+pub mod laws;
 mod line;
 mod lines;
 mod order;
+mod place;
 mod run;
+mod settling;
 
 pub use line::Line;
 pub use lines::{Lines, SLOTS};
 pub use order::{Order, Pace};
 pub use run::serve;
+pub use settling::PageToKeep;

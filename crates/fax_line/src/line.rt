@@ -1,19 +1,25 @@
 //! One line.
-ghost use Rattle.std.specs.Prelude.{◌≡◌, List, [], ◌∷◌, ℕ, IfOk, OnErr, Err, IsTrue, ◌↔◌, ◌<◌, ◌≤◌, false, true, length, is_some, option_copied, slice_get};
+ghost use Rattle.std.specs.Prelude.{◌≡◌, List, [], ◌∷◌, ℕ, IfOk, OnErr, Err, IsTrue, ◌↔◌, ◌<◌, ◌≤◌, false, true, length, is_some, option_copied, map, slice_get};
+ghost use Rattle.fax_timers.specs.Moments.{earlier};
 ghost use Rattle.fax_call.specs.Writings.{Writing};
 ghost use Rattle.fax_gateway.specs.CallingLegs.{calling_leg, idle_after};
+ghost use Rattle.fax_gateway.specs.Due.{due_at};
 ghost use Rattle.fax_gateway.specs.Driving.{Entry, HasMade, failed_in_a_row, most_failed, receipts};
 ghost use Rattle.fax_gateway.specs.Events.{Event, rings};
 ghost use Rattle.fax_gateway.specs.Reached.{IsReachedBy};
 ghost use Rattle.fax_gateway.specs.Setups.{AreAllowed, Setup};
 ghost use Rattle.fax_gateway.specs.Turns.{call_dialled, call_ended, call_kept};
-ghost use Rattle.fax_line.specs.Actions.{Goes, IsNew, Rings, TellsTurn, Turns, call_of, no_turn};
+ghost use Rattle.fax_gateway.specs.Restored.{call_shown};
+ghost use Rattle.fax_line.specs.Actions.{BeginsWith, Goes, IsNew, Rings, TellsTurn, Turns, call_of, no_turn};
 
+use crate::settling::{PageToKeep, settle_turn};
 use fax_bits::NoMemory;
-use fax_gateway::{Buffer, Engine, Gateway, RingFault, Settings, Side, Turned};
+use fax_gateway::{Buffer, Engine, Gateway, RestoredCall, RingFault, Settings, Side, Turned};
+use fax_hold::{HoldingWire, KeepFault, Keeper};
 use fax_jobs::{Job, Report};
 use fax_pagestore::PackedRows;
 use fax_repeat::TimedWire;
+use fax_timers::earlier;
 use std::alloc::Global;
 use std::marker::Model;
 
@@ -32,7 +38,7 @@ impl<W: TimedWire + Drop> Model for Line<W> {
 
     ghost Value = { LineValue };
 
-    ghost view = { λ l. record { gateway = l.gateway; driver = l.engine; wire = W.known l.wire; turned = l.turned } };
+    ghost view = { λ l. record { gateway = l.gateway; driver = l.engine; wire = W.known l.wire; wire_due = W.due l.wire; turned = l.turned } };
 
     ghost invariant = { λ l. TellsWhether l.turned.goes_on l.engine };
 }
@@ -44,9 +50,28 @@ impl<W: TimedWire + Drop> Line<W> {
         ensures new { IfOk result (λ line. IsNew line) }
         ensures settings { IfOk result (λ line. line.gateway.settings ≡ settings) }
         ensures wire { IfOk result (λ line. line.wire ≡ W.known wire) }
+        ensures wire_due { IfOk result (λ line. line.wire_due ≡ W.due wire) }
         ensures turned { IfOk result (λ line. line.turned ≡ no_turn) }
     {
-        let gateway = Gateway::with_settings(alloc, settings)?;
+        Line::restore(alloc, settings, Vec::new(alloc), wire)
+    }
+
+    /// The same behind a crash: it begins with the pages that an earlier life of it confirmed and whose jobs had not ended, the
+    /// oldest call first, and takes a ring at once.
+    pub fn restore(
+        alloc: Global,
+        settings: Settings,
+        calls: Vec<RestoredCall<PackedRows>>,
+        wire: W,
+    ) -> Result<Self, NoMemory>
+        requires { AreAllowed settings }
+        ensures begins { IfOk result (λ line. BeginsWith (map call_shown calls.items) line) }
+        ensures settings { IfOk result (λ line. line.gateway.settings ≡ settings) }
+        ensures wire { IfOk result (λ line. line.wire ≡ W.known wire) }
+        ensures wire_due { IfOk result (λ line. line.wire_due ≡ W.due wire) }
+        ensures turned { IfOk result (λ line. line.turned ≡ no_turn) }
+    {
+        let gateway = Gateway::restore(alloc, settings, calls)?;
         Ok(Line {
             gateway,
             engine: Engine::new(),
@@ -55,6 +80,7 @@ impl<W: TimedWire + Drop> Line<W> {
                 goes_on: true,
                 report: None,
                 kept: None,
+                refused: None,
                 ended: None,
                 gave_up: None,
                 dialled: None,
@@ -100,6 +126,15 @@ impl<W: TimedWire + Drop> Line<W> {
             }
             Err(fault) => Err(fault),
         }
+    }
+
+    /// From which moment on something is due: a tick before it gives nothing, and the wire has nothing to do. `None`: nothing is
+    /// due until something comes.
+    pub fn next_due(&self) -> Option<u64>
+        ensures { (setup : Setup) (writes : Writing) (trace : List Event) → IsReachedBy setup writes trace self.now.gateway
+            → result ≡ earlier (due_at setup writes trace) self.now.wire_due }
+    {
+        earlier(self.gateway.next_due(), self.wire.next_due())
     }
 
     /// Whether one of the last 100 receives did not fail.
@@ -150,5 +185,35 @@ impl<W: TimedWire + Drop> Line<W> {
         ensures { W.known result.now ≡ self.now.wire }
     {
         &self.wire
+    }
+}
+
+impl<W: TimedWire + Drop> Line<HoldingWire<W>> {
+    /// The end of a turn: the page that it confirmed is kept, where it confirmed one, and then what it gave on the calling leg goes
+    /// out. Where the page was not kept that does not go out, and the leg is mute until the next call begins on it; the page's job
+    /// is sent all the same. The line goes through nothing in it.
+    pub fn settle<K: Keeper<PageToKeep>>(
+        &mut self,
+        alloc: Global,
+        keeper: &mut K,
+    ) -> Result<(), KeepFault>
+        ensures goes { Goes [] self.old self.new }
+        ensures turned { self.new.turned ≡ self.old.turned }
+    {
+        settle_turn(
+            alloc,
+            &self.gateway,
+            self.turned.kept,
+            &mut self.wire,
+            keeper,
+        )
+    }
+
+    /// The end of a turn where pages are not kept: what it gave on the calling leg goes out. The line goes through nothing in it.
+    pub fn let_out(&mut self)
+        ensures goes { Goes [] self.old self.new }
+        ensures turned { self.new.turned ≡ self.old.turned }
+    {
+        let _ = self.wire.release();
     }
 }

@@ -1,12 +1,17 @@
 //! All lines of a server, in forty slots.
-ghost use Rattle.std.specs.Prelude.{◌≡◌, ◌+◌, ◌<◌, List, [], ◌∷◌, ◌++◌, ℕ, IfOk, OnOk, OnErr, IsSome, Some, ◌≤◌, ◌↔◌, MatchOption, length, nat_eq, slice_get, if◌then◌else◌};
-ghost use Rattle.fax_line.specs.Actions.{IsNew, Turns, Rings, call_of};
-ghost use Rattle.fax_line.specs.Deeds.{AreNew, EachGoes, RingsLine, TurnsSlot, Went, most_slots, slot_after, slot_of};
+ghost use Rattle.std.specs.Prelude.{◌≡◌, ◌+◌, ◌<◌, List, [], ◌∷◌, ℕ, Bool, true, false, IsTrue, IfOk, OnOk, OnErr, IsSome, ◌≤◌, ◌↔◌, MatchOption, length, map, nat_eq, slice_index_or, if◌then◌else◌};
+ghost use Rattle.fax_gateway.specs.Restored.{RestoredCall};
+ghost use Rattle.fax_line.specs.Actions.{BeginsWith, IsNew, Rings, Wakes, call_of};
+ghost use Rattle.fax_line.specs.Places.{visit_of};
+ghost use Rattle.fax_line.specs.Deeds.{AreBegun, AreNew, EachGoes, IsAdded, IsLineAt, RingsLine, TurnsSlot, WakesLine, Went, have_turned, most_slots, rests_at, slot_after, slot_of};
 ghost use Rattle.fax_line.specs.Runs.{call_if};
 
 use crate::line::Line;
+use crate::place::Place;
+use crate::settling::PageToKeep;
 use fax_bits::NoMemory;
 use fax_gateway::{Buffer, RingFault};
+use fax_hold::{HoldingWire, KeepFault, Keeper};
 use fax_repeat::TimedWire;
 use std::alloc::{AllocError, Global};
 use std::marker::Model;
@@ -15,10 +20,12 @@ use std::marker::Model;
 pub const SLOTS: usize = 40;
 
 /// The lines of a server. Line i stands in slot i mod 40; a slot has its turn each millisecond, one behind the other, so that
-/// each line is turned each 40 ms. All share one buffer, which is lent to the line whose turn it is.
+/// each line has one each 40 ms: there it is turned, or left at rest where nothing is due on it and it was not woken since it
+/// was turned last. All share one buffer, which is lent to the line whose turn it is.
 #[derive(Drop)]
 pub struct Lines<W: TimedWire + Drop> {
-    lines: Vec<Line<W>>,
+    places: Vec<Place<W>>,
+    alloc: Global,
     buffer: Buffer,
     /// The slot that has the next turn.
     slot: usize,
@@ -30,7 +37,7 @@ impl<W: TimedWire + Drop> Model for Lines<W> {
 
     ghost Value = { LinesValue };
 
-    ghost view = { λ l. record { lines = l.lines.items; slot = l.slot } };
+    ghost view = { λ l. record { lines = l.places.items; slot = l.slot } };
 
     ghost invariant = { λ l. l.slot < most_slots };
 }
@@ -42,7 +49,8 @@ impl<W: TimedWire + Drop> Lines<W> {
     {
         let buffer = Buffer::new(alloc)?;
         Ok(Lines {
-            lines: Vec::new(alloc),
+            places: Vec::new(alloc),
+            alloc,
             buffer,
             slot: 0,
         })
@@ -50,12 +58,14 @@ impl<W: TimedWire + Drop> Lines<W> {
 
     /// Adds a line behind the others. Without memory nothing is changed, and the line is let go.
     pub fn add(&mut self, line: Line<W>) -> Result<(), AllocError>
-        ensures added { OnOk result (self.new.lines ≡ self.old.lines ++ line ∷ []) }
+        ensures added { OnOk result (IsAdded line self.old.lines self.new.lines) }
         ensures err { OnErr result (self.new.lines ≡ self.old.lines) }
         ensures slot { self.new.slot ≡ self.old.slot }
         ensures new { AreNew self.old.lines → IsNew line → AreNew self.new.lines }
+        ensures begun { (calls : List RestoredCall) → AreBegun self.old.lines → BeginsWith calls line → AreBegun self.new.lines }
     {
-        self.lines.push(line)?;
+        let place = Place::new(self.alloc, line)?;
+        self.places.push(place)?;
         Ok(())
     }
 
@@ -63,14 +73,38 @@ impl<W: TimedWire + Drop> Lines<W> {
     pub fn len(&self) -> usize
         ensures { result ≡ length self.now.lines }
     {
-        self.lines.len()
+        self.places.len()
     }
 
     /// Line i, counted from 0.
     pub fn line(&self, i: usize) -> Option<&Line<W>>
-        ensures { MatchOption result (length self.now.lines ≤ i) (λ line. slice_get self.now.lines i ≡ Some line.now) }
+        ensures { MatchOption result (length self.now.lines ≤ i) (λ line. IsLineAt i self.now.lines line.now) }
     {
-        self.lines.get(i)
+        match self.places.get(i) {
+            Some(place) => Some(place.line()),
+            None => None,
+        }
+    }
+
+    /// Whether line i was turned, and not left at rest, in the last turn of its slot. `false`: there is no such line.
+    pub fn has_turned(&self, i: usize) -> bool
+        ensures { result ≡ slice_index_or (have_turned self.now.lines) i false }
+    {
+        match self.places.get(i) {
+            Some(place) => place.has_turned(),
+            None => false,
+        }
+    }
+
+    /// Whether line i would be left at rest if its slot had its turn at this moment: nothing is due on it, and it was not woken
+    /// since it was turned last. `false`: there is no such line.
+    pub fn is_at_rest(&self, i: usize, now: u64) -> bool
+        ensures { result ≡ rests_at now self.now.lines i }
+    {
+        match self.places.get(i) {
+            Some(place) => place.is_at_rest(now),
+            None => false,
+        }
     }
 
     /// The slot that has the next turn.
@@ -81,12 +115,13 @@ impl<W: TimedWire + Drop> Lines<W> {
         self.slot
     }
 
-    /// The turn of the slot that is next. The wires of the slot half a round away are told the time.
+    /// The turn of the slot that is next: its lines are turned, or left at rest. The wires of the slot half a round away are told
+    /// the time, where something is due.
     pub fn turn(&mut self, now: u64)
-        ensures went { Went (TurnsSlot self.old.slot now ∷ []) self.old.lines self.new.lines }
+        ensures went { Went (TurnsSlot self.old.slot now (rests_at now self.old.lines) ∷ []) self.old.lines self.new.lines }
         ensures slot { self.new.slot ≡ slot_after self.old.slot }
     {
-        serve_slot(self.lines.as_mut_slice(), &mut self.buffer, self.slot, now);
+        serve_slot(self.places.as_mut_slice(), &mut self.buffer, self.slot, now);
         self.slot = slot_behind(self.slot);
     }
 
@@ -96,7 +131,39 @@ impl<W: TimedWire + Drop> Lines<W> {
         ensures there { IsSome result ↔ (i < length self.old.lines) }
         ensures slot { self.new.slot ≡ self.old.slot }
     {
-        ring_one(self.lines.as_mut_slice(), i, now)
+        ring_one(self.places.as_mut_slice(), i, now)
+    }
+
+    /// Something may have come for line i, counted from 0, where there is one: it is turned in the next turn of its slot.
+    pub fn wake(&mut self, i: usize)
+        ensures went { Went (WakesLine i ∷ []) self.old.lines self.new.lines }
+        ensures slot { self.new.slot ≡ self.old.slot }
+    {
+        wake_one(self.places.as_mut_slice(), i);
+    }
+}
+
+impl<W: TimedWire + Drop> Lines<HoldingWire<W>> {
+    /// The end of a turn of line i, counted from 0, where there is one: the page that it confirmed is kept, where it confirmed one,
+    /// and then what it gave on the calling leg goes out. Where the page was not kept that does not go out, and the leg is mute
+    /// until the next call begins on it.
+    pub fn settle<K: Keeper<PageToKeep>>(
+        &mut self,
+        i: usize,
+        keeper: &mut K,
+    ) -> Result<(), KeepFault>
+        ensures went { Went [] self.old.lines self.new.lines }
+        ensures slot { self.new.slot ≡ self.old.slot }
+    {
+        settle_one(self.places.as_mut_slice(), self.alloc, i, keeper)
+    }
+
+    /// The end of a turn of line i where pages are not kept: what it gave on the calling leg goes out.
+    pub fn let_out(&mut self, i: usize)
+        ensures went { Went [] self.old.lines self.new.lines }
+        ensures slot { self.new.slot ≡ self.old.slot }
+    {
+        let_out_one(self.places.as_mut_slice(), i);
     }
 }
 
@@ -119,57 +186,95 @@ fn slot_across(slot: usize) -> usize
 
 /// The turn of a slot, and the wires of the slot half a round away are told the time.
 fn serve_slot<W: TimedWire + Drop>(
-    lines: &mut [Line<W>],
+    places: &mut [Place<W>],
     buffer: &mut Buffer,
     slot: usize,
     now: u64,
 )
     requires { slot < most_slots }
-    ensures { Went (TurnsSlot slot now ∷ []) lines.old lines.new }
+    ensures { Went (TurnsSlot slot now (rests_at now places.old) ∷ []) places.old places.new }
 {
-    turn_slot(lines, buffer, slot, now);
-    tell_slot(lines, slot_across(slot), now);
+    turn_slot(places, buffer, slot, now);
+    tell_slot(places, slot_across(slot), now);
 }
 
-/// A turn of each line of a slot.
-fn turn_slot<W: TimedWire + Drop>(lines: &mut [Line<W>], buffer: &mut Buffer, slot: usize, now: u64)
+/// A turn of each line of a slot, but for those that are left at rest.
+fn turn_slot<W: TimedWire + Drop>(
+    places: &mut [Place<W>],
+    buffer: &mut Buffer,
+    slot: usize,
+    now: u64,
+)
     requires { slot < most_slots }
-    ensures { EachGoes (λ i. if nat_eq (slot_of i) slot then Turns now ∷ [] else []) lines.old lines.new }
+    ensures { EachGoes (λ i. if nat_eq (slot_of i) slot then visit_of now (rests_at now places.old i) ∷ [] else []) places.old places.new }
 {
-    let rounds = lines.len() / SLOTS + 1;
+    let rounds = places.len() / SLOTS + 1;
     for round in 0..rounds {
         let i = round * SLOTS + slot;
-        if i < lines.len() {
-            lines[i].turn(buffer, now);
+        if i < places.len() {
+            places[i].visit(buffer, now);
         }
     }
 }
 
-/// The wire of each line of a slot is told the time.
-fn tell_slot<W: TimedWire + Drop>(lines: &mut [Line<W>], slot: usize, now: u64)
+/// The wire of each line of a slot is told the time, where something is due.
+fn tell_slot<W: TimedWire + Drop>(places: &mut [Place<W>], slot: usize, now: u64)
     requires { slot < most_slots }
-    ensures { EachGoes (λ i. []) lines.old lines.new }
+    ensures { EachGoes (λ i. []) places.old places.new }
 {
-    let rounds = lines.len() / SLOTS + 1;
+    let rounds = places.len() / SLOTS + 1;
     for round in 0..rounds {
         let i = round * SLOTS + slot;
-        if i < lines.len() {
-            lines[i].tell_time(now);
+        if i < places.len() {
+            places[i].tell_time(now);
         }
     }
 }
 
 /// A ring of line i, where there is one.
 fn ring_one<W: TimedWire + Drop>(
-    lines: &mut [Line<W>],
+    places: &mut [Place<W>],
     i: usize,
     now: u64,
 ) -> Option<Result<u32, RingFault>>
-    ensures went { EachGoes (λ line. if nat_eq line i then Rings now (call_if result) ∷ [] else []) lines.old lines.new }
-    ensures there { IsSome result ↔ (i < length lines.old) }
+    ensures went { EachGoes (λ line. if nat_eq line i then Rings now (call_if result) ∷ [] else []) places.old places.new }
+    ensures there { IsSome result ↔ (i < length places.old) }
 {
-    if i >= lines.len() {
+    if i >= places.len() {
         return None;
     }
-    Some(lines[i].ring(now))
+    Some(places[i].ring(now))
+}
+
+/// Line i is woken, where there is one.
+fn wake_one<W: TimedWire + Drop>(places: &mut [Place<W>], i: usize)
+    ensures { EachGoes (λ line. if nat_eq line i then Wakes ∷ [] else []) places.old places.new }
+{
+    if i < places.len() {
+        places[i].wake();
+    }
+}
+
+/// The end of a turn of line i, where there is one, whose page goes to this keeper.
+fn settle_one<K: Keeper<PageToKeep>, W: TimedWire + Drop>(
+    places: &mut [Place<HoldingWire<W>>],
+    alloc: Global,
+    i: usize,
+    keeper: &mut K,
+) -> Result<(), KeepFault>
+    ensures { EachGoes (λ line. []) places.old places.new }
+{
+    if i >= places.len() {
+        return Ok(());
+    }
+    places[i].settle(alloc, keeper)
+}
+
+/// The end of a turn of line i, where there is one, and pages are not kept.
+fn let_out_one<W: TimedWire + Drop>(places: &mut [Place<HoldingWire<W>>], i: usize)
+    ensures { EachGoes (λ line. []) places.old places.new }
+{
+    if i < places.len() {
+        places[i].let_out();
+    }
 }

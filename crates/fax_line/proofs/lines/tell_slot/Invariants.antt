@@ -4,4 +4,4 @@ use Rattle.fax_line.proofs.lines.tell_slot.Given as goal
 
 -- no line saw anything
 abbrev pub invariant-loop-round : goal.invariant-loop-round
-invariant-loop-round g l = EachGoes (λ i. []) l.initial.lines l.lines
+invariant-loop-round g l = EachGoes (λ i. []) l.initial.places l.places

@@ -1,24 +1,45 @@
-use Rattle.std.proofs.Common.{◌+◌, ◌*◌, [], ◌∷◌, List, refl, sym, subst, arith}
+use Rattle.std.proofs.Common.{ℕ, Bool, ◌≡◌, ◌+◌, ◌*◌, ◌<◌, length, slice_index_or, [], ◌∷◌, List, refl, sym, subst, arith}
 use Rattle.std.proofs.lemmas.List.{get_or_default}
-use Rattle.fax_line.specs.Actions.{Goes, LineValue, Turns}
-use Rattle.fax_line.specs.Deeds.{EachGoes}
-use Rattle.fax_line.proofs.Stepping.{all_done, done_of, none_done, round_off, round_on}
+use Rattle.fax_line.specs.Actions.{Action}
+use Rattle.fax_line.specs.Deeds.{EachGoes, rests_at}
+use Rattle.fax_line.specs.Places.{GoesInPlace, PlaceValue, visit_of}
+use Rattle.fax_line.proofs.Stepping.{AreUntouched, all_done, done_of, none_done, rests_same, round_off, round_on, untouched_off, untouched_on}
 use Rattle.fax_line.proofs.lines.turn_slot.Goals as goal
-use Rattle.fax_line.proofs.lines.turn_slot.Goals.{then-i-lines, else-i-lines}
+use Rattle.fax_line.proofs.lines.turn_slot.Goals.{then-i-places, else-i-places}
+
+-- what is done with each line of the slot
+abbrev visits : ℕ → List PlaceValue → ℕ → List Action
+visits now olds i = visit_of now (rests_at now olds i) ∷ []
 
 pub loop-round-init : goal.loop-round-init
-loop-round-init g c = none_done (Turns c.args.now ∷ []) c.args.slot c.args.lines.now
+loop-round-init g c = (none_done (visits c.args.now c.args.places.now) c.args.slot c.args.places.now, λ i d far. refl)
 
 pub loop-round-preserved : goal.loop-round-preserved
 loop-round-preserved g c =
+    let now = c.args.now in
+    let olds = c.args.places.now in
+    let places = c.loop-round.places in
     let at = c.loop-round.round * 40 + c.args.slot in
-    elim c.if-i-lines.branch [
-      | then-i-lines w ↦ subst (λ (l : List LineValue). EachGoes (done_of (Turns c.args.now ∷ []) c.args.slot (c.loop-round.round + 1)) c.args.lines.now l) (sym w.lines-is)
-          (round_on (Turns c.args.now ∷ []) c.args.slot c.loop-round.round at c.args.lines.now c.loop-round.lines w.turn.new.self refl c.requires w.if-i-lines.true
-          (λ d. subst (λ (l : LineValue). Goes (Turns c.args.now ∷ []) l w.turn.new.self) (get_or_default c.loop-round.lines at w.index-lines-i.result d w.if-i-lines.true) w.turn.ensures.goes) c.loop-round.invariant)
-      | else-i-lines w ↦ subst (λ (l : List LineValue). EachGoes (done_of (Turns c.args.now ∷ []) c.args.slot (c.loop-round.round + 1)) c.args.lines.now l) (sym w.lines-is)
-          (round_off (Turns c.args.now ∷ []) c.args.slot c.loop-round.round at c.args.lines.now c.loop-round.lines refl c.requires w.if-i-lines.false c.loop-round.invariant)
+    let before = c.loop-round.invariant in
+    elim c.if-i-places.branch [
+      | then-i-places w ↦
+          let old = slice_index_or places at w.index-places-i.result in
+          let new = w.visit.new.self in
+          let is_old : (d : PlaceValue) → old ≡ slice_index_or places at d = λ d. get_or_default places at w.index-places-i.result d w.if-i-places.true in
+          let there : at < length olds = omega (arith, w.if-i-places.true, before.0.as_many) in
+          let rests = rests_same now at c.loop-round.round c.args.slot olds places old refl there before.1 (sym (is_old old)) in
+          let goes : GoesInPlace (visits now olds at) old new = subst (λ (r : Bool). GoesInPlace (visit_of now r ∷ []) old new) rests w.visit.ensures.goes in
+          subst (λ (l : List PlaceValue). EachGoes (done_of (visits now olds) c.args.slot (c.loop-round.round + 1)) olds l × AreUntouched (c.loop-round.round + 1) olds l) (sym w.places-is) (
+            round_on (visits now olds) c.args.slot c.loop-round.round at olds places new refl c.requires w.if-i-places.true
+                (λ d. subst (λ (l : PlaceValue). GoesInPlace (visits now olds at) l new) (is_old d) goes) before.0,
+            untouched_on c.args.slot c.loop-round.round at olds places new refl c.requires before.1,
+          )
+      | else-i-places w ↦
+          subst (λ (l : List PlaceValue). EachGoes (done_of (visits now olds) c.args.slot (c.loop-round.round + 1)) olds l × AreUntouched (c.loop-round.round + 1) olds l) (sym w.places-is) (
+            round_off (visits now olds) c.args.slot c.loop-round.round at olds places refl c.requires w.if-i-places.false before.0,
+            untouched_off c.loop-round.round olds places before.1,
+          )
     ]
 
 pub returns : goal.returns
-returns g c = all_done (Turns c.args.now ∷ []) c.args.slot c.loop-round.round c.args.lines.now c.loop-round.lines (omega arith) c.loop-round.invariant
+returns g c = all_done (visits c.args.now c.args.places.now) c.args.slot c.loop-round.round c.args.places.now c.loop-round.places (omega arith) c.loop-round.invariant.0

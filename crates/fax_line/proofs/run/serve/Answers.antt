@@ -2,11 +2,12 @@ use Rattle.std.proofs.Common.{◌≡◌, ◌+◌, [], ◌∷◌, ◌∙◌, List
 use Rattle.fax_gateway.specs.Wires.{Grows}
 use Rattle.fax_gateway.proofs.DrivingLemmas.{grows_more, grows_none}
 use Rattle.fax_line.specs.declared.order.Order.{Order}
-use Rattle.fax_line.specs.Runs.{Done, Rung, Turned, words_of}
+use Rattle.fax_line.specs.Deeds.{rests_at}
+use Rattle.fax_line.specs.Runs.{Done, Rung, Turned, Woken, words_of}
 use Rattle.fax_line.specs.Words.{Asks}
-use Rattle.fax_line.proofs.Running.{no_order, rising, run_is, rung_on, turned_on, went_none}
+use Rattle.fax_line.proofs.Running.{no_order, rising, run_is, rung_on, settled_on, turned_on, went_none, woken_on}
 use Rattle.fax_line.proofs.run.serve.Goals as goal
-use Rattle.fax_line.proofs.run.serve.Goals.{in-Turn, in-Ring}
+use Rattle.fax_line.proofs.run.serve.Goals.{in-Turn, in-Ring, in-Wake}
 
 pub loop-init : goal.loop-init
 loop-init g c = ([], record { went = went_none c.args.lines.now.lines; slot_is = refl; moment_is = refl; many = refl; words = grows_none (g.P.Pace.words c.args.pace.now) })
@@ -31,10 +32,14 @@ loop-preserved g c =
     elim c.match-order.branch [
       | in-Turn w ↦
           let asked = subst (λ (o : Option Order). Grows (Asks o ∷ []) now_told asked_of) (c.in-Some.is ∙ ap (λ (o : Order). Some o) w.in-Turn.is) c.next.ensures in
-          let more = turned_on first w.in-Turn.now c.loop.latest w.max-latest.result c.loop.counter c.loop.lines.slot w.turn.new.self.slot done olds c.loop.lines.lines w.turn.new.self.lines before now_told asked_of
-          run w.max-latest.ensures w.turn.ensures.went w.turn.ensures.slot asked in (
-            Turned w.in-Turn.now ∷ done,
-            run_is first (c.loop.counter + 1) (Turned w.in-Turn.now ∷ done) olds before w.max-latest.result c.match-order.latest w.turn.new.self c.match-order.lines asked_of (g.P.Pace.words c.match-order.pace)
+          let rests = rests_at w.max-latest.result c.loop.lines.lines in
+          let turned = turned_on first w.in-Turn.now c.loop.latest w.max-latest.result c.loop.counter c.loop.lines.slot w.turn.new.self.slot rests done olds c.loop.lines.lines w.turn.new.self.lines before now_told asked_of
+          run w.max-latest.ensures w.turn.ensures.went w.turn.ensures.slot asked in
+          let told = g.P.Pace.words w.settle.new.self in
+          let more = settled_on first w.max-latest.result (c.loop.counter + 1) w.turn.new.self.slot w.settle.new.lines.slot (Turned w.in-Turn.now rests ∷ done) olds w.turn.new.self.lines w.settle.new.lines.lines
+          before asked_of told turned w.settle.ensures.went w.settle.ensures.slot w.settle.ensures.words in (
+            Turned w.in-Turn.now rests ∷ done,
+            run_is first (c.loop.counter + 1) (Turned w.in-Turn.now rests ∷ done) olds before w.max-latest.result c.match-order.latest w.settle.new.lines c.match-order.lines told (g.P.Pace.words c.match-order.pace)
                 w.latest-is w.lines-is (ap g.P.Pace.words w.pace-is) more,
           )
       | in-Ring w ↦
@@ -45,6 +50,15 @@ loop-preserved g c =
           before now_told asked_of told run w.max-latest-in-Ring.ensures w.ring-answer.ensures.went w.ring-answer.ensures.slot asked w.rung.ensures in (
             d ∷ done,
             run_is first (c.loop.counter + 1) (d ∷ done) olds before w.max-latest-in-Ring.result c.match-order.latest w.ring-answer.new.self c.match-order.lines told (g.P.Pace.words c.match-order.pace)
+                w.latest-is w.lines-is (ap g.P.Pace.words w.pace-is) more,
+          )
+      | in-Wake w ↦
+          let asked = subst (λ (o : Option Order). Grows (Asks o ∷ []) now_told asked_of) (c.in-Some.is ∙ ap (λ (o : Order). Some o) w.in-Wake.is) c.next.ensures in
+          let d : Done = Woken w.in-Wake.line in
+          let more = woken_on first w.in-Wake.line c.loop.latest c.loop.counter c.loop.lines.slot w.wake.new.self.slot done olds c.loop.lines.lines w.wake.new.self.lines
+          before now_told asked_of run w.wake.ensures.went w.wake.ensures.slot asked in (
+            d ∷ done,
+            run_is first (c.loop.counter + 1) (d ∷ done) olds before c.loop.latest c.match-order.latest w.wake.new.self c.match-order.lines asked_of (g.P.Pace.words c.match-order.pace)
                 w.latest-is w.lines-is (ap g.P.Pace.words w.pace-is) more,
           )
     ]

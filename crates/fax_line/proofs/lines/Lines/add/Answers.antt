@@ -1,14 +1,23 @@
-use Rattle.std.proofs.Common.{List, sym, subst}
-use Rattle.fax_line.specs.Actions.{LineValue}
-use Rattle.fax_line.specs.Deeds.{AreNew, LinesValue}
-use Rattle.fax_line.proofs.Stepping.{new_behind}
+use Rattle.std.proofs.Common.{List, [], sym, subst}
+use Rattle.fax_line.specs.Deeds.{AreBegun, AreNew, LinesValue}
+use Rattle.fax_line.specs.Places.{PlaceValue}
+use Rattle.fax_line.proofs.Stepping.{begun_behind, new_behind}
 use Rattle.fax_line.proofs.lines.Lines.add.Goals as goal
 
 pub returns-in_err-push-clause-new : goal.returns-in_err-push-clause-new
 returns-in_err-push-clause-new g c are is =
-    subst (λ (l : List LineValue). AreNew l) (sym c.in_err-push.ensures.items) (subst (λ (v : LinesValue). AreNew v.lines) (sym c.self.view_is) are)
+    subst (λ (l : List PlaceValue). AreNew l) (sym c.in_err-push.ensures.items) (subst (λ (v : LinesValue). AreNew v.lines) (sym c.self.view_is) are)
+
+pub returns-in_err-push-clause-begun : goal.returns-in_err-push-clause-begun
+returns-in_err-push-clause-begun g c calls are is =
+    subst (λ (l : List PlaceValue). AreBegun l) (sym c.in_err-push.ensures.items) (subst (λ (v : LinesValue). AreBegun v.lines) (sym c.self.view_is) are)
 
 pub returns-clause-new : goal.returns-clause-new
 returns-clause-new g c are is =
-    subst (λ (l : List LineValue). AreNew l) (sym c.in_ok-push.ensures.items)
-    (new_behind c.self.inside.lines.items c.args.line (subst (λ (v : LinesValue). AreNew v.lines) (sym c.self.view_is) are) is)
+    subst (λ (l : List PlaceValue). AreNew l) (sym c.in_ok-push.ensures.items)
+    (new_behind c.self.inside.places.items c.in_ok-place.place (subst (λ (v : LinesValue). AreNew v.lines) (sym c.self.view_is) are) (c.in_ok-place.ensures.begins [] is))
+
+pub returns-clause-begun : goal.returns-clause-begun
+returns-clause-begun g c calls are is =
+    subst (λ (l : List PlaceValue). AreBegun l) (sym c.in_ok-push.ensures.items)
+    (begun_behind c.self.inside.places.items c.in_ok-place.place (subst (λ (v : LinesValue). AreBegun v.lines) (sym c.self.view_is) are) (calls, c.in_ok-place.ensures.begins calls is))

@@ -1,0 +1,113 @@
+-- The clock of a line goes no further than the moments of what is done with it.
+use Rattle.std.proofs.Common.{◌≡◌, ℕ, ◌≤◌, max, false, List, [], ◌∷◌, ◌++◌, Option, Some, None, refl, sym, ◌∙◌, ap, subst, append_assoc, arith, inl, inr}
+use Rattle.std.specs.List.{All}
+use Rattle.std.proofs.lemmas.Grind.{flat_map-append}
+use Rattle.std.proofs.lemmas.List.Elements.{All-head, All-tail}
+use Rattle.fax_timers.specs.Moments.{is_due}
+use Rattle.fax_call.specs.Writings.{Writing}
+use Rattle.fax_gateway.specs.declared.side.Side.{Side}
+use Rattle.fax_gateway.specs.declared.side.Side.TheVariants as side
+use Rattle.fax_gateway.specs.Driving.{Accepts, AreReceives, BringsNone, Comes, Entry, FailsToReceive, IsSent, IsTick, IsTurn, ReceivesNothing, RefusesDatagram, RefusesRing, RefusesTick, Sends, events, events_in}
+use Rattle.fax_gateway.specs.Due.{due_at}
+use Rattle.fax_gateway.specs.Events.{Event, FromCalled, FromCalling, Ring, Tick, clock}
+use Rattle.fax_gateway.specs.Setups.{Setup}
+use Rattle.fax_gateway.proofs.DrivingLemmas.{sends_no_event}
+use Rattle.fax_line.specs.Actions.{Action, AreSteps, IsStep, Rests, Rings, Turns, Wakes}
+use Rattle.fax_line.specs.Laws.{RestsMissNothing, RiseTo}
+
+-- behind these entries the clock stands at this moment at most, or where it stood
+abbrev Keeps : ℕ → List Entry → Type 0
+Keeps now log = (trace : List Event) → clock (events log ++ trace) ≤ max now (clock trace)
+
+none_keeps : (now : ℕ) (log : List Entry) → events log ≡ [] → Keeps now log
+none_keeps now log is trace = subst (λ (l : List Event). clock (l ++ trace) ≤ max now (clock trace)) (sym is) (omega arith)
+
+both_keep : (now : ℕ) (newer older : List Entry) → Keeps now newer → Keeps now older → Keeps now (newer ++ older)
+both_keep now newer older first second trace =
+    let same : events newer ++ (events older ++ trace) ≡ events (newer ++ older) ++ trace =
+    sym (append_assoc (events newer) (events older) trace) ∙ ap (λ (l : List Event). l ++ trace) (sym (flat_map-append events_in newer older)) in
+    let a = first (events older ++ trace) in
+    let b = second trace in
+    subst (λ (l : List Event). clock l ≤ max now (clock trace)) same (omega (arith, a, b))
+
+come_keeps : (at : Side) (now : ℕ) (e : Entry) (trace : List Event) → Comes at now e → clock (events_in e ++ trace) ≤ max now (clock trace)
+come_keeps at now (Accepts (Ring moment number)) trace h = absurd h
+come_keeps at now (Accepts (FromCalling octets moment decided read)) trace h = let is : moment ≡ now = h.1 in omega (arith, is)
+come_keeps at now (Accepts (FromCalled octets moment decided)) trace h = let is : moment ≡ now = h.1 in omega (arith, is)
+come_keeps at now (Accepts (Tick moment given)) trace h = absurd h
+come_keeps at now (RefusesRing fault) trace h = absurd h
+come_keeps at now (RefusesDatagram on octets) trace h = omega arith
+come_keeps at now (RefusesTick moment) trace h = absurd h
+come_keeps at now (ReceivesNothing on) trace h = absurd h
+come_keeps at now (FailsToReceive on) trace h = absurd h
+come_keeps at now (Sends on octets fails) trace h = absurd h
+
+all_keep : (at : Side) (now : ℕ) (log : List Entry) → All (Comes at now) log → Keeps now log
+all_keep at now [] all trace = omega arith
+all_keep at now (e ∷ log) all trace =
+    let a = come_keeps at now e (events log ++ trace) (All-head (Comes at now) e log all) in
+    let b = all_keep at now log (All-tail (Comes at now) e log all) trace in
+    subst (λ (l : List Event). clock l ≤ max now (clock trace)) (sym (append_assoc (events_in e) (events log) trace)) (omega (arith, a, b))
+
+brings_no_event : (at : Side) (e : Entry) → BringsNone at e → events (e ∷ []) ≡ []
+brings_no_event at e (inl is) = ap (λ (x : Entry). events (x ∷ [])) is
+brings_no_event at e (inr is) = ap (λ (x : Entry). events (x ∷ [])) is
+
+receives_keep : (at : Side) (now : ℕ) (log : List Entry) → AreReceives at now log → Keeps now log
+receives_keep at now log (inl (each, many)) = all_keep at now log each
+receives_keep at now log (inr (came, last, is, each, low, none)) =
+    subst (λ (l : List Entry). Keeps now l) (sym is) (both_keep now (last ∷ []) came (none_keeps now (last ∷ []) (brings_no_event at last none)) (all_keep at now came each))
+
+tick_keeps : (now : ℕ) (log : List Entry) → IsTick now log → Keeps now log
+tick_keeps now log (inl (given, calling, called, first, second, is)) =
+    let tick : List Entry = Accepts (Tick now given) ∷ [] in
+    let ticks : Keeps now tick = λ trace. omega arith in
+    subst (λ (l : List Entry). Keeps now l) (sym is)
+    (both_keep now called (calling ++ tick) (none_keeps now called (sends_no_event side.Called given.on_called called second))
+    (both_keep now calling tick (none_keeps now calling (sends_no_event side.Calling given.on_calling calling first)) ticks))
+tick_keeps now log (inr is) = none_keeps now log (ap events is)
+
+turn_keeps : (now : ℕ) (log : List Entry) → IsTurn now log → Keeps now log
+turn_keeps now log turn =
+    subst (λ (l : List Entry). Keeps now l) (sym turn.log_is)
+    (both_keep now turn.tick (turn.called ++ turn.calling) (tick_keeps now turn.tick turn.ticks)
+    (both_keep now turn.called turn.calling (receives_keep side.Called now turn.called turn.on_called) (receives_keep side.Calling now turn.calling turn.on_calling)))
+
+ring_keeps : (now : ℕ) (call : Option ℕ) (setup : Setup) (writes : Writing) (trace : List Event) (log : List Entry) → IsStep setup writes trace (Rings now call) log → Keeps now log
+ring_keeps now (Some number) setup writes trace log is = subst (λ (l : List Entry). Keeps now l) (sym is) (λ t. omega arith)
+ring_keeps now None setup writes trace log (fault, is) = none_keeps now log (ap events is)
+
+-- one step more
+step_low : (now latest : ℕ) (log newer older : List Entry) (trace : List Event) → log ≡ newer ++ older → Keeps now newer → now ≤ latest
+    → clock (events older ++ trace) ≤ max now (clock trace) → clock (events log ++ trace) ≤ max latest (clock trace)
+step_low now latest log newer older trace is keeps low before =
+    let behind : clock (events newer ++ (events older ++ trace)) ≤ max latest (clock trace) = let a = keeps (events older ++ trace) in omega (arith, a, before, low) in
+    let same : events newer ++ (events older ++ trace) ≡ events log ++ trace =
+    sym (append_assoc (events newer) (events older) trace) ∙ ap (λ (l : List Event). l ++ trace) (sym (flat_map-append events_in newer older)) ∙ ap (λ (l : List Entry). events l ++ trace) (sym is) in
+    subst (λ (l : List Event). clock l ≤ max latest (clock trace)) same behind
+
+clock_low : (setup : Setup) (writes : Writing) (actions : List Action) (latest : ℕ) (trace : List Event) (log : List Entry)
+    → AreSteps setup writes trace actions log → RiseTo actions latest → clock (events log ++ trace) ≤ max latest (clock trace)
+clock_low setup writes [] latest trace log is rise = none_keeps latest log (ap events is) trace
+clock_low setup writes (Turns now ∷ earlier) latest trace log (newer, older, is, step, steps) rise =
+    step_low now latest log newer older trace is (turn_keeps now newer step) rise.0 (clock_low setup writes earlier now trace older steps rise.1)
+clock_low setup writes (Rests now ∷ earlier) latest trace log (newer, older, is, step, steps) rise =
+    step_low now latest log newer older trace is (none_keeps now newer (ap events step.0)) rise.0 (clock_low setup writes earlier now trace older steps rise.1)
+clock_low setup writes (Rings now call ∷ earlier) latest trace log (newer, older, is, step, steps) rise =
+    step_low now latest log newer older trace is (ring_keeps now call setup writes (events older ++ trace) newer step) rise.0 (clock_low setup writes earlier now trace older steps rise.1)
+clock_low setup writes (Wakes ∷ earlier) latest trace log (newer, older, is, step, steps) rise =
+    step_low latest latest log newer older trace is (none_keeps latest newer (ap events step)) (omega arith) (clock_low setup writes earlier latest trace older steps rise)
+
+events_nil : (l : List Event) → l ++ [] ≡ l
+events_nil [] = refl
+events_nil (x ∷ xs) = ap (λ (l : List Event). x ∷ l) (events_nil xs)
+
+-- so what is due lies behind what the clock reads
+pub miss_nothing : RestsMissNothing
+miss_nothing setup writes earlier now log (newer, older, is, step, steps) rise =
+    let none : newer ≡ [] = step.0 in
+    let same : events older ≡ events log = ap events (sym (is ∙ ap (λ (l : List Entry). l ++ older) none)) in
+    let low : clock (events older) ≤ now = let a = subst (λ (l : List Event). clock l ≤ max now 0) (events_nil (events older)) (clock_low setup writes earlier now [] older steps rise) in omega (arith, a) in
+    let reads : now ≡ max now (clock (events older)) = omega (arith, low) in
+    subst (λ (l : List Event). is_due (due_at setup writes l) (max now (clock l)) ≡ false) same
+    (subst (λ (m : ℕ). is_due (due_at setup writes (events older)) m ≡ false) reads (subst (λ (l : List Event). is_due (due_at setup writes l) now ≡ false) (events_nil (events older)) step.1))

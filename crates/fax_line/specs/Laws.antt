@@ -1,0 +1,25 @@
+-- A law of what a line goes through. Lists have the newest first. (This project's profile.)
+use Rattle.std.specs.Prelude.{◌≡◌, ℕ, ◌≤◌, max, false, List, [], ◌∷◌, Option}
+use Rattle.fax_timers.specs.Moments.{is_due}
+use Rattle.fax_call.specs.Writings.{Writing}
+use Rattle.fax_gateway.specs.Driving.{Entry, events}
+use Rattle.fax_gateway.specs.Due.{due_at}
+use Rattle.fax_gateway.specs.Events.{Event, clock}
+use Rattle.fax_gateway.specs.Setups.{Setup}
+use Rattle.fax_line.specs.Actions.{Action, AreSteps, Rests, Rings, Turns, Wakes}
+
+-- the moments of what is done with a line never go back, up to this one
+abbrev pub RiseTo : List Action → ℕ → Type 0
+RiseTo [] latest = Unit {0}
+RiseTo (Turns now ∷ earlier) latest = (now ≤ latest) × RiseTo earlier now
+RiseTo (Rests now ∷ earlier) latest = (now ≤ latest) × RiseTo earlier now
+RiseTo (Rings now call ∷ earlier) latest = (now ≤ latest) × RiseTo earlier now
+RiseTo (Wakes ∷ earlier) latest = RiseTo earlier latest
+
+-- Where a new line is left at rest, a tick of its gateway would not have been due by the latest moment that it has read: it
+-- would have given nothing, and changed the clock alone.
+abbrev pub RestsMissNothing : Type 0
+RestsMissNothing =
+    (setup : Setup) (writes : Writing) (earlier : List Action) (now : ℕ) (log : List Entry)
+    → AreSteps setup writes [] (Rests now ∷ earlier) log → RiseTo earlier now
+    → is_due (due_at setup writes (events log)) (max now (clock (events log))) ≡ false

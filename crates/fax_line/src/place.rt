@@ -1,0 +1,156 @@
+//! A line in its slot.
+ghost use Rattle.std.specs.Prelude.{◌≡◌, List, [], ◌∷◌, not, true, false, IfOk, OnErr};
+ghost use Rattle.fax_timers.specs.Moments.{is_due};
+ghost use Rattle.fax_gateway.specs.Restored.{RestoredCall};
+ghost use Rattle.fax_line.specs.Actions.{BeginsWith, Rings, Wakes, call_of};
+ghost use Rattle.fax_line.specs.Places.{BeginsInPlace, GoesInPlace, is_at_rest, visit_of};
+
+use crate::line::Line;
+use crate::settling::PageToKeep;
+use fax_gateway::{Buffer, RingFault};
+use fax_hold::{HoldingWire, KeepFault, Keeper};
+use fax_repeat::TimedWire;
+use std::alloc::{AllocError, Global};
+use std::marker::Model;
+
+/// A line in its slot, and when it is left at rest. What is looked at in each turn stands here, so that a line at rest costs
+/// a look at a few octets; the line itself lies elsewhere.
+#[derive(Drop)]
+pub(crate) struct Place<W: TimedWire + Drop> {
+    /// From which moment on something is due on it. `None`: nothing is until something comes.
+    due: Option<u64>,
+    /// Whether it was woken, and not turned since.
+    is_awake: bool,
+    /// Whether it was turned in the last turn of its slot.
+    has_turned: bool,
+    line: Box<Line<W>>,
+}
+
+impl<W: TimedWire + Drop> Model for Place<W> {
+    ghost use Rattle.fax_line.specs.Places.{IsDueOn, PlaceValue};
+
+    ghost Value = { PlaceValue };
+
+    ghost view = { λ p. record { line = p.line.value; due = p.due; awake = p.is_awake; turned = p.has_turned } };
+
+    ghost invariant = { λ p. IsDueOn p.due p.line.value };
+}
+
+impl<W: TimedWire + Drop> Place<W> {
+    /// The place of a line, which is turned in the first turn of its slot. It takes memory for the line.
+    pub fn new(alloc: Global, line: Line<W>) -> Result<Self, AllocError>
+        ensures line { IfOk result (λ place. place.line ≡ line) }
+        ensures awake { IfOk result (λ place. place.awake ≡ true) }
+        ensures begins { (calls : List RestoredCall) → BeginsWith calls line → IfOk result (λ place. BeginsInPlace calls place) }
+    {
+        let due = line.next_due();
+        let line = Box::new(alloc, line)?;
+        Ok(Place {
+            due,
+            is_awake: true,
+            has_turned: false,
+            line,
+        })
+    }
+
+    /// The line.
+    pub fn line(&self) -> &Line<W>
+        ensures { result.now ≡ self.now.line }
+    {
+        &self.line
+    }
+
+    /// Whether it was turned in the last turn of its slot.
+    pub fn has_turned(&self) -> bool
+        ensures { result ≡ self.now.turned }
+    {
+        self.has_turned
+    }
+
+    /// Whether nothing is due on it at this moment, and nothing has woken it.
+    pub fn is_at_rest(&self, now: u64) -> bool
+        ensures { result ≡ is_at_rest now self.now }
+    {
+        !self.is_awake && !has_come(self.due, now)
+    }
+
+    /// The turn of its slot: it is turned, with this buffer, or left at rest.
+    pub fn visit(&mut self, buffer: &mut Buffer, now: u64)
+        ensures goes { GoesInPlace (visit_of now (is_at_rest now self.old) ∷ []) self.old self.new }
+        ensures turned { self.new.turned ≡ not (is_at_rest now self.old) }
+        ensures rests { is_at_rest now self.old ≡ true → self.new.line ≡ self.old.line }
+    {
+        if self.is_at_rest(now) {
+            self.has_turned = false;
+        } else {
+            self.line.turn(buffer, now);
+            self.due = self.line.next_due();
+            self.is_awake = false;
+            self.has_turned = true;
+        }
+    }
+
+    /// Its wire is told the time, between two turns, where something is due.
+    pub fn tell_time(&mut self, now: u64)
+        ensures goes { GoesInPlace [] self.old self.new }
+        ensures turned { self.new.turned ≡ self.old.turned }
+    {
+        if has_come(self.due, now) {
+            self.line.tell_time(now);
+            self.due = self.line.next_due();
+        }
+    }
+
+    /// A ring.
+    pub fn ring(&mut self, now: u64) -> Result<u32, RingFault>
+        ensures goes { GoesInPlace (Rings now (call_of result) ∷ []) self.old self.new }
+        ensures turned { self.new.turned ≡ self.old.turned }
+    {
+        let answer = self.line.ring(now);
+        self.due = self.line.next_due();
+        answer
+    }
+
+    /// Something may have come over its wire.
+    pub fn wake(&mut self)
+        ensures goes { GoesInPlace (Wakes ∷ []) self.old self.new }
+        ensures turned { self.new.turned ≡ self.old.turned }
+    {
+        self.is_awake = true;
+    }
+}
+
+impl<W: TimedWire + Drop> Place<HoldingWire<W>> {
+    /// The end of a turn of the line, whose page goes to this keeper.
+    pub fn settle<K: Keeper<PageToKeep>>(
+        &mut self,
+        alloc: Global,
+        keeper: &mut K,
+    ) -> Result<(), KeepFault>
+        ensures goes { GoesInPlace [] self.old self.new }
+        ensures turned { self.new.turned ≡ self.old.turned }
+    {
+        let answer = self.line.settle(alloc, keeper);
+        self.due = self.line.next_due();
+        answer
+    }
+
+    /// The end of a turn of the line, where pages are not kept.
+    pub fn let_out(&mut self)
+        ensures goes { GoesInPlace [] self.old self.new }
+        ensures turned { self.new.turned ≡ self.old.turned }
+    {
+        self.line.let_out();
+        self.due = self.line.next_due();
+    }
+}
+
+/// Whether a moment has come, where there is one.
+fn has_come(moment: Option<u64>, now: u64) -> bool
+    ensures { result ≡ is_due moment now }
+{
+    match moment {
+        None => false,
+        Some(moment) => moment <= now,
+    }
+}
