@@ -37,6 +37,15 @@ wire_counts counters =
     ++ count_text (codes "faxgate_turns_late_total") Counter counters.turns_late
     ++ count_text (codes "faxgate_skipped_milliseconds_total") Counter counters.skipped_ms
 
+unfoldable pub spool_counts : Counters → List ℕ
+spool_counts counters =
+    count_text (codes "faxgate_puts_total") Counter counters.puts
+    ++ count_text (codes "faxgate_put_failures_total") Counter counters.put_failures
+    ++ count_text (codes "faxgate_put_microseconds_total") Counter counters.put_micros
+    ++ count_text (codes "faxgate_pages_kept") Gauge counters.pages_kept
+    ++ count_text (codes "faxgate_pages_set_aside_total") Counter counters.pages_set_aside
+    ++ count_text (codes "faxgate_records_damaged_total") Counter counters.records_damaged
+
 -- all counts, and the mark of the end
 abbrev pub metrics_text : Counters → List ℕ
-metrics_text counters = call_counts counters ++ job_counts counters ++ wire_counts counters ++ codes "# EOF\n"
+metrics_text counters = call_counts counters ++ job_counts counters ++ wire_counts counters ++ spool_counts counters ++ codes "# EOF\n"

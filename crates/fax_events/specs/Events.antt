@@ -9,13 +9,17 @@ use Rattle.fax_jobs.specs.Outcomes.{outcome_name}
 use Rattle.fax_jobs.specs.ReportTexts.{resolution_name}
 use Rattle.fax_pagestore.specs.declared.fault.PageFault.{PageFault}
 use Rattle.fax_pagestore.specs.declared.fault.PageFault.TheVariants as page
+use Rattle.fax_pagestore.specs.FaultNumbers.{page_fault_number}
+use Rattle.fax_answer.specs.declared.refusal.Refusal.{Refusal}
+use Rattle.fax_answer.specs.declared.refusal.Refusal.TheVariants.{Fault, NotWhole, GapBehind, SeveralImages, NoImage, Untrained}
 use Rattle.fax_control.specs.Words.{leg_text}
 use Rattle.fax_events.specs.declared.event.Direction.{Direction}
 use Rattle.fax_events.specs.declared.event.Direction.TheVariants.{Receives, Sends}
 use Rattle.fax_events.specs.declared.event.Ending.{Ending}
 use Rattle.fax_events.specs.declared.event.Ending.TheVariants.{Done, HungUp, GivenUp, NotKept}
 use Rattle.fax_events.specs.declared.event.What.{What}
-use Rattle.fax_events.specs.declared.event.What.TheVariants.{Rung, Page, RefusedPage, Ended, Dial, Job, Wire, Late}
+use Rattle.fax_events.specs.declared.event.What.TheVariants.{Rung, Page, RefusedPage, Ended, Dial, Job, Wire, Late, SetAside}
+use Rattle.fax_events.specs.declared.event.What.TheVariants as what
 use Rattle.fax_events.specs.declared.event.Event.{Event}
 
 abbrev pub direction_name : Direction → List ℕ
@@ -36,15 +40,25 @@ fault_name page.Empty = codes "Empty"
 fault_name page.TooManyRows = codes "TooManyRows"
 fault_name page.NoMemory = codes "NoMemory"
 
+abbrev pub refusal_name : Refusal → List ℕ
+refusal_name (Fault fault) = fault_name fault
+refusal_name NotWhole = codes "NotWhole"
+refusal_name GapBehind = codes "GapBehind"
+refusal_name SeveralImages = codes "SeveralImages"
+refusal_name NoImage = codes "NoImage"
+refusal_name Untrained = codes "Untrained"
+
 abbrev pub event_name : What → List ℕ
 event_name (Rung call tag) = codes "rung"
 event_name (Page kept) = codes "page"
-event_name (RefusedPage call fault) = codes "refused_page"
+event_name (RefusedPage call tag why) = codes "refused_page"
 event_name (Ended call how) = codes "ended"
 event_name (Dial call tag) = codes "dial"
 event_name (Job report tag) = codes "job"
 event_name (Wire leg direction count) = codes "wire"
 event_name (Late span) = codes "late"
+event_name (what.NotKept call tag) = codes "not_kept"
+event_name (SetAside call n) = codes "set_aside"
 
 -- ---- members of an object
 
@@ -65,10 +79,21 @@ tag_member tag = key (codes "tag") ∷ tag_value tag ∷ []
 abbrev pub format_members : Format → List Token
 format_members format = number_member (codes "width") (elements_of format.width) ++ text_member (codes "resolution") (resolution_name format.fine)
 
--- what is wrong with a page, and behind how many rows where it is a line
+-- the number of a fault of a page, and behind how many rows it is met where it is a line
+abbrev pub row_members : PageFault → List Token
+row_members (page.BadLine n) = number_member (codes "row") n
+row_members fault = []
+
 abbrev pub fault_members : PageFault → List Token
-fault_members (page.BadLine n) = text_member (codes "fault") (codes "BadLine") ++ number_member (codes "row") n
-fault_members fault = text_member (codes "fault") (fault_name fault)
+fault_members fault = number_member (codes "fault_number") (page_fault_number fault) ++ row_members fault
+
+-- why a page is refused
+abbrev pub detail_members : Refusal → List Token
+detail_members (Fault fault) = fault_members fault
+detail_members why = []
+
+abbrev pub refusal_members : Refusal → List Token
+refusal_members why = text_member (codes "fault") (refusal_name why) ++ detail_members why
 
 -- ---- the members of each event
 
@@ -76,7 +101,7 @@ abbrev pub what_members : What → List Token
 what_members (Rung call tag) = number_member (codes "call") call ++ tag_member (option_map (λ text. text.now) tag)
 what_members (Page kept) =
     number_member (codes "call") kept.call ++ (number_member (codes "number") kept.number ++ (format_members kept.format ++ number_member (codes "rows") kept.rows))
-what_members (RefusedPage call fault) = number_member (codes "call") call ++ fault_members fault
+what_members (RefusedPage call tag why) = number_member (codes "call") call ++ (tag_member (option_map (λ text. text.now) tag) ++ refusal_members why)
 what_members (Ended call how) = number_member (codes "call") call ++ text_member (codes "how") (ending_name how)
 what_members (Dial call tag) = number_member (codes "call") call ++ tag_member (option_map (λ text. text.now) tag)
 what_members (Job report tag) =
@@ -85,6 +110,8 @@ what_members (Job report tag) =
 what_members (Wire leg direction count) =
     text_member (codes "leg") (leg_text leg) ++ (text_member (codes "direction") (direction_name direction) ++ number_member (codes "failures") count)
 what_members (Late span) = number_member (codes "ms") span
+what_members (what.NotKept call tag) = number_member (codes "call") call ++ tag_member (option_map (λ text. text.now) tag)
+what_members (SetAside call n) = number_member (codes "call") call ++ number_member (codes "number") n
 
 -- an event as an object: its name, its line, its moment, and what it tells
 abbrev pub event_tokens : Event → List Token

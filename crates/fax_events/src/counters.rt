@@ -31,6 +31,17 @@ pub struct Counters {
     pub turns_late: u64,
     /// Moments by which lines were set on, where turns came more than 1 s late, in milliseconds.
     pub skipped_ms: u64,
+    /// Pages that were handed to the spool.
+    pub puts: u64,
+    /// Those of them that could not be kept.
+    pub put_failures: u64,
+    /// How long all of that took, in microseconds.
+    pub put_micros: u64,
+    /// Pages that wait on the disk now.
+    pub pages_kept: u64,
+    /// Pages of earlier lives that mean none, and records that are damaged, as the start found them.
+    pub pages_set_aside: u64,
+    pub records_damaged: u64,
     /// Lines of events that readers lost.
     pub events_lost: u64,
 }

@@ -2,9 +2,10 @@
 ghost use Rattle.std.specs.Prelude.{◌≡◌};
 ghost use Rattle.fax_events.specs.Events.{direction_name, ending_name, event_name};
 
+use fax_answer::Refusal;
 use fax_control::Leg;
 use fax_jobs::Report;
-use fax_pagestore::{Format, PageFault};
+use fax_pagestore::Format;
 
 /// Which way datagrams go.
 #[derive(Clone, Copy, PartialEq, Eq, Debug)]
@@ -34,7 +35,7 @@ pub enum Ending {
     HungUp,
     /// The gateway gave the call up: the peer said nothing for too long, or nothing that it could take.
     GivenUp,
-    /// No page of the call could be kept.
+    /// A page of the call could not be kept, so that nothing was said behind it.
     NotKept,
 }
 
@@ -71,8 +72,8 @@ pub enum What<'a> {
     Rung(u32, Option<&'a str>),
     /// A page was confirmed.
     Page(PageKept),
-    /// A page was refused (RTN): the number of its call, and what is wrong with it.
-    RefusedPage(u32, PageFault),
+    /// A page was refused (RTN): the number of its call, the tag of that, and why.
+    RefusedPage(u32, Option<&'a str>, Refusal),
     /// A call of this number ended.
     Ended(u32, Ending),
     /// The call of a job begins: the number of the call that its pages came in, and the tag of that.
@@ -83,6 +84,12 @@ pub enum What<'a> {
     Wire(Leg, Direction, u64),
     /// The line was turned so many milliseconds late.
     Late(u64),
+    /// A page was confirmed and could not be kept on the disk: the number of its call, and the tag of that. Nothing is said on
+    /// the call's leg any more.
+    NotKept(u32, Option<&'a str>),
+    /// A page that was kept in an earlier life means none, and is not sent: the number of its call there, and its own in the call,
+    /// from 1 on.
+    SetAside(u32, u32),
 }
 
 impl<'a> What<'a> {
@@ -93,12 +100,14 @@ impl<'a> What<'a> {
         match self {
             What::Rung(_, _) => "rung",
             What::Page(_) => "page",
-            What::RefusedPage(_, _) => "refused_page",
+            What::RefusedPage(_, _, _) => "refused_page",
             What::Ended(_, _) => "ended",
             What::Dial(_, _) => "dial",
             What::Job(_, _) => "job",
             What::Wire(_, _, _) => "wire",
             What::Late(_) => "late",
+            What::NotKept(_, _) => "not_kept",
+            What::SetAside(_, _) => "set_aside",
         }
     }
 }

@@ -1,6 +1,6 @@
 //! Counts in the text format of Prometheus.
 ghost use Rattle.std.specs.Prelude.{◌≡◌, ◌++◌, IfOk, OnOk, string_bytes};
-ghost use Rattle.fax_events.specs.Counts.{call_counts, count_text, job_counts, kind_name, metrics_text, wire_counts};
+ghost use Rattle.fax_events.specs.Counts.{call_counts, count_text, job_counts, kind_name, metrics_text, spool_counts, wire_counts};
 
 use crate::counters::Counters;
 use fax_bits::NoMemory;
@@ -33,6 +33,7 @@ pub fn write_metrics(alloc: Global, counters: &Counters) -> Result<String, NoMem
     put_call_counts(&mut text, counters)?;
     put_job_counts(&mut text, counters)?;
     put_wire_counts(&mut text, counters)?;
+    put_spool_counts(&mut text, counters)?;
     text.push_str("# EOF\n")?;
     Ok(text)
 }
@@ -140,5 +141,37 @@ fn put_wire_counts(text: &mut String, counters: &Counters) -> Result<(), AllocEr
         "faxgate_skipped_milliseconds_total",
         Kind::Counter,
         counters.skipped_ms,
+    )
+}
+
+/// Writes the counts of pages that are kept on a disk.
+fn put_spool_counts(text: &mut String, counters: &Counters) -> Result<(), AllocError>
+    ensures { OnOk result (string_bytes text.new ≡ string_bytes text.old ++ spool_counts counters.now) }
+{
+    put(text, "faxgate_puts_total", Kind::Counter, counters.puts)?;
+    put(
+        text,
+        "faxgate_put_failures_total",
+        Kind::Counter,
+        counters.put_failures,
+    )?;
+    put(
+        text,
+        "faxgate_put_microseconds_total",
+        Kind::Counter,
+        counters.put_micros,
+    )?;
+    put(text, "faxgate_pages_kept", Kind::Gauge, counters.pages_kept)?;
+    put(
+        text,
+        "faxgate_pages_set_aside_total",
+        Kind::Counter,
+        counters.pages_set_aside,
+    )?;
+    put(
+        text,
+        "faxgate_records_damaged_total",
+        Kind::Counter,
+        counters.records_damaged,
     )
 }

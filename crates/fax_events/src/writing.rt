@@ -1,9 +1,10 @@
 //! From an event to its line.
 ghost use Rattle.std.specs.Prelude.{◌≡◌, option_map, IfOk, OnOk};
 ghost use Rattle.fax_jobs.specs.ReportTexts.{resolution_name};
-ghost use Rattle.fax_events.specs.Events.{Adds, event_line, fault_members, fault_name, format_members, number_member, tag_member, text_member, what_members};
+ghost use Rattle.fax_events.specs.Events.{Adds, detail_members, event_line, fault_members, fault_name, format_members, refusal_members, refusal_name, row_members, number_member, tag_member, text_member, what_members};
 
 use crate::event::{Direction, Event, PageKept, What};
+use fax_answer::Refusal;
 use fax_bits::NoMemory;
 use fax_control::Leg;
 use fax_jobs::Report;
@@ -83,15 +84,68 @@ fn name_of(fault: PageFault) -> &'static str
     }
 }
 
-/// Writes what is wrong with a page.
-fn put_fault(writer: &mut Writer, fault: PageFault) -> Result<(), AllocError>
-    ensures { OnOk result (Adds writer.old writer.new (fault_members fault)) }
+/// The name of a reason for which a page is refused.
+fn name_of_refusal(why: Refusal) -> &'static str
+    ensures { result.now ≡ refusal_name why }
 {
-    put_text(writer, "fault", name_of(fault))?;
+    match why {
+        Refusal::Fault(fault) => name_of(fault),
+        Refusal::NotWhole => "NotWhole",
+        Refusal::GapBehind => "GapBehind",
+        Refusal::SeveralImages => "SeveralImages",
+        Refusal::NoImage => "NoImage",
+        Refusal::Untrained => "Untrained",
+    }
+}
+
+/// Writes behind how many rows a fault is met, where it is a line.
+fn put_row(writer: &mut Writer, fault: PageFault) -> Result<(), AllocError>
+    ensures { OnOk result (Adds writer.old writer.new (row_members fault)) }
+{
     match fault {
         PageFault::BadLine(row) => put_number(writer, "row", u64::from(row)),
         _ => Ok(()),
     }
+}
+
+/// Writes the number of a fault, and its row.
+fn put_fault(writer: &mut Writer, fault: PageFault) -> Result<(), AllocError>
+    ensures { OnOk result (Adds writer.old writer.new (fault_members fault)) }
+{
+    put_number(writer, "fault_number", u64::from(fault.number()))?;
+    put_row(writer, fault)
+}
+
+/// Writes more of a reason, where it is a fault.
+fn put_detail(writer: &mut Writer, why: Refusal) -> Result<(), AllocError>
+    ensures { OnOk result (Adds writer.old writer.new (detail_members why)) }
+{
+    match why {
+        Refusal::Fault(fault) => put_fault(writer, fault),
+        _ => Ok(()),
+    }
+}
+
+/// Writes why a page is refused.
+fn put_refusal(writer: &mut Writer, why: Refusal) -> Result<(), AllocError>
+    ensures { OnOk result (Adds writer.old writer.new (refusal_members why)) }
+{
+    put_text(writer, "fault", name_of_refusal(why))?;
+    put_detail(writer, why)
+}
+
+/// Writes what is told of a page that was refused.
+fn put_refused_page(
+    writer: &mut Writer,
+    call: u32,
+    tag: Option<&str>,
+    why: Refusal,
+) -> Result<(), AllocError>
+    ensures { OnOk result (Adds writer.old writer.new (what_members (What.RefusedPage call tag.entry why))) }
+{
+    put_number(writer, "call", u64::from(call))?;
+    put_tag(writer, tag)?;
+    put_refusal(writer, why)
 }
 
 /// Writes what is told of a page that was confirmed.
@@ -135,15 +189,12 @@ fn put_what(writer: &mut Writer, what: &What<'_>) -> Result<(), AllocError>
     ensures { OnOk result (Adds writer.old writer.new (what_members what.now)) }
 {
     match *what {
-        What::Rung(call, tag) | What::Dial(call, tag) => {
+        What::Rung(call, tag) | What::Dial(call, tag) | What::NotKept(call, tag) => {
             put_number(writer, "call", u64::from(call))?;
             put_tag(writer, tag)
         }
         What::Page(page) => put_page(writer, page),
-        What::RefusedPage(call, fault) => {
-            put_number(writer, "call", u64::from(call))?;
-            put_fault(writer, fault)
-        }
+        What::RefusedPage(call, tag, why) => put_refused_page(writer, call, tag, why),
         What::Ended(call, how) => {
             put_number(writer, "call", u64::from(call))?;
             put_text(writer, "how", how.name())
@@ -151,5 +202,9 @@ fn put_what(writer: &mut Writer, what: &What<'_>) -> Result<(), AllocError>
         What::Job(report, tag) => put_job(writer, report, tag),
         What::Wire(leg, direction, count) => put_wire(writer, leg, direction, count),
         What::Late(span) => put_number(writer, "ms", span),
+        What::SetAside(call, number) => {
+            put_number(writer, "call", u64::from(call))?;
+            put_number(writer, "number", u64::from(number))
+        }
     }
 }
