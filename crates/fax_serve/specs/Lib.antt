@@ -1,5 +1,6 @@
 pub mod Counts
 pub mod Endings
 pub mod HangUps
+pub mod Keeping
 pub mod Legs
 pub mod Runs

@@ -1,16 +1,18 @@
 -- A whole run of a server (this project's profile).
-use Rattle.std.specs.Prelude.{◌≡◌, ℕ, List, length}
-use Rattle.fax_line.specs.Actions.{LineValue}
-use Rattle.fax_line.specs.Deeds.{AreNew, AreRising, Deed, Went}
+use Rattle.std.specs.Prelude.{◌≡◌, ℕ, Bool, false, List, length}
+use Rattle.fax_line.specs.Deeds.{AreBegun, AreNew, AreRising, Deed, Went}
+use Rattle.fax_line.specs.Places.{PlaceValue}
 
--- So many lines were served, each by itself: they were new, and there is a list of what was done, with moments that never go
+-- So many lines were served, each by itself: nothing had come to them, none was restored with a page where there is no spool, and
+-- there is a list of what was done, with moments that never go
 -- back, through which each line went its own part. What came over the wires and what was ordered may be anything.
-pub record ServedAlone (count : ℕ) : Type 0 where
-  pub begun : List LineValue
-  pub left : List LineValue
+pub record ServedAlone (count : ℕ) (has_spool : Bool) : Type 0 where
+  pub begun : List PlaceValue
+  pub left : List PlaceValue
   pub deeds : List Deed
   pub last : ℕ
   pub as_many : length begun ≡ count
-  pub new : AreNew begun
+  pub restored : AreBegun begun
+  pub new : has_spool ≡ false → AreNew begun
   pub went : Went deeds begun left
   pub rising : AreRising deeds last

@@ -1,7 +1,7 @@
 //! The texts that control words are answered with.
 use crate::card::Card;
 use crate::failures::Failures;
-use crate::leg_socket::LegCounts;
+use crate::leg_socket::{LegCounts, LegSocket};
 use crate::sockets::{ServedLine, ServedLines};
 use fax_bits::NoMemory;
 use fax_control::Answer;
@@ -26,20 +26,32 @@ pub(crate) fn report_text(
     at: u64,
 ) -> Result<Vec<u8>, NoMemory> {
     let mut text = Vec::new(alloc);
-    for i in 0..MOST_REPORTS {
+    let kept = reports_kept(line);
+    for i in 0..kept {
         let Some(report) = line.report(i) else {
             break;
         };
         let event = Event {
             line: card.name(),
             at,
-            what: What::Job(report, card.tag(report.call)),
+            what: What::Job(report, card.report_tag(i, kept, report.call)),
         };
         let told = write_event(alloc, &event)?;
         text.extend_from_slice(told.as_slice())?;
     }
     text.extend_from_slice(b"ok\n")?;
     Ok(text)
+}
+
+/// How many reports of a line are kept.
+fn reports_kept(line: &ServedLine) -> usize {
+    let mut count = 0;
+    for i in 0..MOST_REPORTS {
+        if line.report(i).is_some() {
+            count = i + 1;
+        }
+    }
+    count
 }
 
 /// A line for each line of the configuration, and `ok`.
@@ -109,9 +121,14 @@ pub(crate) fn failures_of(line: &ServedLine) -> Failures {
     }
 }
 
+/// The socket of a leg of a line.
+pub(crate) fn leg_of(line: &ServedLine, side: Side) -> &LegSocket {
+    line.wire().wire().wire().leg(side)
+}
+
 /// What went over a leg of a line.
 pub(crate) fn counts_of(line: &ServedLine, side: Side) -> LegCounts {
-    line.wire().wire().leg(side).counts()
+    leg_of(line, side).counts()
 }
 
 /// The counts, with what the lines count added.

@@ -31,6 +31,9 @@ pub(crate) struct Card {
     /// How many datagrams had come on each leg when its last call began.
     calling_heard: u64,
     called_heard: u64,
+    /// Jobs that ended, and those of them that were confirmed in an earlier life: they came first.
+    jobs: u64,
+    restored_jobs: u64,
 }
 
 impl Card {
@@ -46,6 +49,8 @@ impl Card {
             failures: Failures::default(),
             calling_heard: 0,
             called_heard: 0,
+            jobs: 0,
+            restored_jobs: 0,
         })
     }
 
@@ -114,6 +119,24 @@ impl Card {
             }
         }
         None
+    }
+
+    /// A job ended; one that was confirmed in an earlier life, or not.
+    pub(crate) fn end_job(&mut self, is_restored: bool) {
+        self.jobs = self.jobs.saturating_add(1);
+        if is_restored {
+            self.restored_jobs = self.restored_jobs.saturating_add(1);
+        }
+    }
+
+    /// The tag of report i of so many that are kept, which is of this call; of a job that was confirmed in an earlier life none is
+    /// known.
+    pub(crate) fn report_tag(&self, i: usize, kept: usize, call: u32) -> Option<&str> {
+        let behind = (kept as u64).saturating_sub(i as u64);
+        if self.jobs.saturating_sub(behind) < self.restored_jobs {
+            return None;
+        }
+        self.tag(call)
     }
 
     /// How many failures were told.

@@ -17,6 +17,12 @@ impl<'a, C: Clock> Stopwatch<'a, C> {
         Ok(Stopwatch { clock, start })
     }
 
+    /// How many microseconds passed. None: the clock does not tell.
+    pub(crate) fn micros(&self) -> Option<u64> {
+        let passed = self.start.elapsed(self.clock).ok()?;
+        u64::try_from(passed.as_micros()).ok()
+    }
+
     /// How many milliseconds passed. None: the clock does not tell.
     pub(crate) fn now(&self) -> Option<u64> {
         let passed = self.start.elapsed(self.clock).ok()?;

@@ -1,6 +1,7 @@
 //! Why a server does not begin, or does not go on.
 use fax_bits::NoMemory;
 use fax_control::Leg;
+use fax_keep::FolderFault;
 use std::alloc::{AllocError, AllocFailed};
 use std::{fmt, io};
 
@@ -15,6 +16,8 @@ pub enum ServeFault {
     Served,
     /// The clock.
     Clock(io::Error),
+    /// The folder of the spool.
+    Spool(FolderFault),
     NoMemory,
 }
 
@@ -29,7 +32,19 @@ impl fmt::Display for ServeFault {
             ServeFault::Control(error) => write!(f, "control: {error}"),
             ServeFault::Served => write!(f, "control: another process serves there"),
             ServeFault::Clock(error) => write!(f, "no clock: {error}"),
+            ServeFault::Spool(fault) => write!(f, "spool: {fault}"),
             ServeFault::NoMemory => write!(f, "memory was refused"),
+        }
+    }
+}
+
+impl From<FolderFault> for ServeFault {
+    fn from(fault: FolderFault) -> Self {
+        match fault {
+            FolderFault::NoMemory => ServeFault::NoMemory,
+            FolderFault::Busy | FolderFault::Io(_) | FolderFault::Foreign => ServeFault::Spool(
+                fault,
+            ),
         }
     }
 }

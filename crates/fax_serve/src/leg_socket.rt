@@ -96,14 +96,20 @@ impl LegSocket {
         self.socket.as_raw_fd()
     }
 
-    /// From now on the system tells when a datagram comes: then the leg is woken.
-    pub(crate) fn watch(&self) {
-        self.is_watched.set(true);
+    /// From now on the system tells when a datagram comes, or no more: where it does the leg is woken then.
+    pub(crate) fn set_watched(&self, is_watched: bool) {
+        self.is_watched.set(is_watched);
+        self.wake();
     }
 
     /// A datagram may have come.
     pub(crate) fn wake(&self) {
         self.may_have_come.set(true);
+    }
+
+    /// Whether a receive may bring something: one that has come, or a DCN where the peer's call is gone.
+    pub(crate) fn asks(&self) -> bool {
+        self.is_hung_up() || (self.has_peer.get() && self.may_have_come.get())
     }
 
     /// The peer's call is gone: from now on a datagram with a DCN is received once a turn, as if it had come, until a server sees

@@ -1,5 +1,5 @@
 //! What words do with the legs of a line.
-use crate::answers::counts_of;
+use crate::answers::{counts_of, leg_of};
 use crate::card::Card;
 use crate::leg_socket::LegSocket;
 use crate::sockets::ServedLine;
@@ -17,7 +17,7 @@ fn side_of(leg: Leg) -> Side {
 
 /// The socket of a leg.
 fn socket_of(line: &ServedLine, leg: Leg) -> &LegSocket {
-    line.wire().wire().leg(side_of(leg))
+    leg_of(line, side_of(leg))
 }
 
 /// Whether the call of a leg is on.

@@ -1,23 +1,30 @@
 //! What gives the orders: the clock, and those who say words.
-ghost use Rattle.std.specs.Prelude.{◌≡◌, ◌-◌, nat_lt, if◌then◌else◌};
+ghost use Rattle.std.specs.Prelude.{◌≡◌, ◌-◌, [], nat_lt, if◌then◌else◌};
+ghost use Rattle.fax_line.specs.Deeds.{Went};
 
-use crate::answers::{answer_text, counters_of, counts_of, is_idle, report_text, status_text};
+use crate::answers::{
+    answer_text, counters_of, counts_of, is_idle, leg_of, report_text, status_text,
+};
 use crate::card::Card;
 use crate::clock::Stopwatch;
+use crate::keeping::Keeping;
 use crate::legs::{hang_up_answer, peer_answer, settle_legs};
 use crate::schedule::Schedule;
-use crate::sockets::ServedLines;
+use crate::sockets::{ServedLine, ServedLines};
 use crate::stop::Stop;
 use crate::telling::Teller;
 use crate::udp_wire::UdpWire;
-use crate::watch::{Watch, wake_legs};
+use crate::watch::{Watch, asks, wake_legs};
 use fax_bits::NoMemory;
 use fax_clients::{Asker, Clients};
 use fax_control::{Answer, Heard, Leg, Refusal, Word, read_word};
 use fax_events::{What, write_metrics};
-use fax_gateway::{RingFault, Side};
+use fax_gateway::{Kept, RingFault, Side};
+use fax_hold::HoldingWire;
+use fax_jobs::Report;
 use fax_line::{Order, Pace, SLOTS};
 use fax_repeat::RepeatingWire;
+use fax_spool::WaitingPage;
 use std::alloc::Global;
 use std::io::{Read, Write};
 use std::net::SocketAddr;
@@ -37,6 +44,10 @@ const TURNS_A_WORD: u64 = 16;
 
 /// At one turn of so many of a line its sockets are asked, whatever the system told: once a second.
 const TURNS_A_LOOK: u64 = 25;
+
+/// While nothing is due on any line, turns are waited for so many milliseconds longer at most, and then made one behind the
+/// other: each of them less than a round late.
+const MOST_QUIET_MS: u64 = 9;
 
 /// The most words and wake-ups between two turns.
 const MOST_WAKES: u32 = 100_000;
@@ -63,6 +74,12 @@ pub struct RealPace<'a, C: Clock, I: Read + Drop, O: Write + Drop> {
     teller: Teller<I, O>,
     /// What tells which legs have datagrams, where the system gives it.
     watch: Option<Watch>,
+    /// The lines that are to be woken: something may have come over their legs.
+    woken: Vec<usize>,
+    /// Whether it was looked which legs have datagrams since the last turn was ordered.
+    has_looked: bool,
+    /// Where pages are kept on a disk.
+    keeping: Option<Keeping>,
 }
 
 /// Who asked for a ring, and its tag.
@@ -83,6 +100,7 @@ impl<'a, C: Clock, I: Read + Drop, O: Write + Drop> RealPace<'a, C, I, O> {
         cards: Vec<Card>,
         stop_ms: u64,
         watch: Option<Watch>,
+        keeping: Option<Keeping>,
     ) -> Self {
         let count = cards.len();
         RealPace {
@@ -99,6 +117,78 @@ impl<'a, C: Clock, I: Read + Drop, O: Write + Drop> RealPace<'a, C, I, O> {
             cards,
             teller: Teller::new(alloc, clients, count),
             watch,
+            woken: Vec::new(alloc),
+            has_looked: false,
+            keeping,
+        }
+    }
+
+    /// Tells what the spool was found to hold that is not sent: so many damaged records, pages whose texts mean none, and of the
+    /// pages that waited those of lines that are not served.
+    pub(crate) fn tell_aside(&mut self, damaged: usize, pages: &[WaitingPage]) {
+        self.teller.counters.records_damaged = damaged as u64;
+        if let Some(keeping) = &self.keeping {
+            for shelf in keeping.shelves() {
+                for (call, number) in shelf.aside() {
+                    self.teller.tell_aside(shelf.line(), *call, *number);
+                }
+            }
+        }
+        for page in pages {
+            if let Ok(line) = std::str::from_utf8(page.line.as_slice())
+                && self.find(line).is_none()
+            {
+                self.teller.tell_aside(line, page.call, page.number);
+            }
+        }
+    }
+
+    /// The end of a slot's turn: of each line that had one, the page that it confirmed is put on the disk, and then what it gave
+    /// on the calling leg goes out.
+    fn settle_slot(&mut self, slot: usize, lines: &mut ServedLines)
+        ensures went { Went [] lines.old.lines lines.new.lines }
+        ensures slot { lines.new.slot ≡ lines.old.slot }
+    {
+        let rounds = lines.len() / SLOTS + 1;
+        for round in 0..rounds {
+            let i = round.saturating_mul(SLOTS).saturating_add(slot);
+            if lines.has_turned(i) {
+                self.settle_line(i, lines);
+            }
+        }
+    }
+
+    /// The same of line i.
+    fn settle_line(&mut self, i: usize, lines: &mut ServedLines)
+        ensures went { Went [] lines.old.lines lines.new.lines }
+        ensures slot { lines.new.slot ≡ lines.old.slot }
+    {
+        match kept_in(lines, i) {
+            Some(kept) if self.keeping.is_some() => self.keep(i, kept, lines),
+            Some(_) | None => lines.let_out(i),
+        }
+    }
+
+    /// The page that line i confirmed in its last turn is put on the disk, and then what it gave on the calling leg goes out.
+    #[tactic(auto, using(fax_line::proofs::Running::went_none))]
+    fn keep(&mut self, i: usize, kept: Kept, lines: &mut ServedLines)
+        ensures went { Went [] lines.old.lines lines.new.lines }
+        ensures slot { lines.new.slot ≡ lines.old.slot }
+    {
+        let Some(keeping) = &mut self.keeping else {
+            return;
+        };
+        let before = self.clock.micros().unwrap_or(0);
+        keeping.turn_to(i, tag_of(self.cards.as_slice(), i, kept.call));
+        let answer = lines.settle(i, keeping);
+        keeping.note(kept.call);
+        let behind = self.clock.micros().unwrap_or(0);
+        self.teller.count_put(behind.saturating_sub(before));
+        if answer.is_err()
+            && let Some(card) = self.cards.get(i)
+        {
+            self.teller
+                .tell_not_kept(card.name(), kept.call, card.tag(kept.call), self.now);
         }
     }
 
@@ -109,24 +199,73 @@ impl<'a, C: Clock, I: Read + Drop, O: Write + Drop> RealPace<'a, C, I, O> {
         }
     }
 
-    /// Tells what the turn that was ordered came to.
+    /// Tells what the turn that was ordered came to, of each line that was not left at rest in it.
     fn tell_turned(&mut self, lines: &ServedLines) {
         let Some(slot) = self.turned.take() else {
             return;
         };
-        let rounds = self.cards.len() / SLOTS + 1;
         let looks = self.looks(slot);
+        let rounds = lines.len() / SLOTS + 1;
         for round in 0..rounds {
             let i = round.saturating_mul(SLOTS).saturating_add(slot);
-            if let Some(card) = self.cards.get_mut(i)
-                && let Some(line) = lines.line(i)
-            {
-                self.teller.tell_turn(card, line, self.now);
-                settle_legs(line);
-                if looks {
-                    wake_legs(line);
-                }
+            let has_turned = lines.has_turned(i);
+            if has_turned || looks {
+                self.tell_line(i, has_turned, looks, lines);
             }
+        }
+    }
+
+    /// Tells what the turn of a line came to, where it had one. Where something may come over its legs still, and where they
+    /// are to be asked, it is to be woken.
+    fn tell_line(&mut self, i: usize, has_turned: bool, looks: bool, lines: &ServedLines) {
+        let Some(line) = lines.line(i) else {
+            return;
+        };
+        if has_turned && let Some(card) = self.cards.get_mut(i) {
+            self.teller.tell_turn(card, line, self.now);
+            self.tell_jobs(i, line);
+            settle_legs(line);
+        }
+        if looks {
+            wake_legs(line);
+        }
+        if asks(line) {
+            let _ = self.woken.push(i);
+        }
+    }
+
+    /// Tells the job of a line that ended in its last turn, whose pages wait no more; and the one whose call began.
+    fn tell_jobs(&mut self, i: usize, line: &ServedLine) {
+        let turned = line.turned();
+        if let Some(report) = turned.report {
+            self.tell_job(i, report);
+        }
+        if turned.dialled.is_some()
+            && let Some(card) = self.cards.get_mut(i)
+        {
+            card.dial(counts_of(line, Side::Called).received);
+        }
+        if let Some(call) = turned.dialled
+            && let Some(card) = self.cards.get(i)
+        {
+            let tag = job_tag(&self.keeping, card, i, call);
+            self.teller
+                .tell(card.name(), self.now, What::Dial(call, tag));
+        }
+    }
+
+    /// Tells a job of line i that ended. Its pages wait no more.
+    fn tell_job(&mut self, i: usize, report: Report) {
+        if let Some(card) = self.cards.get_mut(i) {
+            card.end_job(is_restored(&self.keeping, i));
+        }
+        let Some(card) = self.cards.get(i) else {
+            return;
+        };
+        let tag = job_tag(&self.keeping, card, i, report.call);
+        self.teller.tell_job(card.name(), report, tag, self.now);
+        if let Some(keeping) = &mut self.keeping {
+            keeping.end(i, report);
         }
     }
 
@@ -155,8 +294,14 @@ impl<'a, C: Clock, I: Read + Drop, O: Write + Drop> RealPace<'a, C, I, O> {
 
     /// Waits for a word or for the next turn. It answers the line that is to ring, if one is.
     fn wait(&mut self, lines: &ServedLines) -> Option<usize> {
-        let left = self.schedule.left(self.now).min(1_000);
-        self.teller.clients.wait(left as i32);
+        let left = self.schedule.left(self.now);
+        let quiet = if left == 0 {
+            0
+        } else {
+            self.quiet_ms(left, lines)
+        };
+        let most = left.saturating_add(quiet).min(1_000);
+        self.teller.clients.wait(most as i32);
         self.read_clock();
         let (asker, heard) = self.teller.clients.hear()?;
         match heard {
@@ -174,13 +319,42 @@ impl<'a, C: Clock, I: Read + Drop, O: Write + Drop> RealPace<'a, C, I, O> {
         }
     }
 
+    /// For how many milliseconds, behind those that are left until the next turn, all lines are left at rest by the turns that
+    /// are due.
+    fn quiet_ms(&self, left: u64, lines: &ServedLines) -> u64 {
+        let due = self.now.saturating_add(left);
+        for ms in 0..MOST_QUIET_MS {
+            let slot = (lines.slot() + ms as usize) % SLOTS;
+            let moment = due.saturating_add(ms);
+            let across = (slot + SLOTS / 2) % SLOTS;
+            if !is_quiet(slot, moment, lines) || !is_quiet(across, moment, lines) {
+                return ms;
+            }
+        }
+        MOST_QUIET_MS
+    }
+
+    /// Looks which legs have datagrams, once before each turn.
+    fn look(&mut self, lines: &ServedLines) {
+        self.has_looked = true;
+        if let Some(watch) = &mut self.watch {
+            watch.look(lines, &mut self.woken);
+        }
+    }
+
+    /// The turn of the next slot, behind the lines that are to be woken.
+    fn turn_or_wake(&mut self, lines: &ServedLines) -> Order {
+        match self.woken.pop() {
+            Some(line) => Order::Wake { line },
+            None => self.turn(lines),
+        }
+    }
+
     /// The turn of the next slot.
     fn turn(&mut self, lines: &ServedLines) -> Order {
         let late = self.schedule.begin(self.now);
         self.turns = self.turns.saturating_add(1);
-        if let Some(watch) = &mut self.watch {
-            watch.look(lines);
-        }
+        self.has_looked = false;
         let slot = lines.slot();
         self.turned = Some(slot);
         if late > LATE_MS {
@@ -269,7 +443,7 @@ impl<'a, C: Clock, I: Read + Drop, O: Write + Drop> RealPace<'a, C, I, O> {
         let Some(line) = lines.line(i) else {
             return Err(Refusal::NoLine);
         };
-        if !line.wire().wire().leg(Side::Calling).has_peer() {
+        if !leg_of(line, Side::Calling).has_peer() {
             return Err(Refusal::NoPeer);
         }
         let tag = match tag {
@@ -289,11 +463,12 @@ impl<'a, C: Clock, I: Read + Drop, O: Write + Drop> RealPace<'a, C, I, O> {
     }
 
     /// A leg gets another peer.
-    fn set_peer(&self, name: &str, leg: Leg, peer: SocketAddr, lines: &ServedLines) -> Answer {
+    fn set_peer(&mut self, name: &str, leg: Leg, peer: SocketAddr, lines: &ServedLines) -> Answer {
         if let Some(i) = self.find(name)
             && let Some(card) = self.cards.get(i)
             && let Some(line) = lines.line(i)
         {
+            let _ = self.woken.push(i);
             peer_answer(card, line, leg, peer)
         } else {
             Answer::Refused(Refusal::NoLine)
@@ -301,10 +476,11 @@ impl<'a, C: Clock, I: Read + Drop, O: Write + Drop> RealPace<'a, C, I, O> {
     }
 
     /// The peer's call on a leg is gone.
-    fn hang_up(&self, name: &str, leg: Leg, lines: &ServedLines) -> Answer {
+    fn hang_up(&mut self, name: &str, leg: Leg, lines: &ServedLines) -> Answer {
         if let Some(i) = self.find(name)
             && let Some(line) = lines.line(i)
         {
+            let _ = self.woken.push(i);
             hang_up_answer(line, leg)
         } else {
             Answer::Refused(Refusal::NoLine)
@@ -326,7 +502,10 @@ impl<'a, C: Clock, I: Read + Drop, O: Write + Drop> RealPace<'a, C, I, O> {
 
     /// The counts are told.
     fn tell_metrics(&mut self, asker: Asker, lines: &ServedLines) {
-        let counters = counters_of(self.teller.counters(), lines);
+        let mut counters = counters_of(self.teller.counters(), lines);
+        if let Some(keeping) = &self.keeping {
+            counters.pages_kept = keeping.kept();
+        }
         let text = match write_metrics(self.alloc, &counters) {
             Ok(text) => Ok(text.into_bytes()),
             Err(NoMemory) => Err(NoMemory),
@@ -377,6 +556,55 @@ fn moment_of(now: u64, late: u64) -> u64
     }
 }
 
+/// The page that line i confirmed in its last turn.
+fn kept_in(lines: &ServedLines, i: usize) -> Option<Kept> {
+    match lines.line(i) {
+        Some(line) => line.turned().kept,
+        None => None,
+    }
+}
+
+/// The tag of a call of line i.
+fn tag_of(cards: &[Card], i: usize, call: u32) -> Option<&str> {
+    match cards.get(i) {
+        Some(card) => card.tag(call),
+        None => None,
+    }
+}
+
+/// Whether the job of line i that is first in turn was confirmed in an earlier life.
+fn is_restored(keeping: &Option<Keeping>, i: usize) -> bool {
+    match keeping {
+        Some(keeping) => keeping.is_restored(i),
+        None => false,
+    }
+}
+
+/// The tag of the job of line i that is first in turn, whose pages came in this call.
+fn job_tag<'a>(
+    keeping: &'a Option<Keeping>,
+    card: &'a Card,
+    i: usize,
+    call: u32,
+) -> Option<&'a str> {
+    match keeping {
+        Some(keeping) if keeping.is_restored(i) => keeping.restored_tag(i),
+        Some(_) | None => card.tag(call),
+    }
+}
+
+/// Whether the turn of a slot at this moment would leave all of its lines at rest.
+fn is_quiet(slot: usize, moment: u64, lines: &ServedLines) -> bool {
+    let rounds = lines.len() / SLOTS + 1;
+    for round in 0..rounds {
+        let i = round.saturating_mul(SLOTS).saturating_add(slot);
+        if i < lines.len() && !lines.is_at_rest(i, moment) {
+            return false;
+        }
+    }
+    true
+}
+
 /// Whether no line has a call or a job.
 fn are_idle(lines: &ServedLines) -> bool {
     for i in 0..lines.len() {
@@ -401,13 +629,16 @@ fn ring_answer(answer: Option<Result<u32, RingFault>>) -> Answer {
 }
 
 /// What is asked and answered is not told of a clock and sockets.
-impl<'a, C: Clock, I: Read + Drop, O: Write + Drop> Pace<RepeatingWire<UdpWire>>
+impl<'a, C: Clock, I: Read + Drop, O: Write + Drop> Pace<HoldingWire<RepeatingWire<UdpWire>>>
     for RealPace<'a, C, I, O> {
     ghost use Rattle.std.specs.Prelude.{None};
 
     ghost words = { λ _. None };
 
     fn next(&mut self, lines: &ServedLines) -> Option<Order> {
+        if self.has_looked {
+            return Some(self.turn_or_wake(lines));
+        }
         self.read_clock();
         self.tell_turned(lines);
         for _ in 0..MOST_WAKES {
@@ -426,7 +657,15 @@ impl<'a, C: Clock, I: Read + Drop, O: Write + Drop> Pace<RepeatingWire<UdpWire>>
                 break;
             }
         }
-        Some(self.turn(lines))
+        self.look(lines);
+        Some(self.turn_or_wake(lines))
+    }
+
+    #[tactic(auto, using(fax_line::proofs::Running::went_none))]
+    fn settle(&mut self, lines: &mut ServedLines) {
+        if let Some(slot) = self.turned {
+            self.settle_slot(slot, lines);
+        }
     }
 
     fn rung(&mut self, line: usize, answer: Option<Result<u32, RingFault>>) {

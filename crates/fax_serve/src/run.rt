@@ -1,18 +1,21 @@
 //! A run of `faxgate serve`.
-ghost use Rattle.std.specs.Prelude.{OnOk, length};
-ghost use Rattle.fax_line.specs.Deeds.{AreNew};
+ghost use Rattle.std.specs.Prelude.{OnOk, true, false, is_some, length};
+ghost use Rattle.fax_line.specs.Deeds.{AreBegun, AreNew};
 ghost use Rattle.fax_serve.specs.Runs.{ServedAlone};
 
 use crate::card::Card;
 use crate::clock::Stopwatch;
 use crate::control::{close_control, open_control};
 use crate::fault::ServeFault;
+use crate::keeping::Keeping;
 use crate::pace::RealPace;
-use crate::sockets::{ServedLines, open_lines};
+use crate::sockets::{ServedLines, open_lines, open_restored_lines};
 use crate::watch::Watch;
 use fax_clients::Clients;
 use fax_config::{Config, LineConfig};
+use fax_keep::Folders;
 use fax_line::serve;
+use fax_spool::Opened;
 use std::alloc::Global;
 use std::fs::Files;
 use std::io::{Read, Write};
@@ -24,14 +27,14 @@ const SECOND_MS: u64 = 1_000;
 
 /// Serves the lines of a configuration until it is told to stop. Words come on the control socket where the configuration
 /// has one, and else on the input, whose answers and events go to the output. An `Err` tells why nothing was served.
-pub fn run_serve<N: Net + Files + Clock, I: Read + Drop, O: Write + Drop>(
+pub fn run_serve<N: Net + Files + Clock + Folders, I: Read + Drop, O: Write + Drop>(
     system: &N,
     alloc: Global,
     config: &Config,
     input: I,
     output: O,
 ) -> Result<(), ServeFault>
-    ensures { OnOk result (ServedAlone (length config.now.lines.items)) }
+    ensures { OnOk result (ServedAlone (length config.now.lines.items) (is_some config.now.spool)) }
 {
     match &config.control {
         Some(path) => {
@@ -50,26 +53,88 @@ pub fn run_serve<N: Net + Files + Clock, I: Read + Drop, O: Write + Drop>(
 }
 
 /// Serves the lines of a configuration until one of these clients says `stop`.
-pub fn serve_clients<N: Net + Clock, I: Read + Drop, O: Write + Drop>(
+pub fn serve_clients<N: Net + Clock + Folders, I: Read + Drop, O: Write + Drop>(
     system: &N,
     alloc: Global,
     config: &Config,
     clients: Clients<I, O>,
 ) -> Result<(), ServeFault>
-    ensures { OnOk result (ServedAlone (length config.now.lines.items)) }
+    ensures { OnOk result (ServedAlone (length config.now.lines.items) (is_some config.now.spool)) }
+{
+    match &config.spool {
+        None => serve_in_memory(system, alloc, config, clients),
+        Some(folder) => serve_spooled(system, alloc, config, clients, folder.as_str()),
+    }
+}
+
+/// The same where pages are kept in memory alone.
+fn serve_in_memory<N: Net + Clock, I: Read + Drop, O: Write + Drop>(
+    system: &N,
+    alloc: Global,
+    config: &Config,
+    clients: Clients<I, O>,
+) -> Result<(), ServeFault>
+    ensures { OnOk result (ServedAlone (length config.now.lines.items) false) }
 {
     let lines = open_lines(system, alloc, config.lines.as_slice())?;
+    let mut pace = pace_of(system, alloc, config, clients, &lines, None)?;
+    serve_new(lines, &mut pace);
+    pace.finish();
+    Ok(())
+}
+
+/// The same where pages are kept in the spool of this folder: each line begins with those of its own that wait there.
+fn serve_spooled<N: Net + Clock + Folders, I: Read + Drop, O: Write + Drop>(
+    system: &N,
+    alloc: Global,
+    config: &Config,
+    clients: Clients<I, O>,
+    folder: &str,
+) -> Result<(), ServeFault>
+    ensures { OnOk result (ServedAlone (length config.now.lines.items) true) }
+{
+    let Opened {
+        spool,
+        pages,
+        older_damaged,
+        newer_damaged,
+    } = system.open_spool(folder)?;
+    let mut shelves = Vec::new(alloc);
+    let lines = open_restored_lines(
+        system,
+        alloc,
+        config.lines.as_slice(),
+        pages.as_slice(),
+        &mut shelves,
+    )?;
+    let keeping = Keeping::new(alloc, spool, shelves);
+    let mut pace = pace_of(system, alloc, config, clients, &lines, Some(keeping))?;
+    pace.tell_aside(
+        older_damaged.saturating_add(newer_damaged),
+        pages.as_slice(),
+    );
+    serve_restored(lines, &mut pace);
+    pace.finish();
+    Ok(())
+}
+
+/// What gives the orders to these lines.
+fn pace_of<'a, N: Net + Clock, I: Read + Drop, O: Write + Drop>(
+    system: &'a N,
+    alloc: Global,
+    config: &Config,
+    clients: Clients<I, O>,
+    lines: &ServedLines,
+    keeping: Option<Keeping>,
+) -> Result<RealPace<'a, N, I, O>, ServeFault> {
     let cards = cards_of(alloc, config.lines.as_slice())?;
     let clock = match Stopwatch::new(system) {
         Ok(clock) => clock,
         Err(error) => return Err(ServeFault::Clock(error)),
     };
-    let stop_ms = u64::from(config.stop_seconds) * SECOND_MS;
-    let watch = Watch::new(system, alloc, &lines).ok();
-    let mut pace = RealPace::new(alloc, clock, clients, cards, stop_ms, watch);
-    serve_new(lines, &mut pace);
-    pace.finish();
-    Ok(())
+    let stop_ms = u64::from(config.stop_seconds).saturating_mul(SECOND_MS);
+    let watch = Watch::new(system, alloc, lines).ok();
+    Ok(RealPace::new(alloc, clock, clients, cards, stop_ms, watch, keeping))
 }
 
 /// Serves lines that are new.
@@ -78,7 +143,18 @@ fn serve_new<C: Clock, I: Read + Drop, O: Write + Drop>(
     pace: &mut RealPace<'_, C, I, O>,
 )
     requires { AreNew lines.lines }
-    ensures { ServedAlone (length lines.lines) }
+    ensures { ServedAlone (length lines.lines) false }
+{
+    serve(&mut lines, pace);
+}
+
+/// Serves lines that begin with the pages that wait.
+fn serve_restored<C: Clock, I: Read + Drop, O: Write + Drop>(
+    mut lines: ServedLines,
+    pace: &mut RealPace<'_, C, I, O>,
+)
+    requires { AreBegun lines.lines }
+    ensures { ServedAlone (length lines.lines) true }
 {
     serve(&mut lines, pace);
 }

@@ -1,28 +1,33 @@
 //! The lines of a configuration.
-ghost use Rattle.std.specs.Prelude.{◌≡◌, IfOk, length};
+ghost use Rattle.std.specs.Prelude.{◌≡◌, ◌+◌, [], IfOk, OnOk, length, map};
 ghost use Rattle.fax_gateway.specs.Setups.{AreAllowed};
-ghost use Rattle.fax_line.specs.Actions.{IsNew};
-ghost use Rattle.fax_line.specs.Deeds.{AreNew};
+ghost use Rattle.fax_gateway.specs.Restored.{call_shown};
+ghost use Rattle.fax_line.specs.Actions.{BeginsWith};
+ghost use Rattle.fax_line.specs.Deeds.{AreBegun, AreNew};
 
 use crate::fault::ServeFault;
 use crate::leg_socket::LegSocket;
+use crate::shelf::{Restored, Shelf, restore_line};
 use crate::udp_wire::UdpWire;
 use fax_config::{LegConfig, LineConfig, Repeat};
 use fax_control::Leg;
-use fax_gateway::Settings;
+use fax_gateway::{RestoredCall, Settings};
+use fax_hold::HoldingWire;
 use fax_line::{Line, Lines};
+use fax_pagestore::PackedRows;
 use fax_repeat::{RepeatPolicy, RepeatingWire};
+use fax_spool::WaitingPage;
 use std::alloc::Global;
 use std::io;
 use std::net::Net;
 
 /// The wire of a line that is served.
-pub type ServedWire = RepeatingWire<UdpWire>;
+pub type ServedWire = HoldingWire<RepeatingWire<UdpWire>>;
 
 /// A line that is served, and all of them.
-pub type ServedLine = Line<RepeatingWire<UdpWire>>;
+pub type ServedLine = Line<HoldingWire<RepeatingWire<UdpWire>>>;
 
-pub type ServedLines = Lines<RepeatingWire<UdpWire>>;
+pub type ServedLines = Lines<HoldingWire<RepeatingWire<UdpWire>>>;
 
 /// The most of the packets before its own that a datagram has.
 const MOST_REDUNDANCY: u16 = 8;
@@ -42,21 +47,65 @@ pub fn open_lines<N: Net>(
     ensures first { IfOk result (λ lines. lines.slot ≡ 0) }
     ensures as_many { IfOk result (λ lines. length lines.lines ≡ length configs.now) }
 {
+    let mut shelves = Vec::new(alloc);
+    open_restored_lines(net, alloc, configs, &[], &mut shelves)
+}
+
+/// The same behind a crash, where these pages wait: each line begins with its own. What is known of the pages of each is added to
+/// these shelves.
+pub(crate) fn open_restored_lines<N: Net>(
+    net: &N,
+    alloc: Global,
+    configs: &[LineConfig],
+    pages: &[WaitingPage],
+    shelves: &mut Vec<Shelf>,
+) -> Result<ServedLines, ServeFault>
+    ensures begun { IfOk result (λ lines. AreBegun lines.lines) }
+    ensures new { pages.now ≡ [] → IfOk result (λ lines. AreNew lines.lines) }
+    ensures first { IfOk result (λ lines. lines.slot ≡ 0) }
+    ensures as_many { IfOk result (λ lines. length lines.lines ≡ length configs.now) }
+{
     let mut lines = Lines::new(alloc)?;
     for config in configs {
-        let line = open_line(net, alloc, config)?;
-        lines.add(line)?;
+        add_line(net, alloc, config, pages, &mut lines, shelves)?;
     }
     Ok(lines)
 }
 
-/// Opens the sockets of a line.
-fn open_line<N: Net>(net: &N, alloc: Global, config: &LineConfig) -> Result<ServedLine, ServeFault>
-    ensures { IfOk result (λ line. IsNew line) }
+/// Opens the sockets of a line, which joins the others; it begins with its own of these pages.
+fn add_line<N: Net>(
+    net: &N,
+    alloc: Global,
+    config: &LineConfig,
+    pages: &[WaitingPage],
+    lines: &mut ServedLines,
+    shelves: &mut Vec<Shelf>,
+) -> Result<(), ServeFault>
+    ensures begun { OnOk result (AreBegun lines.old.lines → AreBegun lines.new.lines) }
+    ensures new { OnOk result (pages.now ≡ [] → AreNew lines.old.lines → AreNew lines.new.lines) }
+    ensures slot { OnOk result (lines.new.slot ≡ lines.old.slot) }
+    ensures one_more { OnOk result (length lines.new.lines ≡ length lines.old.lines + 1) }
+{
+    let Restored { calls, shelf } = restore_line(alloc, config.name.as_str(), pages)?;
+    let line = open_line(net, alloc, config, calls)?;
+    lines.add(line)?;
+    shelves.push(shelf)?;
+    Ok(())
+}
+
+/// Opens the sockets of a line, which is restored with these calls.
+fn open_line<N: Net>(
+    net: &N,
+    alloc: Global,
+    config: &LineConfig,
+    calls: Vec<RestoredCall<PackedRows>>,
+) -> Result<ServedLine, ServeFault>
+    ensures { IfOk result (λ line. BeginsWith (map call_shown calls.items) line) }
 {
     let wire = open_wire(net, alloc, config)?;
     let wire = RepeatingWire::new(wire, policy_of(config.repeat));
-    Ok(Line::new(alloc, settings_of(config), wire)?)
+    let wire = HoldingWire::new(alloc, wire);
+    Ok(Line::restore(alloc, settings_of(config), calls, wire)?)
 }
 
 /// Opens the sockets of both legs of a line.

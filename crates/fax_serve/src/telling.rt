@@ -2,12 +2,12 @@
 ghost use Rattle.std.specs.Prelude.{◌≡◌};
 ghost use Rattle.fax_serve.specs.Endings.{ending_of};
 
-use crate::answers::{counts_of, failures_of};
+use crate::answers::{failures_of, leg_of};
 use crate::card::Card;
 use crate::sockets::ServedLine;
 use fax_clients::Clients;
 use fax_events::{Counters, Ending, Event, PageKept, What, write_event};
-use fax_gateway::{Kept, Side};
+use fax_gateway::{Kept, Refused, Side};
 use fax_jobs::{Outcome, Report};
 use std::alloc::Global;
 use std::io::{Read, Write};
@@ -69,26 +69,51 @@ impl<I: Read + Drop, O: Write + Drop> Teller<I, O> {
         self.tell(card.name(), at, What::Rung(call, card.tag(call)));
     }
 
-    /// Tells what the last turn of a line came to.
+    /// Tells what the last turn of a line came to, but for jobs.
     pub(crate) fn tell_turn(&mut self, card: &mut Card, line: &ServedLine, at: u64) {
         let turned = line.turned();
         if let Some(kept) = turned.kept {
             self.tell_page(card, kept, at);
         }
+        if let Some(refused) = turned.refused {
+            self.tell_refusal(card, refused, at);
+        }
         if let Some(call) = turned.ended {
-            let is_hung_up = line.wire().wire().leg(Side::Calling).is_hung_up();
-            let how = ending(is_hung_up, turned.gave_up.is_some(), card.is_closed());
+            let is_hung_up = leg_of(line, Side::Calling).is_hung_up();
+            let is_mute = line.wire().is_mute();
+            let how = ending(
+                is_mute,
+                is_hung_up,
+                turned.gave_up.is_some(),
+                card.is_closed(),
+            );
             self.tell(card.name(), at, What::Ended(call, how));
         }
-        if let Some(report) = turned.report {
-            self.count_report(report);
-            self.tell(card.name(), at, What::Job(report, card.tag(report.call)));
-        }
-        if let Some(call) = turned.dialled {
-            card.dial(counts_of(line, Side::Called).received);
-            self.tell(card.name(), at, What::Dial(call, card.tag(call)));
-        }
         self.tell_failures(card, line, at);
+    }
+
+    /// Tells a job that ended, of a call with this tag.
+    pub(crate) fn tell_job(&mut self, line: &str, report: Report, tag: Option<&str>, at: u64) {
+        self.count_report(report);
+        self.tell(line, at, What::Job(report, tag));
+    }
+
+    /// Tells a page of line `line` that could not be kept, of a call with this tag.
+    pub(crate) fn tell_not_kept(&mut self, line: &str, call: u32, tag: Option<&str>, at: u64) {
+        self.counters.put_failures = self.counters.put_failures.saturating_add(1);
+        self.tell(line, at, What::NotKept(call, tag));
+    }
+
+    /// A page was handed to the spool, which took so many microseconds.
+    pub(crate) fn count_put(&mut self, micros: u64) {
+        self.counters.puts = self.counters.puts.saturating_add(1);
+        self.counters.put_micros = self.counters.put_micros.saturating_add(micros);
+    }
+
+    /// Tells a page of an earlier life that is not sent: its call there, and its number in the call.
+    pub(crate) fn tell_aside(&mut self, line: &str, call: u32, number: u32) {
+        self.counters.pages_set_aside = self.counters.pages_set_aside.saturating_add(1);
+        self.tell(line, 0, What::SetAside(call, number));
     }
 
     /// Tells a page that was confirmed.
@@ -101,6 +126,17 @@ impl<I: Read + Drop, O: Write + Drop> Teller<I, O> {
             rows: kept.rows,
         };
         self.tell(card.name(), at, What::Page(page));
+    }
+
+    /// Tells a page that was refused.
+    fn tell_refusal(&mut self, card: &Card, refused: Refused, at: u64) {
+        self.counters.pages_refused = self.counters.pages_refused.saturating_add(1);
+        let Refused { call, why } = refused;
+        self.tell(
+            card.name(),
+            at,
+            What::RefusedPage(call, card.tag(call), why),
+        );
     }
 
     /// Counts a job that ended.
@@ -126,12 +162,14 @@ impl<I: Read + Drop, O: Write + Drop> Teller<I, O> {
     }
 }
 
-/// How a call ended: its peer's call was said to be gone, we gave it up, or its peer ended it; and the last page was said to be
-/// the last or not. A peer that says no more behind its last page has done what it called for.
-fn ending(is_hung_up: bool, is_given_up: bool, is_closed: bool) -> Ending
-    ensures { result ≡ ending_of is_hung_up is_given_up is_closed }
+/// How a call ended: a page of it could not be kept, its peer's call was said to be gone, we gave it up, or its peer ended it; and
+/// the last page was said to be the last or not. A peer that says no more behind its last page has done what it called for.
+fn ending(is_mute: bool, is_hung_up: bool, is_given_up: bool, is_closed: bool) -> Ending
+    ensures { result ≡ ending_of is_mute is_hung_up is_given_up is_closed }
 {
-    if is_closed {
+    if is_mute {
+        Ending::NotKept
+    } else if is_closed {
         Ending::Done
     } else if is_hung_up {
         Ending::HungUp

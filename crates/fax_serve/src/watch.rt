@@ -1,4 +1,5 @@
 //! Which legs have datagrams, as the system tells it.
+use crate::answers::leg_of;
 use crate::leg_socket::LegSocket;
 use crate::sockets::{ServedLine, ServedLines};
 use fax_gateway::Side;
@@ -18,27 +19,27 @@ const MOST_EVENTS: usize = 1_024;
 /// Watches the legs of lines. The socket of a leg that is watched is asked for a datagram only where the system told that
 /// one came, so that a leg on which nothing comes costs no call of the system.
 #[derive(Drop)]
-pub(crate) struct Watch {
+pub struct Watch {
     poll: Poll,
     events: Events,
 }
 
 impl Watch {
-    /// Watches these lines. An `Err` is that of the system: then a leg that is not watched is asked each time.
-    pub(crate) fn new(net: &impl Net, alloc: Global, lines: &ServedLines) -> io::Result<Self> {
+    /// Watches these lines. An `Err` is that of the system: then no leg is watched, and each is asked each time.
+    pub fn new(net: &impl Net, alloc: Global, lines: &ServedLines) -> io::Result<Self> {
         let poll = Poll::new(net)?;
         let events = Events::with_capacity(alloc, MOST_EVENTS)?;
-        for i in 0..lines.len().min(MOST_LINES) {
-            if let Some(line) = lines.line(i) {
-                watch_leg(&poll, leg_of(line, Side::Calling), Token(2 * i))?;
-                watch_leg(&poll, leg_of(line, Side::Called), Token(2 * i + 1))?;
+        match watch_lines(&poll, lines) {
+            Ok(()) => Ok(Watch { poll, events }),
+            Err(error) => {
+                leave_lines(lines);
+                Err(error)
             }
         }
-        Ok(Watch { poll, events })
     }
 
-    /// Wakes each leg on which a datagram came since this was asked last.
-    pub(crate) fn look(&mut self, lines: &ServedLines) {
+    /// Wakes each leg on which a datagram came since this was asked last, and adds its line to those that are to be woken.
+    pub fn look(&mut self, lines: &ServedLines, woken: &mut Vec<usize>) {
         if self
             .poll
             .poll(&mut self.events, Some(Duration::ZERO))
@@ -53,8 +54,10 @@ impl Watch {
             } else {
                 Side::Called
             };
-            if let Some(line) = lines.line(token / 2) {
+            let i = token / 2;
+            if let Some(line) = lines.line(i) {
                 leg_of(line, side).wake();
+                let _ = woken.push(i);
             }
         }
     }
@@ -66,9 +69,30 @@ pub(crate) fn wake_legs(line: &ServedLine) {
     leg_of(line, Side::Called).wake();
 }
 
-/// The socket of a leg.
-fn leg_of(line: &ServedLine, side: Side) -> &LegSocket {
-    line.wire().wire().leg(side)
+/// Whether one of the legs of a line may have something for it.
+pub(crate) fn asks(line: &ServedLine) -> bool {
+    leg_of(line, Side::Calling).asks() || leg_of(line, Side::Called).asks()
+}
+
+/// The legs of all lines are watched from now on.
+fn watch_lines(poll: &Poll, lines: &ServedLines) -> io::Result<()> {
+    for i in 0..lines.len().min(MOST_LINES) {
+        if let Some(line) = lines.line(i) {
+            watch_leg(poll, leg_of(line, Side::Calling), Token(2 * i))?;
+            watch_leg(poll, leg_of(line, Side::Called), Token(2 * i + 1))?;
+        }
+    }
+    Ok(())
+}
+
+/// No leg is watched.
+fn leave_lines(lines: &ServedLines) {
+    for i in 0..lines.len() {
+        if let Some(line) = lines.line(i) {
+            leg_of(line, Side::Calling).set_watched(false);
+            leg_of(line, Side::Called).set_watched(false);
+        }
+    }
 }
 
 /// A leg is watched from now on.
@@ -76,6 +100,6 @@ fn watch_leg(poll: &Poll, leg: &LegSocket, token: Token) -> io::Result<()> {
     let descriptor = leg.descriptor();
     poll.registry()
         .register(&mut SourceFd(&descriptor), token, Interest::READABLE)?;
-    leg.watch();
+    leg.set_watched(true);
     Ok(())
 }

@@ -1,5 +1,5 @@
 use Rattle.fax_line.specs.Runs.{deeds_of, latest}
-use Rattle.std.proofs.Common.{refl}
+use Rattle.std.proofs.Common.{[], refl}
 use Rattle.fax_serve.proofs.run.serve_new.Goals as goal
 
 pub returns : goal.returns
@@ -11,7 +11,8 @@ returns g c =
       deeds = deeds_of c.args.lines.slot done;
       last = latest done;
       as_many = refl;
-      new = c.requires;
+      restored = λ k d low. ([], c.requires k d low);
+      new = λ _. c.requires;
       went = c.serve.ensures.1;
       rising = c.serve.ensures.3;
     }
