@@ -1,5 +1,6 @@
 //! Events as lines, the lines that wait for a reader, and the counts.
 
+use fax_answer::Refusal;
 use fax_control::Leg;
 use fax_events::{
     Counters, Direction, Ending, Event, EventQueue, MOST_WAITING, PageKept, What, write_event,
@@ -46,12 +47,16 @@ fn events_are_lines_of_json(rt: HostRuntime) -> Result<(), Fail> {
             "{\"event\":\"page\",\"line\":\"a1\",\"at\":40,\"call\":3,\"number\":2,\"width\":1728,\"resolution\":\"fine\",\"rows\":2290}\n",
         ),
         (
-            What::RefusedPage(3, PageFault::BadLine(12)),
-            "{\"event\":\"refused_page\",\"line\":\"a1\",\"at\":40,\"call\":3,\"fault\":\"BadLine\",\"row\":12}\n",
+            What::RefusedPage(3, Some("x"), Refusal::Fault(PageFault::BadLine(12))),
+            "{\"event\":\"refused_page\",\"line\":\"a1\",\"at\":40,\"call\":3,\"tag\":\"x\",\"fault\":\"BadLine\",\"fault_number\":2,\"row\":12}\n",
         ),
         (
-            What::RefusedPage(3, PageFault::NoRtc),
-            "{\"event\":\"refused_page\",\"line\":\"a1\",\"at\":40,\"call\":3,\"fault\":\"NoRtc\"}\n",
+            What::RefusedPage(3, None, Refusal::Fault(PageFault::NoRtc)),
+            "{\"event\":\"refused_page\",\"line\":\"a1\",\"at\":40,\"call\":3,\"tag\":null,\"fault\":\"NoRtc\",\"fault_number\":3}\n",
+        ),
+        (
+            What::RefusedPage(3, None, Refusal::NotWhole),
+            "{\"event\":\"refused_page\",\"line\":\"a1\",\"at\":40,\"call\":3,\"tag\":null,\"fault\":\"NotWhole\"}\n",
         ),
         (
             What::Ended(3, Ending::Done),
@@ -72,6 +77,14 @@ fn events_are_lines_of_json(rt: HostRuntime) -> Result<(), Fail> {
         (
             What::Late(130),
             "{\"event\":\"late\",\"line\":\"a1\",\"at\":40,\"ms\":130}\n",
+        ),
+        (
+            What::NotKept(3, None),
+            "{\"event\":\"not_kept\",\"line\":\"a1\",\"at\":40,\"call\":3,\"tag\":null}\n",
+        ),
+        (
+            What::SetAside(3, 2),
+            "{\"event\":\"set_aside\",\"line\":\"a1\",\"at\":40,\"call\":3,\"number\":2}\n",
         ),
     ] {
         let event = Event {
@@ -130,12 +143,14 @@ fn counts_are_told(rt: HostRuntime) -> Result<(), Fail> {
     let counters = Counters {
         calls: 5,
         jobs_waiting: 2,
+        put_micros: 700,
         ..Counters::default()
     };
     let text = write_metrics(rt.alloc(), &counters)?;
     let text = text.as_str();
     assert!(rt; text.contains("# TYPE faxgate_calls_total counter\nfaxgate_calls_total 5\n"));
     assert!(rt; text.contains("# TYPE faxgate_jobs_waiting gauge\nfaxgate_jobs_waiting 2\n"));
+    assert!(rt; text.contains("\nfaxgate_put_microseconds_total 700\n"));
     assert!(rt; text.ends_with("\n# EOF\n"));
     Ok(())
 }

@@ -16,3 +16,5 @@ mod repeats;
 mod serving;
 #[cfg(test)]
 mod spool;
+#[cfg(test)]
+mod spooled;

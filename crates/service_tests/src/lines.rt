@@ -2,6 +2,10 @@
 #[cfg(test)]
 mod hang_up;
 mod peers;
+#[cfg(test)]
+mod rests;
+#[cfg(test)]
+mod settling;
 
 use fax_bits::NoMemory;
 use fax_gateway::{Buffer, Kept, RingFault, Settings, Turned};
@@ -40,6 +44,7 @@ const TOLD: Turned = Turned {
         rows: 1,
         closes: true,
     }),
+    refused: None,
     ended: Some(0),
     gave_up: None,
     dialled: Some(0),
@@ -50,6 +55,7 @@ const NOTHING: Turned = Turned {
     goes_on: true,
     report: None,
     kept: None,
+    refused: None,
     ended: None,
     gave_up: None,
     dialled: None,
@@ -107,6 +113,7 @@ fn told_in_a_call(line: &mut PeerLine, buffer: &mut Buffer) -> (Turned, u32) {
             goes_on: told.goes_on && turned.goes_on,
             report: told.report.or(turned.report),
             kept: told.kept.or(turned.kept),
+            refused: told.refused.or(turned.refused),
             ended: told.ended.or(turned.ended),
             gave_up: told.gave_up.or(turned.gave_up),
             dialled: told.dialled.or(turned.dialled),
@@ -121,6 +128,7 @@ fn count_of(turned: &Turned) -> u32 {
     for is_told in [
         turned.report.is_some(),
         turned.kept.is_some(),
+        turned.refused.is_some(),
         turned.ended.is_some(),
         turned.gave_up.is_some(),
         turned.dialled.is_some(),
@@ -155,7 +163,8 @@ fn a_page_is_lost_without_repeats(rt: HostRuntime) -> Result<(), Fail> {
     Ok(())
 }
 
-/// Gives a turn each millisecond, behind two rings, one of a line that is not there.
+/// Gives a turn each millisecond, behind two rings, one of a line that is not there. Before each turn it wakes one of two lines,
+/// since it is not told what comes.
 #[derive(Drop)]
 struct Minute {
     orders: u64,
@@ -172,10 +181,16 @@ impl<W: TimedWire + Drop> Pace<W> for Minute {
         match self.orders {
             1 => Some(Order::Ring { line: 1, now: 5 }),
             2 => Some(Order::Ring { line: 7, now: 5 }),
-            orders if orders < 60_000 => Some(Order::Turn { now: orders }),
+            orders if orders < 120_000 && orders % 2 == 0 => Some(Order::Turn { now: orders / 2 }),
+            orders if orders < 120_000 => Some(Order::Wake {
+                line: (orders / 2 % 2) as usize,
+            }),
             _ => None,
         }
     }
+
+    #[tactic(auto, using(fax_line::proofs::Running::went_none))]
+    fn settle(&mut self, _lines: &mut Lines<W>) {}
 
     fn rung(&mut self, line: usize, answer: Option<Result<u32, RingFault>>) {
         let _ = self.rung.push((line, answer));
@@ -197,7 +212,7 @@ fn lines_are_served(rt: HostRuntime) -> Result<(), Fail> {
     };
     serve(&mut lines, &mut minute);
     assert!(rt; minute.rung.as_slice() == [(1, Some(Ok(0))), (7, None)].as_slice());
-    assert_eq!(rt; lines.slot(), (60_000 - 3) % SLOTS);
+    assert_eq!(rt; lines.slot(), (60_000 - 2) % SLOTS);
     let rung = lines.line(1).expect(&rt, "a line");
     assert!(rt; rung.report(0) == Some(DELIVERED));
     let still = lines.line(0).expect(&rt, "a line");

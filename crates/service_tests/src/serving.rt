@@ -2,7 +2,7 @@
 use fax_clients::Clients;
 use fax_config::read_config;
 use fax_gateway::{Side, Wire};
-use fax_serve::{LegSocket, Schedule, UdpWire, serve_clients};
+use fax_serve::{LegSocket, Schedule, ServedLines, UdpWire, Watch, open_lines, serve_clients};
 use std::fs;
 use std::io::{Read, Write};
 use std::net::UdpSocket;
@@ -93,6 +93,54 @@ fn a_peer_that_is_gone_says_dcn(rt: HostRuntime) -> Result<(), Fail> {
     Ok(())
 }
 
+/// The rounds of turns from this one up to another, of 40 ms each.
+fn rounds(lines: &mut ServedLines, from: u32, to: u32) {
+    for now in 40 * u64::from(from)..40 * u64::from(to) {
+        lines.turn(now);
+    }
+}
+
+/// A line at rest is told of a datagram that comes for it, by its number, and takes it in the next turn of its slot.
+#[test]
+fn a_datagram_wakes_a_line(rt: HostRuntime) -> Result<(), Fail> {
+    let peer = socket(&rt)?;
+    let peer_address = peer.local_addr()?;
+    let address = socket(&rt)?.local_addr()?;
+    let config = format!(in rt.alloc();
+        "[[lines]]\nname = 'a1'\ncalling = {{ local = '{address}', peer = '{peer_address}' }}\ncalled = {{ local = '127.0.0.2:0' }}\n"
+    )?;
+    let config = read_config(rt.alloc(), config.as_str())?;
+    let mut lines = open_lines(&rt, rt.alloc(), config.lines.as_slice())?;
+    let mut watch = Watch::new(&rt, rt.alloc(), &lines)?;
+    let mut woken = Vec::new(rt.alloc());
+    rounds(&mut lines, 0, 2);
+    watch.look(&lines, &mut woken);
+    assert!(rt; woken.is_empty() && lines.is_at_rest(0, 80));
+    peer.send_to(b"page", address)?;
+    rounds(&mut lines, 2, 3);
+    assert_eq!(rt; received(&lines), 0);
+    watch.look(&lines, &mut woken);
+    assert!(rt; woken.as_slice() == [0].as_slice());
+    lines.wake(0);
+    rounds(&mut lines, 3, 4);
+    assert_eq!(rt; received(&lines), 1);
+    Ok(())
+}
+
+/// How many datagrams came on the calling leg of the first line.
+fn received(lines: &ServedLines) -> u64 {
+    match lines.line(0) {
+        Some(line) => line
+            .wire()
+            .wire()
+            .wire()
+            .leg(Side::Calling)
+            .counts()
+            .received,
+        None => 0,
+    }
+}
+
 const CONFIG: &str = "\
 [[lines]]
 name = 'a1'
@@ -129,7 +177,12 @@ ok
 ";
 
 /// Serves the lines of a configuration until a client has said these words, and gives what it was told.
-fn told(rt: &HostRuntime, path: &str, config: &str, words: &str) -> Result<String, Fail> {
+pub(crate) fn told(
+    rt: &HostRuntime,
+    path: &str,
+    config: &str,
+    words: &str,
+) -> Result<String, Fail> {
     let config = read_config(rt.alloc(), config)?;
     let listener = UnixListener::bind(rt, path)?;
     listener.set_nonblocking(true)?;

@@ -138,6 +138,8 @@ pub(super) struct PeerWire {
     now: u64,
     loses: u32,
     sends: u32,
+    /// How many datagrams the calling machine was handed.
+    to_calling: u32,
 }
 
 impl PeerWire {
@@ -152,12 +154,18 @@ impl PeerWire {
             now: 0,
             loses,
             sends: 0,
+            to_calling: 0,
         })
     }
 
     /// How many pages the called machine confirmed.
     pub fn confirmed(&self) -> u32 {
         self.called.confirmed
+    }
+
+    /// How many datagrams the calling machine was handed.
+    pub fn to_calling(&self) -> u32 {
+        self.to_calling
     }
 
     /// The machines act, once a turn.
@@ -199,7 +207,10 @@ impl Wire for PeerWire {
             return Ok(());
         }
         match side {
-            Side::Calling => self.calling.hear(octets, self.now),
+            Side::Calling => {
+                self.to_calling = self.to_calling.saturating_add(1);
+                self.calling.hear(octets, self.now);
+            }
             Side::Called => self.called.hear(octets, self.now),
         }
         Ok(())

@@ -1,0 +1,143 @@
+//! A process that puts pages until it is killed, and one that tells what it left: the two halves of `tools/crash`. They do nothing
+//! but where the environment names a folder.
+use fax_jobs::Outcome;
+use fax_keep::{KeptFile, open_folder};
+use fax_runcodes::{Format, Width};
+use fax_spool::{EndedRecord, PageRecord, Spool, WaitingPage};
+use sqlite_disk::Unknown;
+use std::alloc::{AllocError, Global};
+use std::test::Fail;
+use std::time::Instant;
+use std::{env, io};
+
+const FORMAT: Format = Format {
+    width: Width::W2048,
+    fine: false,
+};
+
+/// So many pages wait at most.
+const MOST_WAITING: u32 = 40;
+
+/// A number that the environment gives, or this one.
+fn number_in(rt: &HostRuntime, name: &str, or: u32) -> u32 {
+    match env::var(rt, name) {
+        Ok(text) => text.as_str().parse().unwrap_or(or),
+        Err(_) => or,
+    }
+}
+
+/// The text of the page of a number: octets that follow from it alone.
+fn text_of(alloc: Global, number: u32, octets: u32) -> Result<Vec<u8>, AllocError> {
+    let mut text = Vec::new(alloc);
+    for at in 0..octets {
+        let octet = number.wrapping_mul(31).wrapping_add(at.wrapping_mul(7)) % 251;
+        text.push(octet as u8)?;
+    }
+    Ok(text)
+}
+
+/// Whether a page has the text of its number.
+fn is_right(alloc: Global, page: &WaitingPage) -> Result<bool, AllocError> {
+    let octets = page.text.len().min(0xffff_ffff) as u32;
+    let text = text_of(alloc, page.number, octets)?;
+    Ok(text.as_slice() == page.text.as_slice())
+}
+
+/// The page of a number is put.
+fn put(
+    spool: &mut Spool<KeptFile>,
+    alloc: Global,
+    life: u32,
+    number: u32,
+    text: &[u8],
+) -> io::Result<()> {
+    let page = PageRecord {
+        life,
+        call: 0,
+        number,
+        format: FORMAT,
+        closes: true,
+        line: b"a1",
+        tag: b"t",
+        text,
+    };
+    spool.put(alloc, &page)
+}
+
+/// The job of the page of a number ended; the files take turns.
+fn end(spool: &mut Spool<KeptFile>, alloc: Global, life: u32, number: u32) -> io::Result<()> {
+    let ended = EndedRecord {
+        life,
+        call: 0,
+        first: number,
+        pages: 1,
+        delivered: 1,
+        format: FORMAT,
+        outcome: Outcome::Delivered,
+        line: b"a1",
+    };
+    spool.end(alloc, &ended)?;
+    if spool.clear()? {
+        spool.change(alloc)?;
+    }
+    Ok(())
+}
+
+/// Ends the jobs of the pages that wait, and puts page behind page, and tells each with the nanoseconds that it took. `SPOOL_PAGES`: how many; `SPOOL_OCTETS`: of which length;
+/// `SPOOL_ENDS`: whether the jobs of pages end as more come.
+#[test]
+fn puts_pages(rt: HostRuntime) -> Result<(), Fail> {
+    let Ok(folder) = env::var(&rt, "SPOOL_PUTS") else {
+        return Ok(());
+    };
+    let octets = number_in(&rt, "SPOOL_OCTETS", 40_000);
+    let ends = number_in(&rt, "SPOOL_ENDS", 1) == 1;
+    let opened = open_folder(&rt, folder.as_str(), Unknown)?;
+    let mut spool = opened.spool;
+    let life = spool.epoch();
+    println!(rt; "life {life}")?;
+    for page in opened.pages.as_slice() {
+        end(&mut spool, rt.alloc(), page.life, page.number)?;
+        println!(rt; "ended {} {}", page.life, page.number)?;
+    }
+    for number in 1..number_in(&rt, "SPOOL_PAGES", 1000).saturating_add(1) {
+        let text = text_of(rt.alloc(), number, octets)?;
+        let start = Instant::now(&rt)?;
+        put(&mut spool, rt.alloc(), life, number, text.as_slice())?;
+        let took = start.elapsed(&rt)?.as_nanos();
+        println!(rt; "put {number} {took}")?;
+        if ends && number > MOST_WAITING {
+            end(&mut spool, rt.alloc(), life, number - MOST_WAITING)?;
+            println!(rt; "ended {life} {}", number - MOST_WAITING)?;
+        }
+    }
+    Ok(())
+}
+
+/// Tells how long a spool took to open, in nanoseconds, with the number of its life, and what it was found to hold.
+#[test]
+fn lists_pages(rt: HostRuntime) -> Result<(), Fail> {
+    let Ok(folder) = env::var(&rt, "SPOOL_LISTS") else {
+        return Ok(());
+    };
+    let start = Instant::now(&rt)?;
+    let opened = open_folder(&rt, folder.as_str(), Unknown)?;
+    let took = start.elapsed(&rt)?.as_nanos();
+    let damaged = (opened.older_damaged, opened.newer_damaged);
+    println!(rt;
+        "opened {} {took} {} {}",
+        opened.spool.epoch(),
+        damaged.0,
+        damaged.1
+    )?;
+    for page in opened.pages.as_slice() {
+        let right = is_right(rt.alloc(), page)?;
+        println!(rt;
+            "waits {} {} {} {right}",
+            page.life,
+            page.number,
+            page.text.len()
+        )?;
+    }
+    Ok(())
+}
