@@ -1,31 +1,55 @@
--- Lines at their moments.
-use Rattle.std.proofs.Common.{◌≡◌, ℕ, List, [], ◌∷◌, ◌++◌, refl, sym, ◌∙◌, ap, ap₂, append-nil, append_assoc, decimal}
-use Rattle.std.specs.List.{All}
-use Rattle.std.proofs.lemmas.List.Elements.{All-push}
+-- What is told, and lines at their moments.
+use Rattle.std.proofs.Common.{◌≡◌, ℕ, List, [], ◌∷◌, ◌++◌, inl, inr, refl, sym, ◌∙◌, ap, ap₂, subst, append-nil, append_assoc, decimal, string_bytes, ◌+◌, ◌<◌, length, take, get_or}
+use Rattle.std.proofs.lemmas.List.{take_more}
 use Rattle.fax_command.specs.RowLines.{text_of_lines}
 use Rattle.fax_command.proofs.TellLemmas.{text_of_lines-append}
+use Rattle.fax_gateway.specs.Setups.{Setup}
 use Rattle.fax_trace.specs.declared.event.ScriptEvent.{ScriptEvent}
-use Rattle.fax_trace.specs.Playing.{moment_at}
-use Rattle.fax_explain.specs.Ladders.{IsAt, IsParagraph, Tell, last_moment}
+use Rattle.fax_trace.specs.Playing.{Played, moment_at}
+use Rattle.fax_explain.specs.declared.tale.Entry.{Entry}
+use Rattle.fax_explain.specs.Ladders.{Tells, AreLines, IsParagraph, TellsPlay, TellAll}
+use Rattle.fax_explain.specs.Staged.{told_in}
 
--- one event more
-pub Tell-push : (last : ℕ) (events : List ScriptEvent) (event : ScriptEvent) (lines own : List (List ℕ)) → Tell last events lines
-    → All (IsAt (moment_at event (last_moment last events))) own → Tell last (events ++ event ∷ []) (lines ++ own)
-Tell-push last [] event lines own so_far more = (own, ([], ap (λ l. l ++ own) so_far ∙ sym (append-nil own), more, refl))
-Tell-push last (e ∷ events) event lines own so_far more =
-    (so_far.0, (so_far.1.0 ++ own, ap (λ l. l ++ own) so_far.1.1 ∙ append_assoc so_far.0 so_far.1.0 own, so_far.1.2, Tell-push (moment_at e last) events event so_far.1.0 own so_far.1.3 more))
-
-pub last_moment-push : (last : ℕ) (events : List ScriptEvent) (event : ScriptEvent) → last_moment last (events ++ event ∷ []) ≡ moment_at event (last_moment last events)
-last_moment-push last [] event = refl
-last_moment-push last (e ∷ events) event = last_moment-push (moment_at e last) events event
+-- what is told in one entry more
+pub told_in-push : (entries : List Entry) (entry : Entry) → told_in (entries ++ entry ∷ []) ≡ told_in entries ++ string_bytes entry.words ∷ []
+told_in-push [] entry = refl
+told_in-push (e ∷ entries) entry = ap (λ (told : List (List ℕ)). string_bytes e.words ∷ told) (told_in-push entries entry)
 
 -- one line more
-pub paragraph_push : (moment : ℕ) (old words new : List ℕ) → IsParagraph moment old → new ≡ old ++ (decimal moment ++ (32 ∷ (words ++ 10 ∷ []))) → IsParagraph moment new
-paragraph_push moment old words new so_far is =
-    let line : List ℕ = decimal moment ++ 32 ∷ words in
-    let one : text_of_lines (line ∷ []) ≡ decimal moment ++ (32 ∷ (words ++ 10 ∷ [])) = append-nil (line ++ 10 ∷ []) ∙ append_assoc (decimal moment) (32 ∷ words) (10 ∷ []) in
+pub AreLines-push : (moment : ℕ) (told lines : List (List ℕ)) (words line : List ℕ) → AreLines moment told lines → Tells moment words line
+    → AreLines moment (told ++ words ∷ []) (lines ++ line ∷ [])
+AreLines-push moment [] [] words line so_far more = (more, tt)
+AreLines-push moment [] (l ∷ lines) words line so_far more = absurd so_far
+AreLines-push moment (w ∷ told) [] words line so_far more = absurd so_far
+AreLines-push moment (w ∷ told) (l ∷ lines) words line so_far more = (so_far.0, AreLines-push moment told lines words line so_far.1 more)
+
+pub paragraph_push : (moment : ℕ) (told : List (List ℕ)) (place words all old new : List ℕ) → all ≡ place ++ words → IsParagraph moment told old
+    → new ≡ old ++ (decimal moment ++ (32 ∷ (all ++ 10 ∷ []))) → IsParagraph moment (told ++ words ∷ []) new
+paragraph_push moment told place words all old new whole so_far is =
+    let line : List ℕ = decimal moment ++ 32 ∷ all in
+    let one : text_of_lines (line ∷ []) ≡ decimal moment ++ (32 ∷ (all ++ 10 ∷ [])) = append-nil (line ++ 10 ∷ []) ∙ append_assoc (decimal moment) (32 ∷ all) (10 ∷ []) in
     record {
       lines = so_far.lines ++ line ∷ [];
-      are_at = All-push (IsAt moment) so_far.lines line so_far.are_at (words, refl);
+      are_at = AreLines-push moment told so_far.lines words line so_far.are_at (place, ap (λ (a : List ℕ). decimal moment ++ 32 ∷ a) whole);
       text_is = is ∙ ap₂ (λ a b. a ++ b) so_far.text_is (sym one) ∙ sym (text_of_lines-append so_far.lines (line ∷ []));
     }
+
+-- the moment behind an event is that of the event
+pub moment_behind : (setup : Setup) (old : Played) (event : ScriptEvent) (new : Played) (told : List (List ℕ)) → TellsPlay setup old event new told
+    → new.moment ≡ moment_at event old.moment
+moment_behind setup old event new told (inl t) = ap (λ (p : Played). p.moment) t.accepts.new_is ∙ t.accepts.at
+moment_behind setup old event new told (inr t) = ap (λ (p : Played). p.moment) t.refuses.new_is ∙ sym (ap (λ (e : ScriptEvent). moment_at e old.moment) t.refuses.is_ring)
+
+-- one event more
+pub TellAll-push : (setup : Setup) (old : Played) (events : List ScriptEvent) (event : ScriptEvent) (mid new : Played) (lines told own : List (List ℕ))
+    → TellAll setup old events mid lines → TellsPlay setup mid event new told → AreLines new.moment told own → TellAll setup old (events ++ event ∷ []) new (lines ++ own)
+TellAll-push setup old [] event mid new lines told own all one at =
+    (new, told, own, [], subst (λ (p : Played). TellsPlay setup p event new told) all.0 one, at, ap (λ l. l ++ own) all.1 ∙ sym (append-nil own), (refl, refl))
+TellAll-push setup old (e ∷ events) event mid new lines told own all one at =
+    (all.0, all.1, all.2, all.3 ++ own, all.4, all.5, ap (λ l. l ++ own) all.6 ∙ append_assoc all.2 all.3 own, TellAll-push setup all.0 events event mid new all.3 told own all.7 one at)
+
+-- what is told in entries up to a place, and in the one there
+pub told_more : (entries : List Entry) (i : ℕ) (entry : Entry) → i < length entries → entry ≡ get_or entries i entry
+    → told_in (take (i + 1) entries) ≡ told_in (take i entries) ++ string_bytes entry.words ∷ []
+told_more entries i entry h e =
+    ap told_in (take_more entries i entry h ∙ ap (λ (x : Entry). take i entries ++ x ∷ []) (sym e)) ∙ told_in-push (take i entries) entry

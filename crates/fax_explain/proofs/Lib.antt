@@ -1,2 +1,4 @@
 pub mod ExplainLemmas
 pub mod LadderLemmas
+pub mod PlayLemmas
+pub mod Told

@@ -1,2 +1,3 @@
 pub mod Ladders
 pub mod Explained
+pub mod Staged

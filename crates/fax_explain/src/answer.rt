@@ -1,10 +1,11 @@
 //! What is answered to a script.
 ghost use Rattle.std.specs.Prelude.{ℕ, ◌≡◌, ◌++◌, List, [], IfOk, OnOk, OnErr};
+ghost use Rattle.fax_gateway.specs.declared.settings.Settings.{Settings as GatewaySettings};
 ghost use Rattle.fax_gateway.specs.Setups.{AreAllowed};
 ghost use Rattle.fax_trace.specs.Kept.{status_of_answer, text_of_answer};
 ghost use Rattle.fax_trace.specs.Playing.{moment_at};
-ghost use Rattle.fax_explain.specs.Ladders.{IsParagraph};
 ghost use Rattle.fax_explain.specs.Explained.{Explains, HasTold};
+ghost use Rattle.fax_explain.specs.Staged.{IsNew, TellsOn};
 
 use crate::paragraph::paragraph_of;
 use crate::stage::{FoundPage, Stage};
@@ -24,7 +25,7 @@ pub(crate) struct Explanation {
 /// Explains a script.
 pub(crate) fn explain(alloc: Global, script: &[u8], settings: Settings) -> Explanation
     requires { AreAllowed settings }
-    ensures { Explains script.now (status_of_answer result.answer) (text_of_answer result.answer) }
+    ensures { Explains settings script.now (status_of_answer result.answer) (text_of_answer result.answer) }
 {
     let mut text = Vec::new(alloc);
     let mut pages = Vec::new(alloc);
@@ -37,7 +38,8 @@ pub(crate) fn explain(alloc: Global, script: &[u8], settings: Settings) -> Expla
 
 /// The answer where playing ended so, behind this text.
 fn answer_of(alloc: Global, outcome: Result<(), ScriptFault>, mut text: Vec<u8>) -> Answer
-    ensures { (script : List ℕ) → HasTold script outcome text.items → Explains script (status_of_answer result) (text_of_answer result) }
+    ensures { (set : GatewaySettings) (script : List ℕ) → HasTold set script outcome text.items
+        → Explains set script (status_of_answer result) (text_of_answer result) }
 {
     match outcome {
         Ok(()) => Answer::Done(text),
@@ -59,7 +61,7 @@ fn explain_script(
 ) -> Result<(), ScriptFault>
     requires allowed { AreAllowed settings }
     requires empty { text.old.items ≡ [] }
-    ensures { HasTold script.now result text.new.items }
+    ensures { HasTold settings script.now result text.new.items }
 {
     let mut stage = Stage::new(alloc, settings)?;
     explain_lines(alloc, &mut stage, script, text, pages)
@@ -73,8 +75,9 @@ fn explain_lines(
     text: &mut Vec<u8>,
     pages: &mut Vec<FoundPage>,
 ) -> Result<(), ScriptFault>
-    requires { text.old.items ≡ [] }
-    ensures { HasTold script.now result text.new.items }
+    requires new { IsNew stage.old }
+    requires empty { text.old.items ≡ [] }
+    ensures { HasTold stage.old.gateway.settings script.now result text.new.items }
 {
     let mut rest = script;
     let mut number = 0;
@@ -119,7 +122,7 @@ fn explain_event(
     moment: u64,
     pages: &mut Vec<FoundPage>,
 ) -> Result<Vec<u8>, NoMemory>
-    ensures { IfOk result (λ own. IsParagraph moment own.items) }
+    ensures { IfOk result (λ own. TellsOn event.now moment own.items stage.old.gateway stage.new.gateway) }
 {
     let scene = stage.play(event, moment)?;
     for found in scene.pages {

@@ -9,14 +9,60 @@ use fax_frames::Frame;
 use fax_gateway::{Given, Side};
 use std::alloc::Global;
 
+/// A command that is sent, and waits for its answer.
+#[derive(Clone, Copy, PartialEq, Eq)]
+enum Command {
+    /// DCS, with the training check behind it.
+    Training,
+    Mps,
+    Eom,
+    Eop,
+}
+
+impl Command {
+    /// The command that a frame is.
+    fn of(frame: Frame) -> Option<Self> {
+        match frame {
+            Frame::Dcs(_) => Some(Command::Training),
+            Frame::Mps => Some(Command::Mps),
+            Frame::Eom => Some(Command::Eom),
+            Frame::Eop => Some(Command::Eop),
+            _ => None,
+        }
+    }
+
+    /// The name of its frame.
+    fn name(self) -> &'static str {
+        match self {
+            Command::Training => "DCS",
+            Command::Mps => "MPS",
+            Command::Eom => "EOM",
+            Command::Eop => "EOP",
+        }
+    }
+
+    /// Whether a frame answers it (ITU-T T.30, 5.3.6.1.7).
+    fn is_answered_by(self, frame: Frame) -> bool {
+        match frame {
+            Frame::Dcn => true,
+            Frame::Cfr | Frame::Ftt => self == Command::Training,
+            Frame::Mcf | Frame::Rtp | Frame::Rtn => self != Command::Training,
+            _ => false,
+        }
+    }
+}
+
 /// What is heard on the called leg.
 #[derive(Drop)]
 pub(crate) struct CalledLeg {
     alloc: Global,
     theirs: Listener,
     ours: Listener,
-    /// The command that waits for its answer: whether it is one behind a page.
-    asked: Option<bool>,
+    /// The command that waits for its answer.
+    asked: Option<Command>,
+    /// Whether a DIS was heard since the packet that was given last, and since the one before that up to it.
+    has_dis: bool,
+    had_dis: bool,
     /// The call whose pages were sent last, and how many of them went out in jobs that have ended.
     call: Option<u32>,
     before: u32,
@@ -32,6 +78,8 @@ impl CalledLeg {
             theirs: Listener::new(alloc, Lane::FromCalled),
             ours: Listener::new(alloc, Lane::ToCalled),
             asked: None,
+            has_dis: false,
+            had_dis: false,
             call: None,
             before: 0,
             delivered: 0,
@@ -43,6 +91,8 @@ impl CalledLeg {
         self.theirs = Listener::new(self.alloc, Lane::FromCalled);
         self.ours = Listener::new(self.alloc, Lane::ToCalled);
         self.asked = None;
+        self.has_dis = false;
+        self.had_dis = false;
         self.delivered = 0;
         if self.call != Some(call) {
             self.call = Some(call);
@@ -55,26 +105,41 @@ impl CalledLeg {
         self.before = self.before.saturating_add(pages);
     }
 
+    /// The command that has no answer, where one waits for it.
+    pub fn unanswered(&self) -> Option<&'static str> {
+        match self.asked {
+            Some(command) => Some(command.name()),
+            None => None,
+        }
+    }
+
     /// The octets of a datagram come from the called machine.
     pub fn hear(&mut self, octets: &[u8], tale: &mut Tale) -> Result<(), NoMemory> {
         self.theirs.hear(octets, tale)?;
         for frame in self.theirs.frames() {
+            if let Frame::Dis(_) = frame {
+                self.has_dis = true;
+            }
+            let Some(command) = self.asked else {
+                continue;
+            };
+            if !command.is_answered_by(*frame) {
+                continue;
+            }
+            self.asked = None;
             match frame {
-                Frame::Dis(_) | Frame::Csi | Frame::Nsf => {}
-                Frame::Mcf | Frame::Rtp => {
-                    if self.asked == Some(true) {
-                        self.delivered = self.delivered.saturating_add(1);
-                    }
-                    self.asked = None;
-                }
-                Frame::Cfr => {
-                    self.ours.confirm_training();
-                    self.asked = None;
-                }
-                _ => self.asked = None,
+                Frame::Cfr => self.ours.confirm_training(),
+                Frame::Mcf | Frame::Rtp => self.delivered = self.delivered.saturating_add(1),
+                _ => {}
             }
         }
         Ok(())
+    }
+
+    /// The octets of a datagram come from the called machine while no call is on.
+    pub fn hear_outside(&mut self, octets: &[u8], tale: &mut Tale) -> Result<(), NoMemory> {
+        self.theirs.end_call();
+        self.theirs.hear(octets, tale)
     }
 
     /// What a tick gives on this leg. It answers the page that it sends, where the last of it is given.
@@ -83,10 +148,13 @@ impl CalledLeg {
             return Ok(None);
         };
         self.ours.hear(octets.as_slice(), tale)?;
+        self.theirs.attend(!self.ours.rests());
         match self.ours.frames().last().copied() {
-            Some(Frame::Dcs(_)) => self.ask(false, tale)?,
-            Some(Frame::Mps | Frame::Eom | Frame::Eop) => self.ask(true, tale)?,
-            _ => {}
+            Some(frame) => self.ask(Command::of(frame), tale)?,
+            None => {
+                self.had_dis = self.has_dis;
+                self.has_dis = false;
+            }
         }
         match self.ours.take_page() {
             None => Ok(None),
@@ -101,12 +169,19 @@ impl CalledLeg {
         }
     }
 
-    /// A command was given, one behind a page or a DCS. Where the one before has no answer, the timer is told.
-    fn ask(&mut self, behind_page: bool, tale: &mut Tale) -> Result<(), NoMemory> {
-        if self.asked == Some(behind_page) {
-            tale.add(", again: T4, no answer in 3 s")?;
+    /// A command was given, where there is one. Where the same one has no answer, that is told, with what gave it again.
+    fn ask(&mut self, command: Option<Command>, tale: &mut Tale) -> Result<(), NoMemory> {
+        if command.is_none() {
+            return Ok(());
         }
-        self.asked = Some(behind_page);
+        if self.asked == command {
+            tale.add(if self.had_dis {
+                ", again: DIS came, and no answer"
+            } else {
+                ", again: T4, no answer in 3 s"
+            })?;
+        }
+        self.asked = command;
         Ok(())
     }
 }

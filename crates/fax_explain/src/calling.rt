@@ -33,11 +33,13 @@ pub(crate) struct CallingLeg {
 }
 
 impl CallingLeg {
-    /// A leg on which nothing came or was given.
+    /// A leg on which nothing came or was given: our DIS waits.
     pub fn new(alloc: Global) -> Self {
+        let mut theirs = Listener::new(alloc, Lane::FromCaller);
+        theirs.attend(true);
         CallingLeg {
             alloc,
-            theirs: Listener::new(alloc, Lane::FromCaller),
+            theirs,
             ours: Listener::new(alloc, Lane::ToCaller),
             exchange: Exchange::Before,
             pages: 0,
@@ -55,6 +57,12 @@ impl CallingLeg {
         Ok(())
     }
 
+    /// The octets of a datagram come from the caller while no call is on.
+    pub fn hear_outside(&mut self, octets: &[u8], tale: &mut Tale) -> Result<(), NoMemory> {
+        self.theirs.end_call();
+        self.theirs.hear(octets, tale)
+    }
+
     /// What a tick gives on this leg. It answers the page that it confirms.
     pub fn give(&mut self, given: &Given, tale: &mut Tale) -> Result<Option<FoundPage>, NoMemory> {
         let Some(octets) = &given.calling else {
@@ -64,9 +72,10 @@ impl CallingLeg {
             tale.tell(Lane::Inside, self.why_given_up())?;
         }
         self.ours.hear(octets.as_slice(), tale)?;
-        match self.ours.frames().last().copied() {
+        let frame = self.ours.frames().last().copied();
+        self.theirs.attend(frame.is_none());
+        match frame {
             Some(Frame::Dis(_)) => self.identify(tale)?,
-            Some(Frame::Cfr) => self.theirs.confirm_training(),
             Some(Frame::Mcf) => return self.confirm(given.kept, tale),
             Some(Frame::Rtn) => {
                 tale.add(": ")?;

@@ -8,6 +8,7 @@ mod answer;
 mod called;
 mod calling;
 mod endings;
+mod frame_ends;
 mod image;
 mod judged;
 mod keeper;

@@ -1,6 +1,7 @@
 //! Lines of the ladder.
-ghost use Rattle.std.specs.Prelude.{ℕ, ◌≡◌, ◌++◌, ◌∷◌, [], List, decimal, OnOk, IfOk};
+ghost use Rattle.std.specs.Prelude.{ℕ, ◌≡◌, ◌++◌, ◌∷◌, [], List, decimal, OnOk, IfOk, string_bytes};
 ghost use Rattle.fax_explain.specs.Ladders.{IsParagraph};
+ghost use Rattle.fax_explain.specs.Staged.{told_in};
 
 use crate::tale::Entry;
 use fax_bits::NoMemory;
@@ -13,7 +14,7 @@ pub(crate) fn paragraph_of(
     moment: u64,
     entries: &[Entry],
 ) -> Result<Vec<u8>, NoMemory>
-    ensures { IfOk result (λ text. IsParagraph moment text.items) }
+    ensures { IfOk result (λ text. IsParagraph moment (told_in entries.now) text.items) }
 {
     let mut text = Vec::new(alloc);
     for entry in entries {
@@ -24,7 +25,8 @@ pub(crate) fn paragraph_of(
 
 /// Adds the line of a thing that happened at a moment.
 fn push_line(alloc: Global, text: &mut Vec<u8>, moment: u64, entry: &Entry) -> Result<(), NoMemory>
-    ensures { OnOk result (IsParagraph moment text.old.items → IsParagraph moment text.new.items) }
+    ensures { OnOk result ((told : List (List ℕ)) → IsParagraph moment told text.old.items
+        → IsParagraph moment (told ++ string_bytes entry.now.words ∷ []) text.new.items) }
 {
     let words = words_of(alloc, moment, entry)?;
     push_words(text, moment, words.as_str().as_bytes())?;
@@ -32,7 +34,9 @@ fn push_line(alloc: Global, text: &mut Vec<u8>, moment: u64, entry: &Entry) -> R
 }
 
 /// What stands behind the moment: spaces up to the ninth column, where it happened, and what.
-fn words_of(alloc: Global, moment: u64, entry: &Entry) -> Result<String, NoMemory> {
+fn words_of(alloc: Global, moment: u64, entry: &Entry) -> Result<String, NoMemory>
+    ensures { IfOk result (λ words. (place : List ℕ) × (string_bytes words ≡ place ++ string_bytes entry.now.words)) }
+{
     let mut words = String::new(alloc);
     let mut left = moment / 10;
     for _ in 0..8 {

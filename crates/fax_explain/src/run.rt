@@ -31,7 +31,7 @@ pub fn run_explain<I: Source, O: Sink, K: PageKeeper>(
     // Where the input is known, what is written explains it, unless a read, a write or a page failed or the input went past
     // its bound.
     ensures answers { result ≢ 4 → IfSome (I.remaining source.old) (λ input. (text : List ℕ)
-        × Explains input result text × Appends (O.contents sink.old) (O.contents sink.new) text) }
+        × Explains settings input result text × Appends (O.contents sink.old) (O.contents sink.new) text) }
     ensures handed_on { result ≢ 4 → O.held_back sink.new ≡ false }
     ensures unwritten { result ≡ 4 → O.failed sink.new ≡ false → Keeps (O.contents sink.old) (O.contents sink.new) }
 

@@ -1,5 +1,12 @@
 //! A gateway on which a script is played, and what is heard on its legs.
-ghost use Rattle.fax_gateway.specs.Setups.{AreAllowed};
+ghost use Rattle.std.specs.Prelude.{ℕ, ◌≡◌, [], IfOk, OnOk};
+ghost use Rattle.fax_call.specs.Writings.{IsWriting, Writing};
+ghost use Rattle.fax_gateway.specs.Setups.{AreAllowed, Setup};
+ghost use Rattle.fax_gateway.specs.Reached.{IsReachedBy};
+ghost use Rattle.fax_trace.specs.declared.event.ScriptEvent.TheVariants as script;
+ghost use Rattle.fax_trace.specs.Playing.{Played, moment_at};
+ghost use Rattle.fax_explain.specs.Ladders.{EndsWithReport};
+ghost use Rattle.fax_explain.specs.Staged.{IsNew, PlaysOn, told_in};
 
 use crate::called::CalledLeg;
 use crate::calling::CallingLeg;
@@ -30,7 +37,9 @@ pub(crate) struct Scene {
 
 impl Scene {
     /// Nothing has happened.
-    fn new(alloc: Global) -> Self {
+    fn new(alloc: Global) -> Self
+        ensures { told_in result.tale.entries.items ≡ [] }
+    {
         Scene {
             tale: Tale::new(alloc),
             pages: Vec::new(alloc),
@@ -51,6 +60,8 @@ impl Stage {
     /// A gateway with these settings, to which nothing came.
     pub fn new(alloc: Global, settings: Settings) -> Result<Self, NoMemory>
         requires { AreAllowed settings }
+        ensures new { IfOk result (λ stage. IsNew stage) }
+        ensures settings { IfOk result (λ stage. stage.gateway.settings ≡ settings) }
     {
         let gateway = Gateway::with_settings(alloc, settings)?;
         Ok(Stage {
@@ -62,23 +73,39 @@ impl Stage {
     }
 
     /// Plays an event at a moment, and tells what happened.
-    pub fn play(&mut self, event: &ScriptEvent, moment: u64) -> Result<Scene, NoMemory> {
+    pub fn play(&mut self, event: &ScriptEvent, moment: u64) -> Result<Scene, NoMemory>
+        ensures { IfOk result (λ scene. (setup : Setup) (writes : Writing) (old : Played) → IsWriting writes → moment ≡ moment_at event.now old.moment
+            → IsReachedBy setup writes old.trace self.old.gateway → PlaysOn setup writes old event.now (told_in scene.tale.entries.items) self.new.gateway) }
+    {
         let mut scene = Scene::new(self.alloc);
-        match event {
-            ScriptEvent::Ring => self.ring(moment, &mut scene.tale)?,
-            ScriptEvent::FromCalling(octets) => {
-                self.hear_calling(octets.as_slice(), moment, &mut scene.tale)?;
-            }
-            ScriptEvent::FromCalled(octets) => {
-                self.hear_called(octets.as_slice(), moment, &mut scene.tale)?;
-            }
-            ScriptEvent::Tick(_) => self.tick(moment, &mut scene)?,
-        }
+        self.act(event, moment, &mut scene)?;
         Ok(scene)
     }
 
+    /// Plays an event at a moment, of which nothing was told.
+    fn act(&mut self, event: &ScriptEvent, moment: u64, scene: &mut Scene) -> Result<(), NoMemory>
+        requires { told_in scene.old.tale.entries.items ≡ [] }
+        ensures { OnOk result ((setup : Setup) (writes : Writing) (old : Played) → IsWriting writes → moment ≡ moment_at event.now old.moment
+            → IsReachedBy setup writes old.trace self.old.gateway → PlaysOn setup writes old event.now (told_in scene.new.tale.entries.items) self.new.gateway) }
+    {
+        match event {
+            ScriptEvent::Ring => self.ring(moment, &mut scene.tale),
+            ScriptEvent::FromCalling(octets) => {
+                self.hear_calling(octets.as_slice(), moment, &mut scene.tale)
+            }
+            ScriptEvent::FromCalled(octets) => {
+                self.hear_called(octets.as_slice(), moment, &mut scene.tale)
+            }
+            ScriptEvent::Tick(moment) => self.tick(*moment, scene),
+        }
+    }
+
     /// It rings.
-    fn ring(&mut self, moment: u64, tale: &mut Tale) -> Result<(), NoMemory> {
+    fn ring(&mut self, moment: u64, tale: &mut Tale) -> Result<(), NoMemory>
+        requires { told_in tale.old.entries.items ≡ [] }
+        ensures { OnOk result ((setup : Setup) (writes : Writing) (old : Played) → moment ≡ old.moment → IsReachedBy setup writes old.trace self.old.gateway
+            → PlaysOn setup writes old script.Ring (told_in tale.new.entries.items) self.new.gateway) }
+    {
         match self.gateway.ring(moment) {
             Ok(call) => {
                 self.calling = CallingLeg::new(self.alloc);
@@ -92,33 +119,38 @@ impl Stage {
     }
 
     /// A datagram comes on the calling leg.
-    fn hear_calling(
-        &mut self,
-        octets: &[u8],
-        moment: u64,
-        tale: &mut Tale,
-    ) -> Result<(), NoMemory> {
-        let Some(call) = self.gateway.call() else {
-            return tale.tell(Lane::FromCaller, "a datagram passed over: no call is on");
-        };
+    fn hear_calling(&mut self, octets: &[u8], moment: u64, tale: &mut Tale) -> Result<(), NoMemory>
+        ensures { OnOk result ((setup : Setup) (writes : Writing) (old : Played) → moment ≡ old.moment → IsReachedBy setup writes old.trace self.old.gateway
+            → PlaysOn setup writes old (script.FromCalling octets.now) (told_in tale.new.entries.items) self.new.gateway) }
+    {
+        let call = self.gateway.call();
         self.gateway.from_calling(octets, moment)?;
+        let Some(call) = call else {
+            return self.calling.hear_outside(octets, tale);
+        };
         self.calling.hear(octets, tale)?;
         self.tell_over(call, tale)
     }
 
     /// A datagram comes on the called leg.
-    fn hear_called(&mut self, octets: &[u8], moment: u64, tale: &mut Tale) -> Result<(), NoMemory> {
+    fn hear_called(&mut self, octets: &[u8], moment: u64, tale: &mut Tale) -> Result<(), NoMemory>
+        ensures { OnOk result ((setup : Setup) (writes : Writing) (old : Played) → moment ≡ old.moment → IsReachedBy setup writes old.trace self.old.gateway
+            → PlaysOn setup writes old (script.FromCalled octets.now) (told_in tale.new.entries.items) self.new.gateway) }
+    {
         let is_on = self.gateway.sending().is_some();
         self.gateway.from_called(octets, moment)?;
         if is_on {
             self.called.hear(octets, tale)
         } else {
-            tale.tell(Lane::FromCalled, "a datagram passed over: no call is on")
+            self.called.hear_outside(octets, tale)
         }
     }
 
     /// Time goes on to a moment.
-    fn tick(&mut self, moment: u64, scene: &mut Scene) -> Result<(), NoMemory> {
+    fn tick(&mut self, moment: u64, scene: &mut Scene) -> Result<(), NoMemory>
+        ensures { OnOk result ((setup : Setup) (writes : Writing) (old : Played) → IsWriting writes → IsReachedBy setup writes old.trace self.old.gateway
+            → PlaysOn setup writes old (script.Tick moment) (told_in scene.new.tale.entries.items) self.new.gateway) }
+    {
         let call = self.gateway.call();
         let was_sending = self.gateway.sending().is_some();
         let given = self.gateway.tick(moment)?;
@@ -128,9 +160,7 @@ impl Stage {
         if let Some(call) = call {
             self.tell_over(call, &mut scene.tale)?;
         }
-        if !was_sending {
-            self.begin_job(&mut scene.tale)?;
-        }
+        self.begin_job(was_sending, &mut scene.tale)?;
         if let Some(found) = self.called.give(&given, &mut scene.tale)? {
             scene.pages.push(found)?;
         }
@@ -146,8 +176,13 @@ impl Stage {
         tale.tell(Lane::Inside, words.as_str())
     }
 
-    /// No job was being sent before the tick: where one is now, its call begins.
-    fn begin_job(&mut self, tale: &mut Tale) -> Result<(), NoMemory> {
+    /// Where a job is sent and none was before the tick, its call begins.
+    fn begin_job(&mut self, was_sending: bool, tale: &mut Tale) -> Result<(), NoMemory>
+        ensures { self.new.gateway ≡ self.old.gateway }
+    {
+        if was_sending {
+            return Ok(());
+        }
         let Some(job) = self.gateway.sending() else {
             return Ok(());
         };
@@ -162,12 +197,15 @@ impl Stage {
     }
 
     /// The job that ended is told, by the line that `faxgate trace` prints, with why it ended so.
-    fn end_job(&mut self, given: &Given, tale: &mut Tale) -> Result<(), NoMemory> {
+    fn end_job(&mut self, given: &Given, tale: &mut Tale) -> Result<(), NoMemory>
+        ensures gateway { self.new.gateway ≡ self.old.gateway }
+        ensures told { OnOk result (EndsWithReport given.now.report (told_in tale.new.entries.items)) }
+    {
         let Some(report) = &given.report else {
             return Ok(());
         };
         self.called.end(report.pages);
-        let why = why_ended(report.outcome);
+        let why = why_ended(self.alloc, report.outcome, self.called.unanswered())?;
         let words = format!(in self.alloc; "{report}{why}")?;
         tale.tell(Lane::Inside, words.as_str())
     }

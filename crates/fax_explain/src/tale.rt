@@ -1,4 +1,7 @@
 //! What happened at an event.
+ghost use Rattle.std.specs.Prelude.{◌≡◌, ◌++◌, ◌∷◌, [], OnOk};
+ghost use Rattle.fax_explain.specs.Staged.{told_in};
+
 use crate::lane::Lane;
 use fax_bits::NoMemory;
 use std::alloc::Global;
@@ -19,7 +22,9 @@ pub(crate) struct Tale {
 
 impl Tale {
     /// Nothing has happened.
-    pub fn new(alloc: Global) -> Self {
+    pub fn new(alloc: Global) -> Self
+        ensures { told_in result.entries.items ≡ [] }
+    {
         Tale {
             alloc,
             entries: Vec::new(alloc),
@@ -27,7 +32,9 @@ impl Tale {
     }
 
     /// One thing more happened.
-    pub fn tell(&mut self, lane: Lane, words: &str) -> Result<(), NoMemory> {
+    pub fn tell(&mut self, lane: Lane, words: &str) -> Result<(), NoMemory>
+        ensures { OnOk result (told_in self.new.entries.items ≡ told_in self.old.entries.items ++ words.now ∷ []) }
+    {
         let words = String::from_str(self.alloc, words)?;
         self.entries.push(Entry { lane, words })?;
         Ok(())
@@ -42,7 +49,9 @@ impl Tale {
     }
 
     /// What happened.
-    pub fn entries(&self) -> &[Entry] {
+    pub fn entries(&self) -> &[Entry]
+        ensures { result.now ≡ self.now.entries.items }
+    {
         self.entries.as_slice()
     }
 }

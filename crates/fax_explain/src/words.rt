@@ -71,37 +71,45 @@ fn words_of_dis(alloc: Global, dis: &Dis) -> Result<String, NoMemory> {
     };
     let coding = if dis.has_two_d() { "MH MR" } else { "MH" };
     let mut words = format!(in alloc; "DIS {receives}, {width}, {resolution}, {coding}")?;
-    for rate in dis.rates() {
-        words.push_str(", ")?;
-        words.push_str(name_of_rate(*rate))?;
-    }
+    add_rates(alloc, &mut words, dis.rates())?;
     let (standard, fine) = (dis.scan_ms(false), dis.scan_ms(true));
     let times = format!(in alloc; ", {standard} ms a row, fine {fine} ms")?;
     words.push_str(times.as_str())?;
     Ok(words)
 }
 
+/// Adds rates, those of a modulation behind its name.
+fn add_rates(alloc: Global, words: &mut String, rates: &[Rate]) -> Result<(), NoMemory> {
+    let mut last = "";
+    for rate in rates {
+        let (name, bits) = (modulation_of(*rate), rate.bits());
+        let more = if name == last {
+            format!(in alloc; " {bits}")?
+        } else {
+            format!(in alloc; ", {name} {bits}")?
+        };
+        words.push_str(more.as_str())?;
+        last = name;
+    }
+    Ok(())
+}
+
 /// What a DCS chose.
 fn words_of_dcs(alloc: Global, dcs: &Dcs) -> Result<String, NoMemory> {
-    let rate = name_of_rate(dcs.rate);
+    let (name, bits) = (modulation_of(dcs.rate), dcs.rate.bits());
     let width = dcs.width.elements();
     let resolution = if dcs.fine { "fine" } else { "standard" };
     let coding = if dcs.two_d { "MR" } else { "MH" };
     let scan = dcs.scan_ms;
-    Ok(format!(in alloc; "DCS {width}, {resolution}, {coding}, {rate}, {scan} ms a row")?)
+    Ok(format!(in alloc; "DCS {width}, {resolution}, {coding}, {name} {bits}, {scan} ms a row")?)
 }
 
-/// The name of a rate.
-pub(crate) fn name_of_rate(rate: Rate) -> &'static str {
+/// The modulation of a rate.
+fn modulation_of(rate: Rate) -> &'static str {
     match rate {
-        Rate::V27At2400 => "V.27ter 2400",
-        Rate::V27At4800 => "V.27ter 4800",
-        Rate::V29At7200 => "V.29 7200",
-        Rate::V29At9600 => "V.29 9600",
-        Rate::V17At7200 => "V.17 7200",
-        Rate::V17At9600 => "V.17 9600",
-        Rate::V17At12000 => "V.17 12000",
-        Rate::V17At14400 => "V.17 14400",
+        Rate::V27At2400 | Rate::V27At4800 => "V.27ter",
+        Rate::V29At7200 | Rate::V29At9600 => "V.29",
+        Rate::V17At7200 | Rate::V17At9600 | Rate::V17At12000 | Rate::V17At14400 => "V.17",
     }
 }
 

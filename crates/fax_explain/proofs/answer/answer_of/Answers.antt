@@ -8,5 +8,5 @@ abbrev with_memory : List ℕ → List ℕ
 with_memory text = text ++ codes "fault memory\n"
 
 pub returns-in-Err : goal.returns-in-Err
-returns-in-Err c = λ script h.
-    explains_told script c.args.text.items _ (Err NoMemory) (told_to_memory script c.args.text.items c.args.outcome h) (ap with_memory c.in-Err.ensures.err)
+returns-in-Err c = λ set script h.
+    explains_told set script c.args.text.items _ (Err NoMemory) (told_to_memory set script c.args.text.items c.args.outcome h) (ap with_memory c.in-Err.ensures.err)

@@ -1,37 +1,44 @@
-use Rattle.std.proofs.Common.{ℕ, List, ◌≡◌, ◌+◌, [], ◌∷◌, ◌++◌, refl, rules, arith, sym, ◌∙◌, ap, subst, append_assoc, length-append}
-use Rattle.std.specs.List.{All}
+use Rattle.std.proofs.Common.{ℕ, ◌+◌, [], ◌∷◌, ◌++◌, refl, rules, arith, sym, ◌∙◌, ap, append_assoc, length-append}
 use Rattle.fax_command.specs.RowLines.{lines_of}
-use Rattle.fax_trace.specs.Playing.{moment_at}
+use Rattle.fax_trace.specs.Playing.{nothing_played}
 use Rattle.fax_trace.proofs.ScriptLemmas.{TellEvents-push}
 use Rattle.fax_trace.proofs.TextLemmas.{text_of_more}
-use Rattle.fax_explain.specs.Ladders.{IsAt, last_moment}
-use Rattle.fax_explain.proofs.LadderLemmas.{Tell-push, last_moment-push}
-use Rattle.fax_explain.proofs.ExplainLemmas.{nothing_told}
+use Rattle.fax_explain.proofs.Told.{IsTold-push, explained}
 use Rattle.fax_explain.proofs.answer.explain_lines.Goals as goal
 
 pub loop-line-init : goal.loop-line-init
-loop-line-init c =
-    record { before = []; lines_are = refl; so_many = refl; short = omega arith; events = []; tell = tt; lines = []; told = refl; at = refl; text_is = c.requires }
+loop-line-init c = record {
+  before = [];
+  lines_are = refl;
+  so_many = refl;
+  short = omega arith;
+  events = [];
+  tell = tt;
+  lines = [];
+  told = λ setup writes set written. record { played = nothing_played; told = (refl, refl); at = refl; reached = c.requires.new setup writes set };
+  text_is = c.requires.empty;
+}
 
 pub loop-line-preserved : goal.loop-line-preserved
 loop-line-preserved c =
     let so_far = c.loop-line.invariant in
     let line = c.in-Some.line.now in
     let event = c.in-Some-2.event in
-    let told = rw c.in-Some-2.is at c.in_ok-event.ensures.some in
+    let tells = rw c.in-Some-2.is at c.in_ok-event.ensures.some in
     let own = c.in_ok-own.ensures in
-    let now : c.moment_of-moment.result ≡ moment_at event (last_moment 0 so_far.events) = c.moment_of-moment.ensures ∙ ap (moment_at event) so_far.at in
     record {
       before = so_far.before ++ line ∷ [];
       lines_are = so_far.lines_are ∙ ap (λ rest. so_far.before ++ rest) c.in-Some.ensures.lines ∙ sym (append_assoc so_far.before (line ∷ []) (lines_of c.in-Some.behind.now));
       so_many = omega (arith, length-append so_far.before (line ∷ []), so_far.so_many);
       short = omega (arith, so_far.short, c.in-Some.ensures.shorter);
       events = so_far.events ++ event ∷ [];
-      tell = TellEvents-push so_far.before so_far.events line event so_far.tell told;
-      lines = so_far.lines ++ own.lines;
-      told = Tell-push 0 so_far.events event so_far.lines own.lines so_far.told (subst (λ (m : ℕ). All (IsAt m) own.lines) now own.are_at);
-      at = now ∙ sym (last_moment-push 0 so_far.events event);
-      text_is = text_of_more so_far.lines own.lines c.loop-line.text.items _ _ so_far.text_is c.in_ok-add.ensures.ok (c.as_slice.ensures.value ∙ own.text_is);
+      tell = TellEvents-push so_far.before so_far.events line event so_far.tell tells;
+      lines = so_far.lines ++ own.paragraph.lines;
+      told = λ setup writes set written.
+          let t = so_far.told setup writes set written in
+          IsTold-push setup writes so_far.events event so_far.lines own.paragraph.lines own.told _ _ _ _ t c.moment_of-moment.ensures own.paragraph.are_at
+          (λ at. own.plays setup writes t.played written at t.reached);
+      text_is = text_of_more so_far.lines own.paragraph.lines c.loop-line.text.items _ _ so_far.text_is c.in_ok-add.ensures.ok (c.as_slice.ensures.value ∙ own.paragraph.text_is);
     }
 
 pub loop-line-preserved-in_ok-add : goal.loop-line-preserved-in_ok-add
@@ -39,20 +46,21 @@ loop-line-preserved-in_ok-add c =
     let so_far = c.loop-line.invariant in
     let line = c.in-Some.line.now in
     let event = c.in-Some-2.event in
-    let told = rw c.in-Some-2.is at c.in_ok-event.ensures.some in
+    let tells = rw c.in-Some-2.is at c.in_ok-event.ensures.some in
     let own = c.in_ok-own.ensures in
-    let now : c.moment_of-moment.result ≡ moment_at event (last_moment 0 so_far.events) = c.moment_of-moment.ensures ∙ ap (moment_at event) so_far.at in
     record {
       before = so_far.before ++ line ∷ [];
       lines_are = so_far.lines_are ∙ ap (λ rest. so_far.before ++ rest) c.in-Some.ensures.lines ∙ sym (append_assoc so_far.before (line ∷ []) (lines_of c.in-Some.behind.now));
       so_many = omega (arith, length-append so_far.before (line ∷ []), so_far.so_many);
       short = omega (arith, so_far.short, c.in-Some.ensures.shorter);
       events = so_far.events ++ event ∷ [];
-      tell = TellEvents-push so_far.before so_far.events line event so_far.tell told;
-      lines = so_far.lines ++ own.lines;
-      told = Tell-push 0 so_far.events event so_far.lines own.lines so_far.told (subst (λ (m : ℕ). All (IsAt m) own.lines) now own.are_at);
-      at = now ∙ sym (last_moment-push 0 so_far.events event);
-      text_is = text_of_more so_far.lines own.lines c.loop-line.text.items _ _ so_far.text_is c.in_ok-add.ensures.ok (c.as_slice.ensures.value ∙ own.text_is);
+      tell = TellEvents-push so_far.before so_far.events line event so_far.tell tells;
+      lines = so_far.lines ++ own.paragraph.lines;
+      told = λ setup writes set written.
+          let t = so_far.told setup writes set written in
+          IsTold-push setup writes so_far.events event so_far.lines own.paragraph.lines own.told _ _ _ _ t c.moment_of-moment.ensures own.paragraph.are_at
+          (λ at. own.plays setup writes t.played written at t.reached);
+      text_is = text_of_more so_far.lines own.paragraph.lines c.loop-line.text.items _ _ so_far.text_is c.in_ok-add.ensures.ok (c.as_slice.ensures.value ∙ own.paragraph.text_is);
     }
 
 pub loop-line-preserved-in_ok-add-2 : goal.loop-line-preserved-in_ok-add-2
@@ -60,20 +68,21 @@ loop-line-preserved-in_ok-add-2 c =
     let so_far = c.loop-line.invariant in
     let line = c.in-Some.line.now in
     let event = c.in-Some-2.event in
-    let told = rw c.in-Some-2.is at c.in_ok-event.ensures.some in
+    let tells = rw c.in-Some-2.is at c.in_ok-event.ensures.some in
     let own = c.in_ok-own.ensures in
-    let now : c.moment_of-moment.result ≡ moment_at event (last_moment 0 so_far.events) = c.moment_of-moment.ensures ∙ ap (moment_at event) so_far.at in
     record {
       before = so_far.before ++ line ∷ [];
       lines_are = so_far.lines_are ∙ ap (λ rest. so_far.before ++ rest) c.in-Some.ensures.lines ∙ sym (append_assoc so_far.before (line ∷ []) (lines_of c.in-Some.behind.now));
       so_many = omega (arith, length-append so_far.before (line ∷ []), so_far.so_many);
       short = omega (arith, so_far.short, c.in-Some.ensures.shorter);
       events = so_far.events ++ event ∷ [];
-      tell = TellEvents-push so_far.before so_far.events line event so_far.tell told;
-      lines = so_far.lines ++ own.lines;
-      told = Tell-push 0 so_far.events event so_far.lines own.lines so_far.told (subst (λ (m : ℕ). All (IsAt m) own.lines) now own.are_at);
-      at = now ∙ sym (last_moment-push 0 so_far.events event);
-      text_is = text_of_more so_far.lines own.lines c.loop-line.text.items _ _ so_far.text_is c.in_ok-add.ensures.ok (c.as_slice.ensures.value ∙ own.text_is);
+      tell = TellEvents-push so_far.before so_far.events line event so_far.tell tells;
+      lines = so_far.lines ++ own.paragraph.lines;
+      told = λ setup writes set written.
+          let t = so_far.told setup writes set written in
+          IsTold-push setup writes so_far.events event so_far.lines own.paragraph.lines own.told _ _ _ _ t c.moment_of-moment.ensures own.paragraph.are_at
+          (λ at. own.plays setup writes t.played written at t.reached);
+      text_is = text_of_more so_far.lines own.paragraph.lines c.loop-line.text.items _ _ so_far.text_is c.in_ok-add.ensures.ok (c.as_slice.ensures.value ∙ own.paragraph.text_is);
     }
 
 pub returns : goal.returns
@@ -88,7 +97,7 @@ returns c =
       tell = so_far.tell;
       ends = refl;
       lines = so_far.lines;
-      told = so_far.told;
+      told = λ setup writes set written. explained setup writes so_far.events so_far.lines _ _ (so_far.told setup writes set written);
       text_is = so_far.text_is;
     }
 
@@ -103,7 +112,7 @@ returns-in_err-event c =
       tell = so_far.tell;
       ends = search rules;
       lines = so_far.lines;
-      told = so_far.told;
+      told = λ setup writes set written. explained setup writes so_far.events so_far.lines _ _ (so_far.told setup writes set written);
       text_is = so_far.text_is;
     }
 
@@ -118,7 +127,7 @@ returns-in_default-2 c =
       tell = so_far.tell;
       ends = (ap (λ (n : ℕ). n + 1) so_far.so_many, c.in-Some.line.now, lines_of c.in-Some.behind.now, c.in-Some.ensures.lines, rw c.in_default-2.is at c.in_ok-event.ensures.none);
       lines = so_far.lines;
-      told = so_far.told;
+      told = λ setup writes set written. explained setup writes so_far.events so_far.lines _ _ (so_far.told setup writes set written);
       text_is = so_far.text_is;
     }
 
@@ -133,7 +142,7 @@ returns-in_err-own c =
       tell = so_far.tell;
       ends = search rules;
       lines = so_far.lines;
-      told = so_far.told;
+      told = λ setup writes set written. explained setup writes so_far.events so_far.lines _ _ (so_far.told setup writes set written);
       text_is = so_far.text_is;
     }
 
@@ -148,6 +157,6 @@ returns-in_err-add c =
       tell = so_far.tell;
       ends = search rules;
       lines = so_far.lines;
-      told = so_far.told;
+      told = λ setup writes set written. explained setup writes so_far.events so_far.lines _ _ (so_far.told setup writes set written);
       text_is = c.in_err-add.ensures.err ∙ so_far.text_is;
     }

@@ -1,8 +1,10 @@
 use Rattle.std.proofs.Common.{◌≡◌, ◌+◌, ◌≤◌, ℕ, List, ◌++◌, length}
+use Rattle.fax_call.specs.Writings.{IsWriting, Writing}
 use Rattle.fax_command.specs.RowLines.{lines_of, text_of_lines}
+use Rattle.fax_gateway.specs.Setups.{AreSet, Setup}
 use Rattle.fax_trace.specs.declared.event.ScriptEvent.{ScriptEvent}
 use Rattle.fax_trace.specs.Scripts.{TellEvents}
-use Rattle.fax_explain.specs.Ladders.{Tell, last_moment}
+use Rattle.fax_explain.proofs.Told.{IsTold}
 use Rattle.fax_explain.proofs.answer.explain_lines.Given as goal
 
 -- the lines before the rest were played and told
@@ -16,8 +18,7 @@ invariant-loop-line l =
       events : List ScriptEvent;
       tell : TellEvents before events;
       lines : List (List ℕ);
-      told : Tell 0 events lines;
-      at : l.moment ≡ last_moment 0 events;
+      told : (setup : Setup) (writes : Writing) → AreSet setup l.fn.stage.gateway.settings → IsWriting writes → IsTold setup writes events lines l.moment l.stage.gateway;
       text_is : l.text.items ≡ text_of_lines lines;
     }
 

@@ -1,5 +1,6 @@
 use Rattle.std.proofs.Common.{[], refl, rules}
 use Rattle.fax_command.specs.RowLines.{lines_of}
+use Rattle.fax_trace.specs.Playing.{nothing_played}
 use Rattle.fax_explain.proofs.answer.explain_script.Goals as goal
 
 pub returns-in_err-stage : goal.returns-in_err-stage
@@ -11,6 +12,6 @@ returns-in_err-stage c = record {
   tell = tt;
   ends = search rules;
   lines = [];
-  told = refl;
+  told = λ setup writes set written. record { played = nothing_played; told = (refl, refl); is_trace = tt };
   text_is = c.requires.empty;
 }
