@@ -185,7 +185,7 @@ fn serve_command<'a>(alloc: Global) -> Result<Command<'a>, AllocError> {
         );
     Command::new(alloc, "serve")
         .about(
-            "Serve the lines of a configuration in real time, over UDP. Words come on the control socket, or on standard input: ring LINE [TAG], peer LINE calling|called ADDRESS, report LINE, status, metrics, events, stop. Prints what happens as lines of JSON where there is no control socket",
+            "Serve the lines of a configuration in real time, over UDP, by words on a control socket or on the standard input, and tell what happens as lines of JSON",
         )
         .after_help(help_texts::SERVE)
         .arg(config)

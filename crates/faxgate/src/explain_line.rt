@@ -34,10 +34,12 @@ const LINES_AND_STATUSES: &str = "\
 Reads:
   A script, as faxgate trace reads it: at most 16,777,216 octets.
 
-Prints, each line at its moment:
+Prints:
+  MS FROM --> TO WHAT          each line: the moment, from whom to whom, and what happened
   CNG, CED                     tones
   DIS, DCS                     what a machine offers, and what was chosen
   another frame's name         CSI, TSI, NSF, CFR, FTT, MPS, EOP, EOM, MCF, RTN, RTP, DCN, CRP
+  passed over                  a frame that is not answered, and why: the gateway sends, no page is due, no call is on
   training check good or bad   the longest run of zero octets, how many are wanted, whether it is whole
   image of N octets            whether it is whole, the datagrams missing in it, and its rows or why it is no page
   MCF page N of call M         a page that was confirmed; RTN says why one was refused

@@ -28,6 +28,7 @@ use failures::{tell_loop, tell_streams, tell_unprinted};
 use fax_capture::run_capture;
 use fax_command::{Status, StdSink, StdSource, run_page};
 use fax_gateway::Settings;
+use fax_keep::Folders;
 use fax_loop::play_loop;
 use fax_machine::{ReceiveOptions, SendOptions};
 use fax_trace::run_trace;
@@ -44,10 +45,10 @@ fn main(rt: HostRuntime) -> ExitCode {
 
 /// Does what the words of the command line ask for, and says with which exit status the process ends. Sockets, files
 /// and the clock are those of the system.
-fn run_words<R: Print + Eprint + Input + Env + AllocGlobal, N: Net + Files + Clock + AllocGlobal>(
-    rt: &R,
-    system: &N,
-) -> u8 {
+fn run_words<
+    R: Print + Eprint + Input + Env + AllocGlobal,
+    N: Net + Files + Clock + AllocGlobal + Folders,
+>(rt: &R, system: &N) -> u8 {
     let words = match words_of(rt) {
         Ok(words) => words,
         Err(error) => return tell_unread_words(rt, error).code(),

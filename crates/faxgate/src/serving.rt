@@ -2,6 +2,7 @@
 use crate::failures::tell_unprinted;
 use fax_command::Status;
 use fax_config::{Config, ConfigFault, Misfit, read_config};
+use fax_keep::Folders;
 use fax_serve::{ServeFault, run_serve};
 use std::fmt::Display;
 use std::net::Net;
@@ -9,11 +10,10 @@ use std::rt::{Clock, Files};
 use std::{fs, io};
 
 /// Serves the lines of the configuration in the file at this path. Faults are told in one line on the standard error.
-pub fn serve_file<R: Print + Eprint + Input + AllocGlobal, N: Net + Files + Clock + AllocGlobal>(
-    rt: &R,
-    system: &N,
-    path: &str,
-) -> Status {
+pub fn serve_file<
+    R: Print + Eprint + Input + AllocGlobal,
+    N: Net + Files + Clock + AllocGlobal + Folders,
+>(rt: &R, system: &N, path: &str) -> Status {
     let text = match fs::read_to_string(system, path) {
         Ok(text) => text,
         Err(error) => return tell(rt, path, error, Status::Stream),
@@ -28,31 +28,22 @@ pub fn serve_file<R: Print + Eprint + Input + AllocGlobal, N: Net + Files + Cloc
 }
 
 /// Serves the lines of a configuration.
-fn serve_config<R: Print + Eprint + Input + AllocGlobal, N: Net + Files + Clock>(
+fn serve_config<R: Print + Eprint + Input + AllocGlobal, N: Net + Files + Clock + Folders>(
     rt: &R,
     system: &N,
     path: &str,
     config: &Config,
 ) -> Status {
-    if let Some(lacking) = lacking(config) {
-        return tell(rt, path, lacking, Status::Usage);
-    }
-    if let Err(error) = rt.print("pages are kept in memory alone: no spool is set\n") {
+    if config.spool.is_none()
+        && let Err(error) = rt.print("pages are kept in memory alone: no spool is set\n")
+    {
         return tell_unprinted(rt, error);
     }
     match run_serve(system, rt.alloc(), config, rt.reader(), io::writer(rt)) {
         Ok(()) => Status::Done,
         Err(ServeFault::NoMemory) => tell(rt, path, ServeFault::NoMemory, Status::NoMemory),
+        Err(ServeFault::Spool(fault)) => { tell(rt, path, ServeFault::Spool(fault), Status::Usage) }
         Err(fault) => tell(rt, path, fault, Status::Stream),
-    }
-}
-
-/// What a configuration asks for that is not there yet.
-fn lacking(config: &Config) -> Option<&'static str> {
-    if config.spool.is_some() {
-        Some("spool: pages cannot be kept on a disk yet")
-    } else {
-        None
     }
 }
 

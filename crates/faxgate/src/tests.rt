@@ -147,7 +147,7 @@ Commands:
   explain  Read a script as faxgate trace does, and print its call as a ladder: a line for each thing that happened, with its moment in milliseconds, from whom to whom, and what it means in T.30's terms
   capture  Read a capture made at a gateway (pcap or pcapng), and print the script of its call for faxgate trace: the ring, the datagrams of both machines at their ticks, and ticks until 40 s behind the last
   loop     Send a page from one machine through a gateway to another, over UDP on this host: read its octets as hex text, and print how the job ended and the rows that were confirmed
-  serve    Serve the lines of a configuration in real time, over UDP. Words come on the control socket, or on standard input: ring LINE [TAG], peer LINE calling|called ADDRESS, report LINE, status, metrics, events, stop. Prints what happens as lines of JSON where there is no control socket
+  serve    Serve the lines of a configuration in real time, over UDP, by words on a control socket or on the standard input, and tell what happens as lines of JSON
   send     Call a T.38 machine over UDP and send it the page in each file, as a machine does, and print how the call ended: job, call, width, resolution, pages, pages delivered, outcome
   receive  Answer calls of T.38 machines over UDP, one after another, as a machine does, and write each page that is confirmed as a picture (PBM), into a file that was not there
   help     Print this message or the help of the given subcommand(s)
@@ -282,6 +282,123 @@ fn what_is_printed(rt: HostRuntime) {
     }
 }
 
+/// What the help of each command names: what is read, what is printed, outcomes, words and statuses.
+const HELPS: &[(&str, &[&str])] = &[
+    (
+        "page",
+        &[
+            "hex text",
+            "16,777,216 octets",
+            "0 3 1725",
+            "fault 5 TooManyRows",
+            "  4  ",
+        ],
+    ),
+    (
+        "trace",
+        &[
+            "T MS ",
+            "16,777,216 octets",
+            "17 minutes",
+            "job CALL ",
+            "fault line N",
+            "NotReceiver",
+            "RatesSpent",
+            "NoAnswer",
+            "NoReply",
+            "PageRefused",
+            "HungUp",
+            "  4  ",
+        ],
+    ),
+    (
+        "explain",
+        &[
+            "16,777,216 octets",
+            "--pages <PREFIX>",
+            "training check",
+            "RTN",
+            "lost",
+            "fault line N",
+            "  4  ",
+        ],
+    ),
+    (
+        "capture",
+        &[
+            "--caller <ADDRESS>",
+            "16,777,216 octets",
+            "T MS ",
+            "5 TooLong",
+            "  4  ",
+        ],
+    ),
+    (
+        "loop",
+        &[
+            "16,777,216 octets",
+            "DELIVERED OUTCOME",
+            "300,000 rounds",
+            "  5  ",
+        ],
+    ),
+    (
+        "serve",
+        &[
+            "ring LINE [TAG]",
+            "peer LINE calling|called ADDRESS",
+            "hangup LINE calling|called",
+            "report LINE",
+            "status ",
+            "metrics ",
+            "events ",
+            "stop ",
+            "refused NUMBER NAME",
+            "  4  ",
+        ],
+    ),
+    ("send", &["999 files", "DELIVERED OUTCOME", "  5  "]),
+    (
+        "receive",
+        &["PREFIX-CALL-PAGE.pbm", "becomes a file", "  4  "],
+    ),
+];
+
+#[test]
+fn what_a_help_says(rt: HostRuntime) {
+    for (command, parts) in HELPS {
+        let words = ["faxgate", *command, "--help"];
+        let desk = Desk::new(rt.alloc(), &words, b"");
+        assert_eq!(rt; run_words(&desk, &rt), 0, "at {command}");
+        let (printed, told) = desk.into_texts();
+        assert!(rt; told.is_empty(), "at {command}");
+        let help = std::str::from_utf8(printed.as_slice()).unwrap_or("");
+        for part in *parts {
+            assert!(rt; help.contains(*part), "at {command}: {part}");
+        }
+        for head in ["Reads:", "Prints:", "Statuses:"] {
+            assert!(rt; help.contains(head), "at {command}: {head}");
+        }
+    }
+}
+
+/// A standard output that is closed: nothing is printed, one line tells it, and the status is 4.
+#[test]
+fn what_is_told_of_a_closed_output(rt: HostRuntime) {
+    for command in [
+        ["faxgate", "page"],
+        ["faxgate", "explain"],
+        ["faxgate", "--help"],
+    ] {
+        let desk = Desk::new(rt.alloc(), &command, PAGE.as_bytes()).closed();
+        assert_eq!(rt; run_words(&desk, &rt), 4, "at {command:?}");
+        let (printed, told) = desk.into_texts();
+        assert!(rt; printed.is_empty(), "at {command:?}");
+        let wanted = b"faxgate: the standard output cannot be written: broken pipe\n";
+        assert_eq!(rt; told.as_slice(), wanted.as_slice(), "at {command:?}");
+    }
+}
+
 #[test]
 fn what_is_told_of_a_refusal(rt: HostRuntime) {
     for (words, wanted) in REFUSALS {
@@ -339,10 +456,6 @@ fn expect_loop(rt: &(impl Abort + AllocGlobal), ending: Ending, status: u8, want
 const CONFIGURATIONS: &[(&str, &str)] = &[
     ("lines = 3", "lines is no list of tables"),
     ("[[lines]]\nname = 'a1'", "line \"a1\": calling is absent"),
-    (
-        "spool = 'spool'",
-        "spool: pages cannot be kept on a disk yet",
-    ),
 ];
 
 #[test]
@@ -360,6 +473,22 @@ fn what_is_told_of_a_configuration(rt: HostRuntime) -> Result<(), Fail> {
     fs::remove_file(&rt, "refused.toml")?;
     let desk = Desk::new(rt.alloc(), &words, b"");
     assert_eq!(rt; run_words(&desk, &rt), 4);
+    Ok(())
+}
+
+/// A spool whose folder is not there is told in one line.
+#[test]
+fn what_is_told_of_a_spool(rt: HostRuntime) -> Result<(), Fail> {
+    fs::write(&rt, "spooled.toml", "spool = 'no-folder'")?;
+    let words = ["faxgate", "serve", "--config", "spooled.toml"];
+    let desk = Desk::new(rt.alloc(), &words, b"");
+    assert!(rt; run_words(&desk, &rt) == 2);
+    let (printed, told) = desk.into_texts();
+    let is_named = told
+        .as_slice()
+        .starts_with(b"faxgate: spooled.toml: spool: ");
+    fs::remove_file(&rt, "spooled.toml")?;
+    assert!(rt; printed.is_empty() && is_named && told.as_slice().ends_with(b"\n"));
     Ok(())
 }
 
@@ -386,6 +515,40 @@ fn what_is_told_of_a_file(rt: HostRuntime) -> Result<(), Fail> {
     fs::remove_file(&rt, "no-page")?;
     let desk = Desk::new(rt.alloc(), &words, b"");
     assert_eq!(rt; run_words(&desk, &rt), 4);
+    Ok(())
+}
+
+/// The script of a call in which a page of one white row is confirmed: up to its MCF.
+const SCRIPT_FRONT: &str =
+    "R\nT 0\nT 40\nT 80\nA 00000cc002800005ffc8c1004000400000\nA 000101080000\nA 00028131c201f0012b";
+
+const SCRIPT_BACK: &str =
+    "0000\nT 120\nT 160\nA 000301080000\nA 000412c201f0000c0014d9a80080080080080080080000\nA 000501060000\nA 000609c002800002ffc8f4400000\nT 200\nT 240\n";
+
+/// The page of a call becomes a file, named for the call and the page; one that cannot be written is told.
+#[test]
+fn a_page_that_was_confirmed_is_a_picture(rt: HostRuntime) -> Result<(), Fail> {
+    let zeros = [b'0'; 600];
+    let zeros = std::str::from_utf8(zeros.as_slice()).unwrap_or("");
+    let script = format!(in rt.alloc(); "{SCRIPT_FRONT}{zeros}{SCRIPT_BACK}")?;
+    let words = ["faxgate", "explain", "--pages", "seen"];
+    let desk = Desk::new(rt.alloc(), &words, script.as_str().as_bytes());
+    assert_eq!(rt; run_words(&desk, &rt), 0);
+    let picture = fs::read(&rt, "seen-0-1.pbm")?;
+    fs::remove_file(&rt, "seen-0-1.pbm")?;
+    let rows = picture
+        .as_slice()
+        .strip_prefix(b"P4\n1728 1\n")
+        .unwrap_or(b"");
+    assert!(rt; rows.len() == 216 && rows.iter().all(|octet| *octet == 0));
+    let words = ["faxgate", "explain", "--pages", "no-folder/seen"];
+    let desk = Desk::new(rt.alloc(), &words, script.as_str().as_bytes());
+    assert_eq!(rt; run_words(&desk, &rt), 4);
+    let (printed, told) = desk.into_texts();
+    let failure = told
+        .as_slice()
+        .strip_prefix(b"faxgate: no-folder/seen-0-1.pbm: ");
+    assert!(rt; printed.is_empty() && failure.is_some());
     Ok(())
 }
 
