@@ -2,7 +2,7 @@
 RT ?= rt
 PROGRAM = crates/faxgate/out/faxgate
 
-.PHONY: all demo test wrong-bodies format memory bench load interop serve-interop tables check-docs
+.PHONY: all demo test wrong-bodies format memory crash bench load interop serve-interop tables check-docs
 
 # Proves and builds the program, and says where it lies.
 all:
@@ -51,6 +51,15 @@ memory: all
 	cd crates/gateway_tests && $(RT) test > /dev/null
 	tools/refuse-test-memory crates/gateway_tests/out/gateway_tests_tests gateway::a_page_goes_through_the_gateway
 	tools/refuse-test-memory crates/gateway_tests/out/gateway_tests_tests gateway::driving::a_run_that_is_refused_memory
+
+# Kills a process that puts pages into a spool, 300 times, and cuts the power under it, 5,000 times over recorded writes; each
+# time the next process has to find what was told as put, and at most the one under way besides. Then kills `faxgate serve` with
+# machines on its lines, 20 times: each page whose MCF its caller saw has to come in the end. It wants Python 3, a C compiler,
+# and some ten minutes behind the proofs of the crates.
+crash: all
+	cd crates/spool_tests && $(RT) test > /dev/null
+	tools/crash crates/spool_tests/out/spool_tests_tests
+	tools/crash-serve $(PROGRAM)
 
 # Checks that the tables of code words are those that tools/code-tables makes of the words of ITU-T T.4. It wants
 # Python 3 and no `rt`.
