@@ -1,5 +1,5 @@
 //! A receiver of datagrams, which decides each slot of a call once.
-ghost use Rattle.std.specs.Prelude.{ℕ, List, [], ◌∷◌, ◌++◌, ◌≡◌, ◌+◌, ◌-◌, ◌%◌, ◌<◌, ◌≤◌, take, length, reverse, None, Some, Ok, Err, MatchOption, IfOk, IfErr, OnErr, IsTrue, ◌↔◌};
+ghost use Rattle.std.specs.Prelude.{ℕ, List, [], ◌∷◌, ◌++◌, ◌≡◌, ◌+◌, ◌-◌, ◌%◌, ◌<◌, ◌≤◌, take, length, reverse, None, Some, Ok, Err, MatchOption, IsSome, IfSome, IfOk, IfErr, OnErr, IsTrue, ◌↔◌};
 ghost use Rattle.fax_udptl.specs.Datagrams.{datagram_of};
 ghost use Rattle.fax_udptl.specs.Slots.{nearest};
 ghost use Rattle.fax_udptl.specs.Taking.{Takes, slots_in};
@@ -20,13 +20,15 @@ pub struct Decided<'a> {
 }
 
 impl<'a> Model for Decided<'a> {
-    ghost use Rattle.std.specs.Prelude.{◌++◌, reverse};
+    ghost use Rattle.std.specs.Prelude.{◌≡◌, [], ◌++◌, reverse, None};
     ghost use Rattle.fax_udptl.specs.Reading.{text_list};
     ghost use Rattle.fax_udptl.specs.Taking.{DecidedValue};
 
     ghost Value = { DecidedValue };
 
     ghost view = { λ d. record { from = d.from; lost = d.lost; packets = reverse d.secondaries ++ text_list d.primary } };
+
+    ghost invariant = { λ d. d.primary ≡ None → d.secondaries ≡ [] };
 }
 
 impl<'a> Decided<'a> {
@@ -89,6 +91,18 @@ impl<'a> Decided<'a> {
         ensures { IsTrue result ↔ (slots_in self.now ≡ []) }
     {
         self.lost == 0 && self.secondaries.left() == 0 && self.primary.is_none()
+    }
+
+    /// The packet of the one slot that is decided, where no other slot is. It walks over no packet.
+    pub fn only(&self) -> Option<&'a [u8]>
+        ensures some { IfSome result (λ packet. slots_in self.now ≡ Some packet.now ∷ []) }
+        ensures none { (packet : List ℕ) → slots_in self.now ≡ Some packet ∷ [] → IsSome result }
+    {
+        if self.lost == 0 && self.secondaries.left() == 0 {
+            self.primary
+        } else {
+            None
+        }
     }
 
     /// How many slots are missing. They are the first ones.

@@ -302,6 +302,27 @@ fn says_whether_a_slot_is_decided(rt: HostRuntime) {
     }
 }
 
+/// Datagrams in the order in which they come, and the packet of the one slot that is decided, where no other is.
+const DECIDED_ALONE: &[(&[u8], &[u8])] = &[
+    (b"\x00\x00\x01\x06\x00\x00", b"\x06"),
+    // late, with the packet before it again, one slot missing, and with two packets
+    (b"\x00\x00\x01\x06\x00\x00", b""),
+    (b"\x00\x01\x01\x08\x00\x01\x01\x06", b"\x08"),
+    (b"\x00\x03\x01\x04\x00\x00", b""),
+    (b"\x00\x05\x01\x04\x00\x01\x01\x06", b""),
+];
+
+#[test]
+fn gives_the_packet_that_is_decided_alone(rt: HostRuntime) {
+    let mut receiver = Receiver::new();
+    for (octets, alone) in DECIDED_ALONE {
+        let Ok(decided) = receiver.take(octets) else {
+            rt.abort()
+        };
+        assert!(rt; decided.only().unwrap_or(b"") == *alone);
+    }
+}
+
 #[test]
 fn takes_half_of_the_numbers_ahead(rt: HostRuntime) {
     let mut receiver = Receiver::new();
