@@ -2,6 +2,8 @@ pub mod CodesLemmas
 pub mod FieldsLemmas
 pub mod FirstLemmas
 pub mod ImageLaws
+pub mod OctetsLemmas
+pub mod PlainLemmas
 pub mod ReadBackLemmas
 pub mod ReadingLemmas
 pub mod SeenLemmas

@@ -1,5 +1,5 @@
 -- What is kept of the slots of a call.
-use Rattle.std.specs.Prelude.{◌≡◌, ℕ, ◌≤◌, nat_le, List, ◌∷◌, ◌++◌, length, replicate, Option, Some, None, Result, Ok, ⊤, if◌then◌else◌}
+use Rattle.std.specs.Prelude.{◌≡◌, ℕ, ◌≤◌, nat_le, List, ◌∷◌, ◌++◌, length, replicate, true, Option, Some, None, option_map, Result, Ok, ⊤, if◌then◌else◌}
 use Rattle.fax_ifp.specs.declared.fault.IfpFault.{IfpFault}
 use Rattle.fax_ifp.specs.Packets.{Packet, Message, packet_of}
 use Rattle.fax_ifp.specs.Elements.{Slot, Element, elements}
@@ -32,6 +32,10 @@ Tracks slot old new = (before : List Slot) → IsTracked before old → IsTracke
 -- whatever slots left this, the slot behind them adds these pieces to theirs
 abbrev pub Gives : Slot → Tracked → List Piece → Type 0
 Gives slot old given = (before : List Slot) → IsTracked before old → pieces (slot ∷ before) ≡ pieces before ++ given
+
+-- the open image, if one is, has an octet
+abbrev pub with_octets : Tracked → Tracked
+with_octets tracked = record tracked { image = option_map (λ (image : Image). record image { started = true }) tracked.image }
 
 -- so many lost slots in a row
 abbrev pub lost_slots : ℕ → List Slot

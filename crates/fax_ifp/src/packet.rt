@@ -1,11 +1,13 @@
 //! Packets that are read.
-ghost use Rattle.std.specs.Prelude.{ℕ, List, ◌≡◌, ◌≢◌, ◌<◌, ◌≤◌, IfOk, IfErr, OnOk};
+ghost use Rattle.std.specs.Prelude.{ℕ, List, [], ◌∷◌, ◌≡◌, ◌≢◌, ◌<◌, ◌≤◌, true, false, Some, Ok, IsSome, IfSome, IfOk, IfErr, OnOk};
 ghost use Rattle.fax_bits.specs.Bits.{bit};
 ghost use Rattle.fax_ifp.specs.Inside.Content.{seen_octets, seen_field};
-ghost use Rattle.fax_ifp.specs.Packets.{FieldText, octets_at, field_of, field_at, fields_at, fields_behind, packet_of, HasNinthField};
-ghost use Rattle.fax_ifp.specs.Seen.{texts_of, head_of, fields_in};
+ghost use Rattle.fax_ifp.specs.Packets.{FieldText, Message, octets_at, field_of, field_at, fields_at, fields_behind, packet_of, HasNinthField};
+ghost use Rattle.fax_ifp.specs.Pieces.{has_octet};
+ghost use Rattle.fax_ifp.specs.Seen.{octets_in, text_of, texts_of, head_of, fields_in};
+ghost use Rattle.fax_ifp.specs.WrittenPackets.{image_fields};
 
-use crate::codes::DataType;
+use crate::codes::{DataType, FieldType};
 use crate::fault::IfpFault;
 use smallvec::SmallVec;
 use std::alloc::Global;
@@ -259,4 +261,53 @@ fn read_fields<'a>(
         place = behind;
     }
     Ok(fields)
+}
+
+/// The octets of an image that a packet is and nothing else: data of this type with one field, of t4-non-ecm-data with octets.
+pub(crate) fn image_octets<'a>(kind: u8, octets: &'a [u8]) -> Option<&'a [u8]>
+    ensures octets { IfSome result (λ own. packet_of octets.now ≡ Ok (Message kind (image_fields false own.now))) }
+    ensures some { IfSome result (λ own. has_octet own.now ≡ true) }
+    ensures none { (own : List ℕ) → packet_of octets.now ≡ Ok (Message kind (image_fields false own)) → IsSome result }
+{
+    let field = only_field(kind, octets)?;
+    if field.what == FieldType::T4NonEcmData.code() {
+        field.octets
+    } else {
+        None
+    }
+}
+
+/// The field of a packet that is data of this type with one field.
+fn only_field<'a>(kind: u8, octets: &'a [u8]) -> Option<Field<'a>>
+    ensures field { IfSome result (λ field. packet_of octets.now ≡ Ok (Message kind (text_of field ∷ []))) }
+    ensures some { IfSome result (λ field. (own : List ℕ) → octets_in field.octets ≡ Some own → has_octet own ≡ true) }
+    ensures none { (text : FieldText) → packet_of octets.now ≡ Ok (Message kind (text ∷ [])) → IsSome result }
+{
+    let [first, rest @ ..] = octets else {
+        return None;
+    };
+    if has_bit(*first, EXTENSION) {
+        return None;
+    }
+    let value = (*first >> 1) & 15;
+    if !has_bit(*first, DATA) {
+        return None;
+    }
+    if value != kind || value > LAST_TYPE {
+        return None;
+    }
+    let Ok((count, fields)) = count_of_fields(*first, rest) else {
+        return None;
+    };
+    if count != 1 {
+        return None;
+    }
+    let place = Place {
+        half: None,
+        octets: fields,
+    };
+    match next_field(place) {
+        Ok((field, _)) => Some(field),
+        Err(_) => None,
+    }
 }

@@ -1,15 +1,17 @@
 //! The frames and images of a call's slots.
-ghost use Rattle.std.specs.Prelude.{◌≡◌, ◌≢◌, ◌↔◌, ◌+◌, ◌≤◌, [], ◌∷◌, ◌++◌, map, length, replicate, None, Some, IsOk, IsErr, IfOk, OnOk, OnErr};
+ghost use Rattle.std.specs.Prelude.{◌≡◌, ◌≢◌, ◌↔◌, ◌+◌, ◌≤◌, [], ◌∷◌, ◌++◌, map, length, replicate, false, List, ℕ, None, Some, Ok, IsOk, IsErr, IsSome, IfSome, OnSome, IfOk, OnOk, OnErr};
 ghost use Rattle.smallvec.specs.SmallVec.{small_vec_len, HasRoomFor};
-ghost use Rattle.fax_ifp.specs.Packets.{packet_of};
+ghost use Rattle.fax_ifp.specs.Packets.{Message, packet_of};
+ghost use Rattle.fax_ifp.specs.WrittenPackets.{image_fields};
 ghost use Rattle.fax_ifp.specs.Seen.{text_of, texts_of};
 ghost use Rattle.fax_ifp.specs.Elements.{Missing, Signal, Field as FieldElement, element_of, elements_in, elements_of};
-ghost use Rattle.fax_ifp.specs.Pieces.{Gap, end_before, kind_of_training as kind_shown};
-ghost use Rattle.fax_ifp.specs.Tracked.{IsTracked, Tracks, Gives, lost_slots, TracksRun, GivesRun, HasFewFields, TakesNoMemory};
+ghost use Rattle.fax_ifp.specs.Pieces.{Gap, Octets, Image, end_before, kind_of_training as kind_shown};
+ghost use Rattle.fax_ifp.specs.Tracked.{IsTracked, Tracks, Gives, lost_slots, TracksRun, GivesRun, HasFewFields, with_octets, TakesNoMemory};
 ghost use Rattle.fax_ifp.specs.Inside.Hearing.{Hears, images_in, spoilt};
 ghost use Rattle.fax_ifp.specs.Shown.{slot_of, pieces_shown};
 
 use crate::frame::FrameSoFar;
+use crate::packet::image_octets;
 use crate::piece::PieceList;
 use crate::{DataType, Field, FieldType, Head, Ifp, IfpFault, Indicator, Piece, Pieces, Slot};
 use fax_bits::NoMemory;
@@ -99,6 +101,29 @@ impl Signals {
         // five pieces fit, whatever was in the list before
         prove!(list.capacity() >= 5);
         self.take(slot, list)
+    }
+
+    /// The octets that the next slot gives and nothing else, where its packet is data of the open image's type with one field,
+    /// of t4-non-ecm-data with octets. They are lent, and nothing changes: [`Signals::take_octets`] takes that slot, of which
+    /// [`Signals::slot`] says the same, with a list. It takes no memory.
+    pub fn octets_in<'a>(&self, packet: &'a [u8]) -> Option<&'a [u8]>
+        ensures tracked { OnSome result (Tracks (Some packet.entry.now) self.now (with_octets self.now)) }
+        ensures pieces { IfSome result (λ octets. Gives (Some packet.entry.now) self.now (Octets octets.now ∷ [])) }
+        ensures none { (image : Image) (octets : List ℕ) → self.now.image ≡ Some image
+            → packet_of packet.entry.now ≡ Ok (Message image.kind (image_fields false octets)) → IsSome result }
+    {
+        let image = self.image?;
+        image_octets(image.kind, packet)
+    }
+
+    /// Takes a slot that gives octets of the open image and nothing else, as [`Signals::octets_in`] answers them. It takes no
+    /// memory.
+    pub fn take_octets(&mut self)
+        ensures { self.new ≡ with_octets self.old }
+    {
+        if let Some(under_way) = &mut self.image {
+            under_way.started = true;
+        }
     }
 
     /// Takes so many lost slots in a row, each of which gives a gap and nothing else. It takes no memory,

@@ -573,3 +573,37 @@ fn counts_lost_slots_from_one(rt: HostRuntime) -> Result<(), Fail> {
     }
     Ok(())
 }
+
+/// Packets behind a training indicator of V.27 ter at 2400, and the octets of those that give octets and nothing else.
+const ALONE: &[(&[u8], Option<&[u8]>)] = &[
+    (
+        &[0xc2, 0x01, 0xe0, 0x00, 0x01, 0xaa, 0xbb],
+        Some(&[0xaa, 0xbb]),
+    ),
+    // the last octets, octets of other data, those of two fields, and an indicator
+    (&[0xc2, 0x01, 0xf0, 0x00, 0x00, 0xdd], None),
+    (&[0xc4, 0x01, 0xe0, 0x00, 0x00, 0xee], None),
+    (&[0xc2, 0x02, 0xe0, 0, 0, 1, 0xe0, 0, 0, 2], None),
+    (&[0x06], None),
+];
+
+#[test]
+fn gives_octets_alone(rt: HostRuntime) -> Result<(), Fail> {
+    for (packet, octets) in ALONE {
+        let mut signals = Signals::new(rt.alloc());
+        assert!(rt; signals.octets_in(packet).is_none());
+        expect_next(&rt, &mut signals, TRAINING, &[Told::Start(1)])?;
+        let given = signals.octets_in(packet).unwrap_or(&[]);
+        assert!(rt; given == octets.unwrap_or(&[]));
+    }
+    Ok(())
+}
+
+#[test]
+fn takes_octets_alone(rt: HostRuntime) -> Result<(), Fail> {
+    let mut signals = Signals::new(rt.alloc());
+    expect_next(&rt, &mut signals, TRAINING, &[Told::Start(1)])?;
+    signals.take_octets();
+    expect_next(&rt, &mut signals, PREAMBLE, &[Told::End(true)])?;
+    Ok(())
+}
