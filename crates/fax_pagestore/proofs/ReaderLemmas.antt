@@ -27,9 +27,9 @@ use Rattle.fax_pagestore.specs.Pages.{PageValue}
 use Rattle.fax_pagestore.specs.PageTexts.{end_of_line, IsFront, IsSeparator, InARow, SpellsRow, SpellsRows, ReadSoFar, MeansRows, MeansPage}
 use Rattle.fax_pagestore.specs.PageFaults.{LineBegins, BreaksReturn, StopsInReturn, FailsRow, Stops, FailsPage, last_of, row_before}
 use Rattle.fax_pagestore.specs.Readers.{ReadsOne, BeginsRow, ReaderValue, HasRead, IsReadUpTo, NoMoreIsWhole, AreJudged, fault_of, new_reader}
-use Rattle.fax_pagestore.specs.declared.reader.Settled.{Settled}
-use Rattle.fax_pagestore.specs.declared.reader.Stop.{Stop}
-use Rattle.fax_pagestore.specs.declared.reader.Stop.TheVariants.{NoEols, NoLine, Fault}
+use Rattle.fax_pagestore.specs.declared.reader.settled.Settled.{Settled}
+use Rattle.fax_pagestore.specs.declared.reader.rows.Stop.{Stop}
+use Rattle.fax_pagestore.specs.declared.reader.rows.Stop.TheVariants.{NoEols, NoLine, Fault}
 use Rattle.fax_pagestore.specs.Ends.{HoldsEol, HoldsNoTaggedEol}
 use Rattle.fax_pagestore.proofs.BeforeEolLemmas.{front_behind, nowhere_eol, left_behind, BeginNoEol-none, BeginNoEol-more, HoldsNoTaggedEol-none}
 use Rattle.fax_pagestore.proofs.PageLaws.{pages_are_unique, pages_dont_fail, faults_are_unique}

@@ -10,8 +10,8 @@ use Rattle.fax_runcodes.specs.declared.fault.RunFault.TheVariants.{End}
 use Rattle.fax_mhcode.specs.declared.fault.LineFault.{LineFault}
 use Rattle.fax_mhcode.specs.declared.fault.LineFault.TheVariants.{Run, NoMode}
 use Rattle.fax_pagestore.specs.declared.fault.PageFault.{PageFault}
-use Rattle.fax_pagestore.specs.declared.reader.Settled.{Settled}
-use Rattle.fax_pagestore.specs.declared.reader.Settled.TheVariants.{Page, NoPage}
+use Rattle.fax_pagestore.specs.declared.reader.settled.Settled.{Settled}
+use Rattle.fax_pagestore.specs.declared.reader.settled.Settled.TheVariants.{Page, NoPage}
 use Rattle.fax_pagestore.specs.Ends.{HoldsNoTaggedEol, BeginNoEol}
 use Rattle.fax_pagestore.specs.PageTexts.{IsSeparator, SpellsRow, ReadSoFar, MeansRows}
 use Rattle.fax_pagestore.specs.PageFaults.{FailsPage, SeparatorBegins, last_of}

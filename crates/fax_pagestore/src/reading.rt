@@ -178,14 +178,14 @@ pub(crate) fn line_ahead(reader: &BitReader) -> Option<u64>
     line_begins(reader).then_some(window)
 }
 
-/// How a return to control ends.
+/// How a line or a return to control ends that was to be passed.
 #[derive(Clone, Copy)]
 pub(crate) enum Ending {
-    /// With its sixth EOL.
+    /// It was passed: a line with its last run, a return to control with its sixth EOL.
     Whole,
     /// It is none, whatever follows.
     Broken,
-    /// An EOL is not whole: it is none, at least where no more octets come.
+    /// It breaks off, in a code word or an EOL: it is none, at least where no more octets come.
     BreaksOff,
 }
 

@@ -1,6 +1,6 @@
 use Rattle.fax_runcodes.specs.Widths.{elements_of}
 use Rattle.fax_pagestore.proofs.ReaderLemmas.{fault_stays}
-use Rattle.fax_pagestore.proofs.reader.settle.Goals as goal
+use Rattle.fax_pagestore.proofs.reader.settled.settle.Goals as goal
 
 pub returns-in-Fault-clause-settled : goal.returns-in-Fault-clause-settled
 returns-in-Fault-clause-settled g c = λ octets more read.

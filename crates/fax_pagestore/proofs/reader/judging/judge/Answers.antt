@@ -7,9 +7,9 @@ use Rattle.fax_pagestore.specs.declared.fault.PageFault.TheVariants.{TooManyRows
 use Rattle.fax_pagestore.specs.PageTexts.{ReadSoFar}
 use Rattle.fax_pagestore.specs.Readers.{IsReadUpTo, NoMoreIsWhole, AreJudged, fault_of}
 use Rattle.fax_pagestore.proofs.ReaderLemmas.{skipped, stops_fail, no_front_judged}
-use Rattle.fax_pagestore.proofs.reader.judge.Goals as goal
-use Rattle.fax_pagestore.proofs.reader.judge.Goals.{After-skip}
-use Rattle.fax_pagestore.proofs.reader.judge.Given.{Over}
+use Rattle.fax_pagestore.proofs.reader.judging.judge.Goals as goal
+use Rattle.fax_pagestore.proofs.reader.judging.judge.Goals.{After-skip}
+use Rattle.fax_pagestore.proofs.reader.judging.judge.Given.{Over}
 
 pub skip-requires : goal.skip-requires
 skip-requires g c = omega (arith, c.requires.used, ap (λ (p : Place). length p.left) c.new-reader.ensures, length-bits_of c.args.octets.now)

@@ -1,7 +1,7 @@
 use Rattle.std.proofs.Common.{sym, ◌∙◌, arith}
 use Rattle.fax_pagestore.proofs.PageReading.{return_breaks_off}
 use Rattle.fax_pagestore.proofs.ReaderLemmas.{return_fails_page, broken_stays, none_stay, rows_stay}
-use Rattle.fax_pagestore.proofs.reader.pass_end.Goals as goal
+use Rattle.fax_pagestore.proofs.reader.settled.pass_end.Goals as goal
 
 pub returns-in-Whole-clause-settled : goal.returns-in-Whole-clause-settled
 returns-in-Whole-clause-settled c = λ width octets more rows size few read.

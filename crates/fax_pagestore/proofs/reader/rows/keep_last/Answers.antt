@@ -5,9 +5,9 @@ use Rattle.fax_runcodes.specs.Widths.{elements_of}
 use Rattle.fax_runcodes.specs.Painted.{AreRising}
 use Rattle.fax_pagestore.proofs.RowsWritten.{width_of_row}
 use Rattle.fax_pagestore.proofs.ReaderLemmas.{last_of_at, white_may_turn, white_turned}
-use Rattle.fax_pagestore.proofs.reader.keep_last.Goals as goal
-use Rattle.fax_pagestore.proofs.reader.keep_last.Goals.{After-paint}
-use Rattle.fax_pagestore.proofs.reader.keep_last.Given.{Over}
+use Rattle.fax_pagestore.proofs.reader.rows.keep_last.Goals as goal
+use Rattle.fax_pagestore.proofs.reader.rows.keep_last.Goals.{After-paint}
+use Rattle.fax_pagestore.proofs.reader.rows.keep_last.Given.{Over}
 
 -- the builder is white throughout
 white : (g : Over) (c : After-paint g) → c.paint.new.self ≡ replicate (elements_of c.args.width) White

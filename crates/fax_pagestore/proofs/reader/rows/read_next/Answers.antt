@@ -7,9 +7,9 @@ use Rattle.fax_pagestore.specs.PageFaults.{LineBegins, last_of, Stops}
 use Rattle.fax_pagestore.specs.Readers.{ReadsOne}
 use Rattle.fax_pagestore.proofs.PageReading.{Keeps, Keeps-width, Knows-kept, last_of-push}
 use Rattle.fax_pagestore.proofs.ReaderLemmas.{row_read, row_width}
-use Rattle.fax_pagestore.proofs.reader.read_next.Goals as goal
-use Rattle.fax_pagestore.proofs.reader.read_next.Goals.{After-len-n, After-copy-ahead}
-use Rattle.fax_pagestore.proofs.reader.read_next.Given.{Over}
+use Rattle.fax_pagestore.proofs.reader.rows.read_next.Goals as goal
+use Rattle.fax_pagestore.proofs.reader.rows.read_next.Goals.{After-len-n, After-copy-ahead}
+use Rattle.fax_pagestore.proofs.reader.rows.read_next.Given.{Over}
 
 kept_width : (g : Over) (c : After-len-n g) → c.args.tag ≡ false → 0 < c.len-n.result → length c.args.kept.now ≡ elements_of c.args.width
 kept_width g c two some =

@@ -9,9 +9,9 @@ use Rattle.fax_pagestore.specs.Ends.{HoldsNoTaggedEol}
 use Rattle.fax_pagestore.specs.Readers.{IsReadUpTo, NoMoreIsWhole}
 use Rattle.fax_pagestore.proofs.BeforeEolLemmas.{none_behind_place}
 use Rattle.fax_pagestore.proofs.ReaderLemmas.{skipped, none_used, reached, IsReached, IfSome_at, behind_all, stopped_waits}
-use Rattle.fax_pagestore.proofs.reader.read_up_to.Goals as goal
-use Rattle.fax_pagestore.proofs.reader.read_up_to.Goals.{After-skip, In_default, In_ok-halt}
-use Rattle.fax_pagestore.proofs.reader.read_up_to.Given.{Over}
+use Rattle.fax_pagestore.proofs.reader.rows.read_up_to.Goals as goal
+use Rattle.fax_pagestore.proofs.reader.rows.read_up_to.Goals.{After-skip, In_default, In_ok-halt}
+use Rattle.fax_pagestore.proofs.reader.rows.read_up_to.Given.{Over}
 
 pub skip-requires : goal.skip-requires
 skip-requires g c = omega (arith, c.requires.used, ap (λ (p : Place). length p.left) c.new-reader.ensures, length-bits_of c.args.octets.now)

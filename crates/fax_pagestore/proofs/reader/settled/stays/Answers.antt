@@ -1,7 +1,7 @@
 use Rattle.fax_runcodes.specs.Widths.{elements_of}
 use Rattle.std.proofs.Common.{◌++◌}
 use Rattle.fax_pagestore.proofs.StaysLemmas.{bad_wants, bad_numbered, many_stay}
-use Rattle.fax_pagestore.proofs.reader.stays.Goals as goal
+use Rattle.fax_pagestore.proofs.reader.settled.stays.Goals as goal
 
 pub returns-in-TooManyRows-clause-stays : goal.returns-in-TooManyRows-clause-stays
 returns-in-TooManyRows-clause-stays g c = λ _ more.

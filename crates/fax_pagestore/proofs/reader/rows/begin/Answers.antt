@@ -2,7 +2,7 @@ use Rattle.std.proofs.Common.{subst}
 use Rattle.std.proofs.lemmas.Option.{IfSome_then}
 use Rattle.fax_pagestore.specs.Readers.{IsReadUpTo}
 use Rattle.fax_pagestore.proofs.ReaderLemmas.{front_read}
-use Rattle.fax_pagestore.proofs.reader.begin.Goals as goal
+use Rattle.fax_pagestore.proofs.reader.rows.begin.Goals as goal
 
 pub returns-in-None-clause-read : goal.returns-in-None-clause-read
 returns-in-None-clause-read c =
