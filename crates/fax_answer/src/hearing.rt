@@ -1,26 +1,19 @@
 //! What the answering side makes of the slots that come.
-ghost use Rattle.std.specs.Prelude.{ℕ, ◌≡◌, ◌≢◌, ◌↔◌, List, [], None, IsTrue, IsOk, IfOk, OnOk, OnErr, ◌&&◌, not, nat_le, is_some, if◌then◌else◌};
+ghost use Rattle.std.specs.Prelude.{◌≡◌, ◌↔◌, List, [], None, IsTrue, IsOk, IfOk, OnOk, OnErr, is_some, if◌then◌else◌};
 ghost use Rattle.fax_ifp.specs.Elements.{Slot as SlotShown};
-ghost use Rattle.fax_ifp.specs.Pieces.{Frame as FrameShown, End as EndShown};
+ghost use Rattle.fax_ifp.specs.Pieces.{Frame as FrameShown};
 ghost use Rattle.fax_ifp.specs.Shown.{piece_of, pieces_shown};
 ghost use Rattle.fax_ifp.specs.Tracked.{lost_slots};
 ghost use Rattle.fax_udptl.specs.Taking.{slots_in};
-ghost use Rattle.fax_answer.specs.Table.{decision};
-ghost use Rattle.fax_answer.specs.Replies.{is_last, is_waiting};
 ghost use Rattle.fax_answer.specs.Calls.{Answering};
-ghost use Rattle.fax_answer.specs.Kept.{decided_outside, verdict_of};
-ghost use Rattle.fax_answer.specs.Images.{HasEnded, GoesOn, TakesIn, begun};
-ghost use Rattle.fax_answer.specs.Reached.{IsReached, Stands, Takes, TakesAll, Answers, AnswersAgain, AnswersCommand, AnswersImage, Hears, HearsSo};
+ghost use Rattle.fax_answer.specs.Images.{GoesOn, TakesIn, begun};
+ghost use Rattle.fax_answer.specs.Reached.{IsReached, Stands, Takes, TakesAll, Hears, HearsSo};
 
-use crate::answer::Answer;
+use crate::State;
 use crate::answerer::Answerer;
 use crate::decision::Decision;
-use crate::image::Accepted;
-use crate::refusal::Refusal;
 use crate::step::Confirmed;
-use crate::{Command, Order, State};
 use fax_bits::NoMemory;
-use fax_frames::Dcs;
 use fax_ifp::{Piece, Pieces, Slot};
 use fax_pagestore::RowStore;
 use fax_udptl::Decided;
@@ -189,83 +182,6 @@ impl<S: RowStore> Answerer<S> {
         self.refused = answer.refused;
     }
 
-    /// What is decided at a frame where no packet waits.
-    fn answer(&self, octets: &[u8]) -> Answer
-        ensures { (core : Answering) → Stands core self.now
-            → Answers octets.now core self.now.image.readers result }
-    {
-        let order = Order::read(octets);
-        match self.procedure.state {
-            State::Idle | State::Closing => Answer::plain(Decision::PassOver),
-            State::Identify | State::Listen | State::Train(_) => Answer::plain(decide(order)),
-            State::Page(_) => match order {
-                Order::Judge(command) => self.judge(command),
-                _ => Answer::plain(decide(order)),
-            },
-            State::Again => match order {
-                Order::Judge(command) => self.judge_again(command),
-                _ => Answer::plain(decide(order)),
-            },
-        }
-    }
-
-    /// What is decided at a command in Page.
-    fn judge(&self, command: Command) -> Answer
-        ensures { (core : Answering) (dcs : Dcs) → Stands core self.now → core.state ≡ State.Page dcs
-            → AnswersCommand dcs command core.history self.now.image.readers result }
-    {
-        if self.procedure.counts.is_one_image() {
-            return self.read(command);
-        }
-        if self.procedure.counts.is_repeat(command) {
-            return Answer::plain(Decision::Mcf(command));
-        }
-        Answer::rtn(self.procedure.counts.refusal())
-    }
-
-    /// What is decided at a command in Again: MCF to an EOM behind which nothing came, else RTN.
-    fn judge_again(&self, command: Command) -> Answer
-        ensures { (core : Answering) → Stands core self.now → AnswersAgain command core.history self.now.image.readers result }
-    {
-        match command {
-            Command::Eom if self.procedure.counts.is_quiet() => Answer::plain(Decision::Mcf(
-                command,
-            )),
-            _ => Answer::rtn(self.procedure.counts.refusal_again()),
-        }
-    }
-
-    /// What is decided of the last image: MCF where it means a page, which it confirms, else RTN.
-    fn read(&self, command: Command) -> Answer
-        ensures { (dcs : Dcs) (octets : List ℕ) → HasEnded dcs octets self.now.image.readers
-            → AnswersImage octets dcs command self.now.image.readers result }
-    {
-        match self.image.page_ended() {
-            Ok(place) => {
-                let closes = is_last(command);
-                Answer::mcf(command, Accepted { place, closes })
-            }
-            Err(fault) => Answer::rtn(Refusal::Fault(fault)),
-        }
-    }
-
-    /// What is decided where an image ends: in Train, whether the training check is good.
-    fn judge_training(&self, whole: bool) -> Decision
-        ensures { (core : Answering) → Stands core self.now
-            → verdict_of (decision None core.state (is_waiting core.waiting) core.history (EndShown whole)) ≡ result }
-    {
-        let State::Train(dcs) = self.procedure.state else {
-            return Decision::PassOver;
-        };
-        let wanted = dcs.rate.bits() / 8;
-        let is_missing = self.procedure.counts.is_missing();
-        if is_check(whole, is_missing, self.image.longest_run(), wanted) {
-            Decision::Cfr(dcs)
-        } else {
-            Decision::Ftt
-        }
-    }
-
     /// Nothing can be refused any more: the page that is accepted is taken out of its reader, and the readers that nothing
     /// asks for are let go. It takes no memory.
     fn settle(&mut self)
@@ -278,34 +194,6 @@ impl<S: RowStore> Answerer<S> {
         let found = self.image.finish();
         keep(&mut self.confirmed, found);
         self.image.keep(self.procedure.readers_wanted());
-    }
-}
-
-/// Whether a signal is a training check: whole, with nothing missing, and enough zero octets in a row.
-fn is_check(whole: bool, is_missing: bool, longest: u16, wanted: u16) -> bool
-    ensures { result ≡ (whole && (not is_missing && nat_le wanted longest)) }
-{
-    whole && !is_missing && longest >= wanted
-}
-
-/// What is decided in a call at a frame that is no command, or at a command outside of Page and Again.
-fn decide(order: Order) -> Decision
-    ensures { result ≡ decided_outside order }
-{
-    match order {
-        Order::Train(dcs) => Decision::Train(dcs),
-        Order::Disconnect => Decision::HangUp,
-        Order::Judge(_) | Order::Nothing => Decision::PassOver,
-    }
-}
-
-/// Whether no page follows behind a command.
-fn is_last(command: Command) -> bool
-    ensures { result ≡ is_last command }
-{
-    match command {
-        Command::Eom | Command::Mps => false,
-        Command::Eop => true,
     }
 }
 

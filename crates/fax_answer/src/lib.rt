@@ -20,6 +20,7 @@ mod refusal;
 mod room;
 mod state;
 mod step;
+mod table;
 mod timers;
 
 pub use answerer::Answerer;
