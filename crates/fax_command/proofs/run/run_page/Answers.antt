@@ -1,4 +1,4 @@
-use Rattle.std.proofs.Common.{◌≡◌, ◌∙◌, ap, subst}
+use Rattle.std.proofs.Common.{rules, ◌≡◌, ◌∙◌, ap, subst}
 use Rattle.fax_command.specs.declared.answer.Answer.{Answer}
 use Rattle.fax_command.specs.AnswerValues.{status_of_answer, IsAnswerText}
 use Rattle.fax_command.proofs.AnswerLemmas.{Answers-read, Answers-unread}
@@ -20,3 +20,18 @@ returns-in-Ok-write_answer-clause-answers g c = λ other.
           let wanting = subst (λ (a : Answer). IsAnswerText a text) w.answer-is is in
           Answers-unread told c.args.options _ text old new (status ∙ ap status_of_answer w.answer-is) wanting written
     ]
+
+pub returns-in-Ok-write_answer-clause-run : goal.returns-in-Ok-write_answer-clause-run
+returns-in-Ok-write_answer-clause-run g c = record {
+  over = record {
+    handed_on = search rules;
+    unwritten = search rules;
+    too_long = search rules;
+    reads = search rules;
+    given = search rules;
+    failed_read = search rules;
+    too_much = search rules;
+    failed_write = search rules;
+  };
+  stream = search rules;
+}
