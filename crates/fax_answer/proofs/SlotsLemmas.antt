@@ -3,6 +3,7 @@ use Rattle.std.proofs.Common.{◌≡◌, ℕ, zero, suc, ◌+◌, ◌<◌, ◌&&
 use Rattle.std.proofs.lemmas.List.{append-nil, reverse-append, length-append, map-append, take_more}
 use Rattle.std.specs.Borrow.{Bor}
 use Rattle.std.specs.Option.{is_some}
+use Rattle.fax_bits.specs.declared.memory.NoMemory.{NoMemory}
 use Rattle.fax_frames.specs.declared.dcs.Dcs.{Dcs}
 use Rattle.fax_pagestore.specs.Pages.{PageValue}
 use Rattle.fax_pagestore.specs.Readers.{ReaderValue}
@@ -11,8 +12,8 @@ use Rattle.fax_ifp.specs.declared.piece.Piece as code_pieces
 use Rattle.fax_ifp.specs.Shown.{piece_of, pieces_shown}
 use Rattle.fax_udptl.specs.Reading.{texts}
 use Rattle.fax_ifp.specs.Elements.{Slot}
-use Rattle.fax_ifp.specs.Pieces.{Piece, Gap, pieces}
-use Rattle.fax_ifp.specs.Tracked.{Tracked, IsTracked, TracksRun, GivesRun, Tracks, Gives, lost_slots}
+use Rattle.fax_ifp.specs.Pieces.{Piece, Octets, Gap, pieces}
+use Rattle.fax_ifp.specs.Tracked.{Tracked, IsTracked, TracksRun, GivesRun, Tracks, Gives, lost_slots, with_octets}
 use Rattle.fax_answer.specs.declared.procedure.Procedure.{Procedure}
 use Rattle.fax_answer.specs.declared.timers.Timers.{Timers}
 use Rattle.fax_timers.specs.Moments.{moment_after}
@@ -152,6 +153,19 @@ hears_more slots packet now heard core mid new tracked given h tracks gives same
       tracked = subst (λ (s : List Slot). IsTracked s new.tracked) (sym back) (subst (λ (k : Tracked). IsTracked (Some packet ∷ (reverse slots ++ heard)) k) (sym same) (tracks (reverse slots ++ heard) h.tracked));
       stands = t.stands;
     }
+
+-- no slot yet
+hears_none : (now : ℕ) (heard : List Slot) (core : Answering) (old : Kept) → IsReached heard core old → HearsSo [] now heard core old
+hears_none now heard core old r = record { given = []; pieces = sym (append-nil (pieces heard)); behind = core; came = refl; tracked = r.tracked; stands = r.stands }
+
+-- the one slot of a packet that gives octets of the open image and nothing else
+pub hears_alone : (r : Result (Unit {0}) NoMemory) (slots : List Slot) (packet octets : List ℕ) (now : ℕ) (old new : Kept) → slots ≡ Some packet ∷ []
+    → Tracks (Some packet) old.tracked (with_octets old.tracked) → Gives (Some packet) old.tracked (Octets octets ∷ []) → OnOk r (new.tracked ≡ with_octets old.tracked)
+    → OnOk r ((a : Answering) → Stands a old → TakesAll (Octets octets ∷ []) now a new) → OnOk r ((heard : List Slot) (core : Answering) → IsReached heard core old → HearsSo slots now heard core new)
+hears_alone (Ok u) slots packet octets now old new one tracks gives same takes = λ heard core r.
+    subst (λ (s : List Slot). HearsSo s now heard core new) (sym one)
+    (hears_more [] packet now heard core old new (with_octets old.tracked) (Octets octets ∷ []) (hears_none now heard core old r) tracks gives same takes)
+hears_alone (Err e) slots packet octets now old new one tracks gives same takes = tt
 
 -- A LIST of what came, with one more
 pub shown_more : (ps : List code_pieces.Piece) (i : ℕ) (p : code_pieces.Piece) → i < length ps → p ≡ get_or ps i p → pieces_shown (take i ps) ++ piece_of p ∷ [] ≡ pieces_shown (take (i + 1) ps)

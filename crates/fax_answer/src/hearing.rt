@@ -1,9 +1,9 @@
 //! What the answering side makes of the slots that come.
-ghost use Rattle.std.specs.Prelude.{◌≡◌, ◌↔◌, List, [], None, IsTrue, IsOk, IfOk, OnOk, OnErr, is_some, if◌then◌else◌};
+ghost use Rattle.std.specs.Prelude.{◌≡◌, ◌↔◌, List, [], ◌∷◌, None, IsTrue, IsOk, IfOk, OnOk, OnErr, is_some, if◌then◌else◌};
 ghost use Rattle.fax_ifp.specs.Elements.{Slot as SlotShown};
-ghost use Rattle.fax_ifp.specs.Pieces.{Frame as FrameShown};
+ghost use Rattle.fax_ifp.specs.Pieces.{Frame as FrameShown, Octets as OctetsShown};
 ghost use Rattle.fax_ifp.specs.Shown.{piece_of, pieces_shown};
-ghost use Rattle.fax_ifp.specs.Tracked.{lost_slots};
+ghost use Rattle.fax_ifp.specs.Tracked.{lost_slots, with_octets};
 ghost use Rattle.fax_udptl.specs.Taking.{slots_in};
 ghost use Rattle.fax_answer.specs.Calls.{Answering};
 ghost use Rattle.fax_answer.specs.Images.{GoesOn, TakesIn, begun};
@@ -44,7 +44,12 @@ impl<S: RowStore> Answerer<S> {
         ensures no_packet { decided.now.packets ≡ [] → IsOk result }
         ensures spare { self.new.spare ≡ self.old.spare }
     {
-        if decided.packets().next().is_none() {
+        if let Some(packet) = decided.only() {
+            if let Some(octets) = self.signals.octets_in(packet) {
+                return self.hear_alone(octets, now);
+            }
+        }
+        if decided.is_empty() || decided.packets().next().is_none() {
             self.lose(decided.lost(), now);
             return Ok(());
         }
@@ -59,6 +64,19 @@ impl<S: RowStore> Answerer<S> {
             self.image.back(mark);
             return Err(NoMemory);
         }
+        Ok(())
+    }
+
+    /// Hears the slot of a packet that gives these octets of the open image and nothing else. An `Err` changes nothing.
+    fn hear_alone(&mut self, octets: &[u8], now: u64) -> Result<(), NoMemory>
+        ensures heard { OnOk result ((core : Answering) → Stands core self.old
+            → TakesAll (OctetsShown octets.now ∷ []) now core self.new) }
+        ensures tracked { OnOk result (self.new.tracked ≡ with_octets self.old.tracked) }
+        ensures err { OnErr result (self.new ≡ self.old) }
+        ensures spare { self.new.spare ≡ self.old.spare }
+    {
+        self.hear_octets(octets, now)?;
+        self.signals.take_octets();
         Ok(())
     }
 
@@ -123,10 +141,7 @@ impl<S: RowStore> Answerer<S> {
                 self.procedure.note(piece, Decision::PassOver, now);
                 self.begin_image()?;
             }
-            Piece::Octets(octets) => {
-                self.read_octets(octets)?;
-                self.procedure.note(piece, Decision::PassOver, now);
-            }
+            Piece::Octets(octets) => self.hear_octets(octets, now)?,
             Piece::End { whole } => {
                 let decision = self.judge_training(*whole);
                 self.procedure.note(piece, decision, now);
@@ -147,6 +162,22 @@ impl<S: RowStore> Answerer<S> {
         if let State::Page(dcs) = self.procedure.state {
             self.image.begin(dcs)?;
         }
+        Ok(())
+    }
+
+    /// Hears octets of the image under way. An `Err` changes nothing.
+    fn hear_octets(&mut self, octets: &[u8], now: u64) -> Result<(), NoMemory>
+        ensures heard { OnOk result ((core : Answering) → Stands core self.old
+            → Takes (OctetsShown octets.now) now core self.new) }
+        ensures goes_on { GoesOn self.old.image.readers self.new.image.readers }
+        ensures err { OnErr result (self.new ≡ self.old) }
+        ensures tracked { self.new.tracked ≡ self.old.tracked }
+        ensures spare { self.new.spare ≡ self.old.spare }
+        ensures confirmed { self.new.confirmed ≡ self.old.confirmed }
+    {
+        self.read_octets(octets)?;
+        self.procedure
+            .note(&Piece::Octets(octets), Decision::PassOver, now);
         Ok(())
     }
 

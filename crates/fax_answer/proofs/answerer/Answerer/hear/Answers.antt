@@ -1,22 +1,17 @@
-use Rattle.std.proofs.Common.{◌≡◌, refl, sym, ◌∙◌, ap, subst}
-use Rattle.fax_ifp.specs.Pieces.{Start, Octets, End, Gap}
+use Rattle.std.proofs.Common.{refl, sym, ◌∙◌, ap, subst}
+use Rattle.fax_ifp.specs.Pieces.{Start, End, Gap}
 use Rattle.fax_ifp.specs.Shown.{piece_of}
-use Rattle.fax_answer.specs.declared.procedure.Procedure.{Procedure}
 use Rattle.fax_answer.specs.History.{PassesOver}
-use Rattle.fax_answer.specs.Images.{ImageValue, GoesOn}
-use Rattle.fax_answer.specs.Following.{Follows}
+use Rattle.fax_answer.specs.Images.{ImageValue}
 use Rattle.fax_answer.specs.Reached.{Kept, Stands}
 use Rattle.fax_answer.specs.Shown.{confirmed_shown}
-use Rattle.fax_answer.proofs.ImageLemmas.{goes_same, goes_fed, begun_goes}
-use Rattle.fax_answer.proofs.HearingLemmas.{hears_start, hears_octets, hears_end, hears_gap}
+use Rattle.fax_answer.proofs.ImageLemmas.{goes_same, begun_goes}
+use Rattle.fax_answer.proofs.HearingLemmas.{hears_start, hears_end, hears_gap}
 use Rattle.fax_answer.proofs.answerer.Answerer.hear.Goals as goal
 
 pub returns-in_err-begin_image-in-Start-clause-goes_on : goal.returns-in_err-begin_image-in-Start-clause-goes_on
 returns-in_err-begin_image-in-Start-clause-goes_on g c =
     goes_same _ _ (c.in_err-begin_image-in-Start.ensures.readers ∙ ap (λ (k : Kept). k.image.readers) c.self.view_is)
-
-pub returns-in_err-read_octets-in-Octets-clause-goes_on : goal.returns-in_err-read_octets-in-Octets-clause-goes_on
-returns-in_err-read_octets-in-Octets-clause-goes_on g c = goes_same _ _ (ap (λ (k : Kept). k.image.readers) c.in_err-read_octets-in-Octets.ensures.err)
 
 pub returns-in_err-begin_image-in-End-clause-goes_on : goal.returns-in_err-begin_image-in-End-clause-goes_on
 returns-in_err-begin_image-in-End-clause-goes_on g c =
@@ -35,11 +30,6 @@ returns-in_ok-begin_image-in-End-clause-goes_on g c =
     begun_goes c.note-in-End.new.self.state c.self-in-End.inside.image.readers c.args.self.now.image.readers c.begin_image-in-End.new.self.image.readers (ap (λ (k : Kept). k.image.readers) c.self-in-End.view_is)
     (ap (λ (i : ImageValue). i.readers) c.in_ok-begin_image-in-End.ensures.begun)
 
-pub returns-in_ok-read_octets-in-Octets-clause-goes_on : goal.returns-in_ok-read_octets-in-Octets-clause-goes_on
-returns-in_ok-read_octets-in-Octets-clause-goes_on g c =
-    subst (GoesOn c.args.self.now.image.readers) (sym (ap (λ (k : Kept). k.image.readers) c.self-in-Octets.view_is))
-    (goes_fed c.args.self.now.procedure.state c.in-Octets.octets.now c.args.self.now.image.readers c.read_octets.new.self.image.readers c.in_ok-read_octets-in-Octets.ensures.taken.readers)
-
 pub returns-in_ok-begin_image-in-Start-clause-heard : goal.returns-in_ok-begin_image-in-Start-clause-heard
 returns-in_ok-begin_image-in-Start-clause-heard g c core s =
     let k = subst (λ (x : Kept). Stands core x) (sym c.self.view_is) s in
@@ -48,18 +38,6 @@ returns-in_ok-begin_image-in-Start-clause-heard g c core s =
     hears_start core c.in-Start.field-0 c.args.now (piece_of c.args.piece.now) old c.begin_image.new.self c.note.new.self (ap piece_of c.in-Start.is) k
     (λ can. c.note.ensures.noted core k.confirmed (Start c.in-Start.field-0) PassesOver k.follows (ap piece_of c.in-Start.is) refl can)
     (record { procedure_is = ap (λ (x : Kept). x.procedure) c.begin_image.ensures.same; confirmed = ap (λ (x : Kept). x.confirmed) c.begin_image.ensures.same; refused = ap (λ (x : Kept). x.refused) c.begin_image.ensures.same; image_is = c.in_ok-begin_image-in-Start.ensures.begun })
-
-pub returns-in_ok-read_octets-in-Octets-clause-heard : goal.returns-in_ok-read_octets-in-Octets-clause-heard
-returns-in_ok-read_octets-in-Octets-clause-heard g c core s =
-    let same = c.self-in-Octets.view_is ∙ c.read_octets.ensures.same in
-    let confirmed = confirmed_shown {S = g.row.S.Denot} c.self-in-Octets.inside.confirmed in
-    let new : Kept = record { tracked = c.self-in-Octets.inside.signals; procedure = c.note-in-Octets.new.self; image = c.self-in-Octets.inside.image; confirmed = confirmed; refused = c.self-in-Octets.inside.refused; spare = c.self-in-Octets.inside.room } in
-    let procedure : c.self-in-Octets.inside.procedure ≡ c.args.self.now.procedure = ap (λ (x : Kept). x.procedure) same in
-    let follows : Follows core s.confirmed c.self-in-Octets.inside.procedure = subst (λ (x : Procedure). Follows core s.confirmed x) (sym procedure) s.follows in
-    hears_octets core c.in-Octets.octets.now c.args.now (piece_of c.args.piece.now) c.args.self.now new c.note-in-Octets.new.self c.read_octets.new.self.image (ap piece_of c.in-Octets.is) s
-    (λ can. c.note-in-Octets.ensures.noted core s.confirmed (Octets c.in-Octets.octets.now) PassesOver follows (ap piece_of c.in-Octets.is) refl can)
-    c.in_ok-read_octets-in-Octets.ensures.taken
-    (record { procedure_is = refl; confirmed = ap (λ (x : Kept). x.confirmed) same; refused = ap (λ (x : Kept). x.refused) same; image_is = ap (λ (x : Kept). x.image) c.self-in-Octets.view_is })
 
 pub returns-in_ok-begin_image-in-End-clause-heard : goal.returns-in_ok-begin_image-in-End-clause-heard
 returns-in_ok-begin_image-in-End-clause-heard g c core s =
