@@ -21,3 +21,6 @@ mod SlotsLemmas
 pub mod Accepted
 pub mod Rising
 pub mod DueLemmas
+mod InTime
+mod Silence
+mod Silences

@@ -18,3 +18,5 @@ pub mod Readings
 pub mod Sent
 pub mod InPage
 pub mod Due
+pub mod InTime
+pub mod Silence

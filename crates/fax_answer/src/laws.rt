@@ -5,10 +5,12 @@ ghost use Rattle.fax_answer.specs.Due.{ActsFrom, RestsBefore};
 ghost use Rattle.fax_answer.specs.EachCommand.{JudgesEachCommand};
 ghost use Rattle.fax_answer.specs.EachRtn.{EachRtnRefuses};
 ghost use Rattle.fax_answer.specs.InPage.{BeginsInPage};
+ghost use Rattle.fax_answer.specs.InTime.{GivesUpInTime, NoTimerIsEarly};
 ghost use Rattle.fax_answer.specs.Judging.{RefusesNoPage, JudgesExactly};
 ghost use Rattle.fax_answer.specs.Readings.{ReadingsJoin, CallsAreRead, CallsGoOn};
 ghost use Rattle.fax_answer.specs.Refusals.{ReasonsAreUnique};
 ghost use Rattle.fax_answer.specs.Sent.{ConfirmsSignals, ConfirmsWhatItAccepted};
+ghost use Rattle.fax_answer.specs.Silence.{LittleIsGiven, NoCallHangs};
 
 /// Each tick that gives a confirmed page gives the MCF frame as its packet, at the last command that was answered: a
 /// command behind exactly one image since the last CFR or MCF, which is whole, with neither a missing slot nor a
@@ -91,4 +93,28 @@ pub fn rests_before_it_is_due()
 /// A tick at the moment that is due, or later, gives a packet or changes the call.
 pub fn acts_from_when_it_is_due()
     ensures { ActsFrom }
+{}
+
+/// No timer acts before its time: where no packet waits, T1 is due 35 s from when the called machine identifies itself, T4 3 s
+/// from the packet that was given last, and T2 6 s from what was heard or given last; a tick before that gives nothing and
+/// changes nothing.
+pub fn no_timer_is_early()
+    ensures { NoTimerIsEarly }
+{}
+
+/// A tick gives a call up, with a DCN, exactly where no packet waits and T1 is due in Identify, or T2 in Listen, Train or
+/// Page.
+pub fn gives_up_in_time()
+    ensures { GivesUpInTime }
+{}
+
+/// No line hangs for ever: a call in which nothing more is heard is over in time, whatever was heard before: behind all that
+/// waits, the timers of its state, 9 seconds, and the time of five ticks.
+pub fn no_call_hangs()
+    ensures { NoCallHangs }
+{}
+
+/// However long nothing more is heard, little is given: what waits, and at most 26 packets more.
+pub fn little_is_given()
+    ensures { LittleIsGiven }
 {}
