@@ -1,4 +1,4 @@
-use Rattle.std.proofs.Common.{◌≡◌, ◌∙◌, ap}
+use Rattle.std.proofs.Common.{rules, ◌≡◌, ◌∙◌, ap}
 use Rattle.fax_capture.specs.Kept.{status_of_answer, text_of_answer}
 use Rattle.fax_capture.proofs.AnswerLemmas.{Answers-read, Answers-unread}
 use Rattle.fax_capture.proofs.run.run_capture.Goals as goal
@@ -21,3 +21,18 @@ returns-in-Ok-write-clause-answers g c = λ other.
           Answers-unread caller called known _ _ old new (status ∙ ap status_of_answer w.answer-is)
           (ap text_of_answer w.answer-is) c.in-Ok-write.ensures.text
     ]
+
+pub returns-in-Ok-write-clause-run : goal.returns-in-Ok-write-clause-run
+returns-in-Ok-write-clause-run g c = record {
+  over = record {
+    handed_on = search rules;
+    unwritten = search rules;
+    too_long = search rules;
+    reads = search rules;
+    given = search rules;
+    failed_read = search rules;
+    too_much = search rules;
+    failed_write = search rules;
+  };
+  stream = search rules;
+}
