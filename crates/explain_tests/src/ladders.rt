@@ -275,7 +275,7 @@ const NO_IMAGE_LADDER: &[&str] = &[
     "160       caller --> gateway             image begins, V.27ter 2400",
     "160       caller --> gateway             lost: 4",
     "160       caller --> gateway             EOP",
-    "240       caller <-- gateway             RTN: no image came before the command, and something is missing",
+    "240       caller <-- gateway             RTN: no image came before the command",
 ];
 
 /// The preamble before a command is lost, so that the command is none; it comes again, and the page is refused.
@@ -297,7 +297,7 @@ const LOST_PREAMBLE_LADDER: &[&str] = &[
     "160       caller --> gateway             lost: 5",
     "160       caller --> gateway             a frame in which something is missing, passed over",
     "3160      caller --> gateway             EOP",
-    "3240      caller <-- gateway             RTN: something is missing between the image and the command",
+    "3240      caller <-- gateway             RTN: something is missing or began between the image and the command",
 ];
 
 /// The preamble is lost, and the command brings it back.

@@ -1,5 +1,5 @@
 -- What a stage holds of what was played.
-use Rattle.std.specs.Prelude.{◌≡◌, ℕ, List, [], ◌∷◌, string_bytes}
+use Rattle.std.specs.Prelude.{◌≡◌, ℕ, List, [], ◌∷◌, ◌++◌, string_bytes}
 use Rattle.fax_call.specs.Writings.{IsWriting, Writing}
 use Rattle.fax_gateway.specs.Setups.{AreSet, Setup}
 use Rattle.fax_gateway.specs.Reached.{GatewayValue, IsReachedBy}
@@ -13,6 +13,16 @@ use Rattle.fax_explain.specs.Ladders.{IsParagraph, TellsPlay}
 abbrev pub told_in : List Entry → List (List ℕ)
 told_in [] = []
 told_in (entry ∷ entries) = string_bytes entry.words ∷ told_in entries
+
+-- more is told behind what was told
+abbrev pub GoesOn : (old new : List (List ℕ)) → Type 0
+GoesOn old new = (more : List (List ℕ)) × (new ≡ old ++ more)
+
+-- the last thing that is told goes on with more words; where nothing is, these are told
+abbrev pub last_with : (more : List ℕ) → List (List ℕ) → List (List ℕ)
+last_with more [] = more ∷ []
+last_with more (words ∷ []) = (words ++ more) ∷ []
+last_with more (words ∷ next ∷ told) = words ∷ last_with more (next ∷ told)
 
 -- one event more was played on a gateway, and this is told of it
 pub record PlaysOn (setup : Setup) (writes : Writing) (old : Played) (event : ScriptEvent) (told : List (List ℕ)) (gateway : GatewayValue) : Type 0 where

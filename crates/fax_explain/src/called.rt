@@ -1,4 +1,7 @@
 //! What is heard on the called leg.
+ghost use Rattle.std.specs.Prelude.{◌≡◌, ◌+◌, ◌-◌, ◌^◌, min};
+
+use crate::command::Command;
 use crate::keeper::Place;
 use crate::lane::Lane;
 use crate::listener::Listener;
@@ -8,49 +11,6 @@ use fax_bits::NoMemory;
 use fax_frames::Frame;
 use fax_gateway::{Given, Side};
 use std::alloc::Global;
-
-/// A command that is sent, and waits for its answer.
-#[derive(Clone, Copy, PartialEq, Eq)]
-enum Command {
-    /// DCS, with the training check behind it.
-    Training,
-    Mps,
-    Eom,
-    Eop,
-}
-
-impl Command {
-    /// The command that a frame is.
-    fn of(frame: Frame) -> Option<Self> {
-        match frame {
-            Frame::Dcs(_) => Some(Command::Training),
-            Frame::Mps => Some(Command::Mps),
-            Frame::Eom => Some(Command::Eom),
-            Frame::Eop => Some(Command::Eop),
-            _ => None,
-        }
-    }
-
-    /// The name of its frame.
-    fn name(self) -> &'static str {
-        match self {
-            Command::Training => "DCS",
-            Command::Mps => "MPS",
-            Command::Eom => "EOM",
-            Command::Eop => "EOP",
-        }
-    }
-
-    /// Whether a frame answers it (ITU-T T.30, 5.3.6.1.7).
-    fn is_answered_by(self, frame: Frame) -> bool {
-        match frame {
-            Frame::Dcn => true,
-            Frame::Cfr | Frame::Ftt => self == Command::Training,
-            Frame::Mcf | Frame::Rtp | Frame::Rtn => self != Command::Training,
-            _ => false,
-        }
-    }
-}
 
 /// What is heard on the called leg.
 #[derive(Drop)]
@@ -72,7 +32,7 @@ pub(crate) struct CalledLeg {
 
 impl CalledLeg {
     /// A leg on which nothing came or was given.
-    pub fn new(alloc: Global) -> Self {
+    pub(crate) fn new(alloc: Global) -> Self {
         CalledLeg {
             alloc,
             theirs: Listener::new(alloc, Lane::FromCalled),
@@ -87,7 +47,7 @@ impl CalledLeg {
     }
 
     /// The call of a job begins, whose pages came in this call.
-    pub fn begin(&mut self, call: u32) {
+    pub(crate) fn begin(&mut self, call: u32) {
         self.theirs = Listener::new(self.alloc, Lane::FromCalled);
         self.ours = Listener::new(self.alloc, Lane::ToCalled);
         self.asked = None;
@@ -101,20 +61,21 @@ impl CalledLeg {
     }
 
     /// A job has ended that had so many pages.
-    pub fn end(&mut self, pages: u32) {
+    pub(crate) fn end(&mut self, pages: u32)
+        ensures { self.new ≡ record self.old { before = min (self.old.before + pages) (2 ^ 32 - 1) } }
+    {
         self.before = self.before.saturating_add(pages);
     }
 
     /// The command that has no answer, where one waits for it.
-    pub fn unanswered(&self) -> Option<&'static str> {
-        match self.asked {
-            Some(command) => Some(command.name()),
-            None => None,
-        }
+    pub(crate) fn unanswered(&self) -> Option<Command>
+        ensures { result ≡ self.now.asked }
+    {
+        self.asked
     }
 
     /// The octets of a datagram come from the called machine.
-    pub fn hear(&mut self, octets: &[u8], tale: &mut Tale) -> Result<(), NoMemory> {
+    pub(crate) fn hear(&mut self, octets: &[u8], tale: &mut Tale) -> Result<(), NoMemory> {
         self.theirs.hear(octets, tale)?;
         for frame in self.theirs.frames() {
             if let Frame::Dis(_) = frame {
@@ -137,13 +98,17 @@ impl CalledLeg {
     }
 
     /// The octets of a datagram come from the called machine while no call is on.
-    pub fn hear_outside(&mut self, octets: &[u8], tale: &mut Tale) -> Result<(), NoMemory> {
+    pub(crate) fn hear_outside(&mut self, octets: &[u8], tale: &mut Tale) -> Result<(), NoMemory> {
         self.theirs.end_call();
         self.theirs.hear(octets, tale)
     }
 
     /// What a tick gives on this leg. It answers the page that it sends, where the last of it is given.
-    pub fn give(&mut self, given: &Given, tale: &mut Tale) -> Result<Option<FoundPage>, NoMemory> {
+    pub(crate) fn give(
+        &mut self,
+        given: &Given,
+        tale: &mut Tale,
+    ) -> Result<Option<FoundPage>, NoMemory> {
         let Some(octets) = &given.called else {
             return Ok(None);
         };

@@ -1,4 +1,7 @@
 //! What is heard on the calling leg.
+ghost use Rattle.std.specs.Prelude.{◌≡◌};
+ghost use Rattle.fax_explain.specs.Reasons.{given_up_text};
+
 use crate::keeper::Place;
 use crate::lane::Lane;
 use crate::listener::Listener;
@@ -34,7 +37,7 @@ pub(crate) struct CallingLeg {
 
 impl CallingLeg {
     /// A leg on which nothing came or was given: our DIS waits.
-    pub fn new(alloc: Global) -> Self {
+    pub(crate) fn new(alloc: Global) -> Self {
         let mut theirs = Listener::new(alloc, Lane::FromCaller);
         theirs.attend(true);
         CallingLeg {
@@ -47,7 +50,7 @@ impl CallingLeg {
     }
 
     /// The octets of a datagram come from the caller.
-    pub fn hear(&mut self, octets: &[u8], tale: &mut Tale) -> Result<(), NoMemory> {
+    pub(crate) fn hear(&mut self, octets: &[u8], tale: &mut Tale) -> Result<(), NoMemory> {
         self.theirs.hear(octets, tale)?;
         for frame in self.theirs.frames() {
             if let Frame::Dcs(_) = frame {
@@ -58,13 +61,17 @@ impl CallingLeg {
     }
 
     /// The octets of a datagram come from the caller while no call is on.
-    pub fn hear_outside(&mut self, octets: &[u8], tale: &mut Tale) -> Result<(), NoMemory> {
+    pub(crate) fn hear_outside(&mut self, octets: &[u8], tale: &mut Tale) -> Result<(), NoMemory> {
         self.theirs.end_call();
         self.theirs.hear(octets, tale)
     }
 
     /// What a tick gives on this leg. It answers the page that it confirms.
-    pub fn give(&mut self, given: &Given, tale: &mut Tale) -> Result<Option<FoundPage>, NoMemory> {
+    pub(crate) fn give(
+        &mut self,
+        given: &Given,
+        tale: &mut Tale,
+    ) -> Result<Option<FoundPage>, NoMemory> {
         let Some(octets) = &given.calling else {
             return Ok(None);
         };
@@ -77,17 +84,15 @@ impl CallingLeg {
         match frame {
             Some(Frame::Dis(_)) => self.identify(tale)?,
             Some(Frame::Mcf) => return self.confirm(given.kept, tale),
-            Some(Frame::Rtn) => {
-                tale.add(": ")?;
-                tale.add(self.theirs.why_refused())?;
-            }
             _ => {}
         }
         Ok(None)
     }
 
     /// Which timer ends the call (ITU-T T.30, 5.4.3).
-    fn why_given_up(&self) -> &'static str {
+    fn why_given_up(&self) -> &'static str
+        ensures { result.now ≡ given_up_text self.now.exchange }
+    {
         match self.exchange {
             Exchange::Before | Exchange::Awaited => "T1: no DCS in 35 s, so the call is given up",
             Exchange::Answered => "T2: nothing heard in 6 s, so the call is given up",
@@ -111,7 +116,6 @@ impl CallingLeg {
         kept: Option<Kept>,
         tale: &mut Tale,
     ) -> Result<Option<FoundPage>, NoMemory> {
-        self.theirs.confirm_page();
         let Some(kept) = kept else {
             tale.add(" again, to a command that came again")?;
             return Ok(None);

@@ -1,5 +1,11 @@
 //! The ends of frames in a packet.
-use fax_ifp::{DataType, FieldType, Head, Ifp, Piece};
+ghost use Rattle.std.specs.Prelude.{◌≡◌, ◌-◌, count_by};
+ghost use Rattle.fax_explain.specs.FrameEnds.{ends_in, ends_rightly, ends_wrongly, is_frame};
+
+use fax_ifp::{Field, Head, Ifp, Piece};
+
+/// The type of V.21 data.
+const V21: u8 = 0;
 
 /// How many frames end in a packet (ITU-T T.38 of 1998, field types 2 to 5 of V.21 data).
 #[derive(Clone, Copy)]
@@ -12,41 +18,58 @@ pub(crate) struct FrameEnds {
 
 impl FrameEnds {
     /// None ends.
-    pub fn none() -> Self {
+    pub(crate) fn none() -> Self
+        ensures { result ≡ record { good = 0; bad = 0 } }
+    {
         FrameEnds { good: 0, bad: 0 }
     }
 
     /// Those of a packet.
-    pub fn of(packet: &Ifp<'_>) -> Self {
-        let mut ends = FrameEnds::none();
-        let Head::Message { kind } = packet.head() else {
-            return ends;
-        };
-        if kind != DataType::V21.code() {
-            return ends;
+    pub(crate) fn of(packet: &Ifp<'_>) -> Self
+        ensures good { result.good ≡ ends_in ends_rightly packet.now }
+        ensures bad { result.bad ≡ ends_in ends_wrongly packet.now }
+    {
+        match packet.head() {
+            Head::Message { kind: V21 } => FrameEnds {
+                good: count_good(packet.fields()),
+                bad: count_bad(packet.fields()),
+            },
+            _ => FrameEnds::none(),
         }
-        for field in packet.fields() {
-            match FieldType::from_code(field.what) {
-                Some(FieldType::HdlcFcsOk | FieldType::HdlcFcsOkSigEnd) => {
-                    ends.good = ends.good.saturating_add(1);
-                }
-                Some(FieldType::HdlcFcsBad | FieldType::HdlcFcsBadSigEnd) => {
-                    ends.bad = ends.bad.saturating_add(1);
-                }
-                _ => {}
-            }
-        }
-        ends
     }
 
     /// How many of those that end rightly are none of these pieces: something is missing in them.
-    pub fn lacking(self, pieces: &[Piece<'_>]) -> usize {
-        let mut whole = 0usize;
-        for piece in pieces {
-            if let Piece::Frame(_) = piece {
-                whole = whole.saturating_add(1);
-            }
-        }
+    pub(crate) fn lacking(self, pieces: &[Piece<'_>]) -> usize
+        ensures { result ≡ self.good - count_by is_frame pieces.now }
+    {
+        let whole = pieces.iter().filter(|piece| is_frame(piece)).count();
         self.good.saturating_sub(whole)
     }
+}
+
+/// Whether a piece is a whole frame.
+fn is_frame(piece: &Piece<'_>) -> bool
+    ensures { result ≡ is_frame piece.now }
+{
+    matches!(piece, Piece::Frame(_))
+}
+
+/// How many fields end a frame whose check sequence is right.
+fn count_good(fields: &[Field<'_>]) -> usize
+    ensures { result ≡ count_by (λ field. ends_rightly field.what) fields.now }
+{
+    fields
+        .iter()
+        .filter(|field| field.what == 2 || field.what == 4)
+        .count()
+}
+
+/// How many fields end a frame whose check sequence is wrong.
+fn count_bad(fields: &[Field<'_>]) -> usize
+    ensures { result ≡ count_by (λ field. ends_wrongly field.what) fields.now }
+{
+    fields
+        .iter()
+        .filter(|field| field.what == 3 || field.what == 5)
+        .count()
 }

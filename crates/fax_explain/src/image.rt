@@ -1,4 +1,7 @@
 //! An image signal, as far as it has come.
+ghost use Rattle.std.specs.Prelude.{◌≡◌, ◌+◌, ◌-◌, ◌^◌, ◌++◌, ◌∷◌, [], length, min, IfOk, OnOk, string_bytes};
+ghost use Rattle.fax_explain.specs.Words.{wholeness_text};
+
 use fax_bits::NoMemory;
 use fax_frames::Dcs;
 use fax_pagestore::{PackedRows, Page, PageFault, PageReader};
@@ -20,7 +23,10 @@ pub(crate) struct Image {
 
 impl Image {
     /// An image of which nothing has come. Where a page is due, it is read under this DCS.
-    pub fn new(alloc: Global, page: Option<Dcs>) -> Self {
+    pub(crate) fn new(alloc: Global, page: Option<Dcs>) -> Self
+        ensures octets { result.octets ≡ 0 }
+        ensures missing { string_bytes result.missing ≡ [] }
+    {
         let reader = match page {
             Some(dcs) => Some(PageReader::new(alloc, dcs.format(), dcs.coding())),
             None => None,
@@ -35,8 +41,11 @@ impl Image {
         }
     }
 
-    /// More octets come.
-    pub fn feed(&mut self, octets: &[u8]) -> Result<(), NoMemory> {
+    /// More octets come. An `Err` leaves them counted.
+    pub(crate) fn feed(&mut self, octets: &[u8]) -> Result<(), NoMemory>
+        ensures octets { self.new.octets ≡ min (self.old.octets + length octets.now) (2 ^ 64 - 1) }
+        ensures missing { self.new.missing ≡ self.old.missing }
+    {
         for octet in octets {
             self.count(*octet);
         }
@@ -47,7 +56,10 @@ impl Image {
     }
 
     /// One octet more comes.
-    fn count(&mut self, octet: u8) {
+    fn count(&mut self, octet: u8)
+        ensures octets { self.new.octets ≡ min (self.old.octets + 1) (2 ^ 64 - 1) }
+        ensures missing { self.new.missing ≡ self.old.missing }
+    {
         self.octets = self.octets.saturating_add(1);
         self.run = if octet == 0 {
             self.run.saturating_add(1)
@@ -58,24 +70,32 @@ impl Image {
     }
 
     /// The datagrams of these numbers are missing in it.
-    pub fn miss(&mut self, numbers: &str) -> Result<(), NoMemory> {
+    pub(crate) fn miss(&mut self, numbers: &str) -> Result<(), NoMemory>
+        ensures { OnOk result (string_bytes self.new.missing ≡ string_bytes self.old.missing ++ 32 ∷ numbers.now) }
+    {
         self.missing.push_str(" ")?;
         self.missing.push_str(numbers)?;
         Ok(())
     }
 
     /// How many octets it has.
-    pub fn octets(&self) -> u64 {
+    pub(crate) fn octets(&self) -> u64
+        ensures { result ≡ self.now.octets }
+    {
         self.octets
     }
 
     /// How many zero octets it has in a row at most.
-    pub fn longest(&self) -> u64 {
+    pub(crate) fn longest(&self) -> u64
+        ensures { result ≡ self.now.longest }
+    {
         self.longest
     }
 
     /// Whether it is whole, and which datagrams are missing if it is not.
-    pub fn wholeness(&self, whole: bool) -> Result<String, NoMemory> {
+    pub(crate) fn wholeness(&self, whole: bool) -> Result<String, NoMemory>
+        ensures { IfOk result (λ words. string_bytes words ≡ wholeness_text whole (string_bytes self.now.missing)) }
+    {
         let missing = self.missing.as_str();
         let words = if whole {
             format!(in self.alloc; "whole")?
@@ -88,7 +108,7 @@ impl Image {
     }
 
     /// The page that it means, where one was due.
-    pub fn finish(&mut self) -> Option<Result<Page<PackedRows>, PageFault>> {
+    pub(crate) fn finish(&mut self) -> Option<Result<Page<PackedRows>, PageFault>> {
         match &mut self.reader {
             Some(reader) => Some(reader.finish()),
             None => None,

@@ -1,4 +1,6 @@
 //! Where a thing happened.
+ghost use Rattle.std.specs.Prelude.{◌≡◌};
+ghost use Rattle.fax_explain.specs.Ladders.{lane_picture};
 
 /// Where a thing happened: on the way between two machines, or in the gateway itself.
 #[derive(Clone, Copy, PartialEq, Eq, Debug)]
@@ -12,7 +14,9 @@ pub(crate) enum Lane {
 
 impl Lane {
     /// Its picture, 29 columns wide.
-    pub fn picture(self) -> &'static str {
+    pub(crate) fn picture(self) -> &'static str
+        ensures { result.now ≡ lane_picture self }
+    {
         match self {
             Lane::FromCaller => "caller --> gateway           ",
             Lane::ToCaller => "caller <-- gateway           ",

@@ -7,14 +7,14 @@
 mod answer;
 mod called;
 mod calling;
-mod endings;
+mod command;
 mod frame_ends;
 mod image;
-mod judged;
 mod keeper;
 mod lane;
 mod listener;
 mod paragraph;
+mod reasons;
 mod run;
 mod stage;
 mod tale;

@@ -1,7 +1,9 @@
 //! What is read of the datagrams of one direction of a leg.
+ghost use Rattle.std.specs.Prelude.{◌≡◌, []};
+ghost use Rattle.fax_explain.specs.Listening.{attention_while, due_behind_cfr, is_command, is_heard, is_page_due};
+
 use crate::frame_ends::FrameEnds;
 use crate::image::Image;
-use crate::judged::Judged;
 use crate::lane::Lane;
 use crate::tale::Tale;
 use crate::words::{name_of_kind, words_of_frame, words_of_numbers};
@@ -46,10 +48,6 @@ pub(crate) struct Listener {
     is_missing: bool,
     /// The image under way.
     image: Option<Image>,
-    /// What is known of the images since the last CFR or MCF.
-    judged: Judged,
-    /// Why the page is refused, if it is, that the last command asked about.
-    refusal: &'static str,
     /// The last page that was read.
     page: Option<Page<PackedRows>>,
     /// The last DIS.
@@ -62,7 +60,10 @@ pub(crate) struct Listener {
 
 impl Listener {
     /// A direction on which nothing came.
-    pub fn new(alloc: Global, lane: Lane) -> Self {
+    pub(crate) fn new(alloc: Global, lane: Lane) -> Self
+        ensures lane { result.lane ≡ lane }
+        ensures frames { result.frames.items ≡ [] }
+    {
         Listener {
             alloc,
             lane,
@@ -72,8 +73,6 @@ impl Listener {
             due: Due::Nothing,
             is_missing: false,
             image: None,
-            judged: Judged::nothing(),
-            refusal: "",
             page: None,
             dis: None,
             frames: Vec::new(alloc),
@@ -82,7 +81,7 @@ impl Listener {
     }
 
     /// The octets of a datagram come.
-    pub fn hear(&mut self, octets: &[u8], tale: &mut Tale) -> Result<(), NoMemory> {
+    pub(crate) fn hear(&mut self, octets: &[u8], tale: &mut Tale) -> Result<(), NoMemory> {
         self.frames.clear();
         self.rests = false;
         let number = match read(octets) {
@@ -109,17 +108,23 @@ impl Listener {
     }
 
     /// The frames of the last datagram that were heard.
-    pub fn frames(&self) -> &[Frame] {
+    pub(crate) fn frames(&self) -> &[Frame]
+        ensures { result.now ≡ self.now.frames.items }
+    {
         self.frames.as_slice()
     }
 
     /// Whether nothing more belongs to what the last datagram told: a tone, a frame other than DCS, a training check.
-    pub fn rests(&self) -> bool {
+    pub(crate) fn rests(&self) -> bool
+        ensures { result ≡ self.now.rests }
+    {
         self.rests
     }
 
     /// From now on the gateway passes frames over, since a packet of its own waits, or it does not.
-    pub fn attend(&mut self, waits: bool) {
+    pub(crate) fn attend(&mut self, waits: bool)
+        ensures { self.new ≡ record self.old { attention = attention_while waits } }
+    {
         self.attention = if waits {
             Attention::Waits
         } else {
@@ -128,29 +133,26 @@ impl Listener {
     }
 
     /// The call is over: everything is passed over.
-    pub fn end_call(&mut self) {
+    pub(crate) fn end_call(&mut self)
+        ensures { self.new ≡ record self.old { attention = Attention.NoCall } }
+    {
         self.attention = Attention::NoCall;
     }
 
     /// CFR was given: what follows is a page.
-    pub fn confirm_training(&mut self) {
+    pub(crate) fn confirm_training(&mut self)
+        ensures { self.new ≡ record self.old { due = due_behind_cfr self.old.due } }
+    {
         if let Due::Check(dcs) = self.due {
             self.due = Due::Page(dcs);
         }
     }
 
-    /// MCF was given: what follows is another page.
-    pub fn confirm_page(&mut self) {
-        self.judged = Judged::nothing();
-    }
-
-    /// Why the page is refused that the last command asked about.
-    pub fn why_refused(&self) -> &'static str {
-        self.refusal
-    }
-
     /// The last page that was read, where none took it.
-    pub fn take_page(&mut self) -> Option<Page<PackedRows>> {
+    pub(crate) fn take_page(&mut self) -> Option<Page<PackedRows>>
+        ensures page { result ≡ self.old.page }
+        ensures left { self.new ≡ record self.old { page = None } }
+    {
         self.page.take()
     }
 
@@ -197,7 +199,6 @@ impl Listener {
     /// Datagrams of these numbers are missing.
     fn miss(&mut self, numbers: &str) -> Result<(), NoMemory> {
         self.is_missing = true;
-        self.judged.note_missing();
         match &mut self.image {
             Some(image) => image.miss(numbers),
             None => Ok(()),
@@ -320,7 +321,9 @@ impl Listener {
     }
 
     /// Whether a page is due.
-    fn awaits_page(&self) -> bool {
+    fn awaits_page(&self) -> bool
+        ensures { result ≡ is_page_due self.now.due }
+    {
         match self.due {
             Due::Page(_) => true,
             Due::Nothing | Due::Check(_) => false,
@@ -335,7 +338,6 @@ impl Listener {
             self.due = Due::Check(dcs);
             self.is_missing = false;
         } else if self.lane == Lane::FromCaller && is_command(frame) {
-            self.refusal = self.judged.why_refused();
             self.await_answer();
         }
     }
@@ -354,7 +356,6 @@ impl Listener {
             Due::Check(_) => ("training check begins", None),
             Due::Page(dcs) => ("image begins", Some(dcs)),
         };
-        self.judged.note_signal();
         self.image = Some(Image::new(self.alloc, page));
         let name = name_of_kind(kind);
         let words = format!(in self.alloc; "{words}, {name}")?;
@@ -374,7 +375,7 @@ impl Listener {
             Due::Check(dcs) => self.end_check(&image, whole, dcs)?,
             Due::Page(_) => {
                 let wholeness = image.wholeness(whole)?;
-                let meaning = self.end_page(&mut image, whole)?;
+                let meaning = self.end_page(&mut image)?;
                 format!(in self.alloc; "image of {octets} octets, {wholeness}: {meaning}")?
             }
         };
@@ -406,44 +407,40 @@ impl Listener {
 
     /// Behind a good training check pages are due, behind a bad one another DCS.
     fn judge_check(&mut self, is_good: bool, dcs: Dcs) {
-        if is_good {
-            self.due = Due::Page(dcs);
-            self.judged = Judged::nothing();
+        self.due = if is_good {
+            Due::Page(dcs)
         } else {
-            self.due = Due::Nothing;
-        }
+            Due::Nothing
+        };
         self.await_answer();
     }
 
     /// An image ends that is a page, or should be. It answers what it means.
-    fn end_page(&mut self, image: &mut Image, whole: bool) -> Result<String, NoMemory> {
+    fn end_page(&mut self, image: &mut Image) -> Result<String, NoMemory> {
         match image.finish() {
             Some(Ok(page)) => {
                 let rows = page.rows().len();
                 self.page = Some(page);
-                self.judged.note_image(whole, true);
                 Ok(format!(in self.alloc; "a page, rows: {rows}")?)
             }
             Some(Err(PageFault::NoMemory)) => Err(NoMemory),
-            Some(Err(fault)) => {
-                self.judged.note_image(whole, false);
-                Ok(format!(in self.alloc; "no page, {fault}")?)
-            }
-            None => {
-                self.judged.note_image(whole, false);
-                Ok(String::from_str(self.alloc, "no page, it began before CFR")?)
-            }
+            Some(Err(fault)) => Ok(format!(in self.alloc; "no page, {fault}")?),
+            None => Ok(String::from_str(self.alloc, "no page, it began before CFR")?),
         }
     }
 }
 
 /// Whether a frame is a command behind a page.
-fn is_command(frame: Frame) -> bool {
+fn is_command(frame: Frame) -> bool
+    ensures { result ≡ is_command frame }
+{
     matches!(frame, Frame::Mps | Frame::Eom | Frame::Eop)
 }
 
 /// Whether a frame is one that is heard in some state of a call.
-fn is_heard(frame: Frame) -> bool {
+fn is_heard(frame: Frame) -> bool
+    ensures { result ≡ is_heard frame }
+{
     !matches!(
         frame,
         Frame::Csi | Frame::Nsf | Frame::Tsi | Frame::Crp | Frame::Other

@@ -1,6 +1,6 @@
 //! Lines of the ladder.
-ghost use Rattle.std.specs.Prelude.{ℕ, ◌≡◌, ◌++◌, ◌∷◌, [], List, decimal, OnOk, IfOk, string_bytes};
-ghost use Rattle.fax_explain.specs.Ladders.{IsParagraph};
+ghost use Rattle.std.specs.Prelude.{ℕ, ◌≡◌, ◌++◌, ◌∷◌, [], List, decimal, OnOk, IfOk, replicate, string_bytes};
+ghost use Rattle.fax_explain.specs.Ladders.{IsParagraph, IsPlace};
 ghost use Rattle.fax_explain.specs.Staged.{told_in};
 
 use crate::tale::Entry;
@@ -35,20 +35,28 @@ fn push_line(alloc: Global, text: &mut Vec<u8>, moment: u64, entry: &Entry) -> R
 
 /// What stands behind the moment: spaces up to the ninth column, where it happened, and what.
 fn words_of(alloc: Global, moment: u64, entry: &Entry) -> Result<String, NoMemory>
-    ensures { IfOk result (λ words. (place : List ℕ) × (string_bytes words ≡ place ++ string_bytes entry.now.words)) }
+    ensures { IfOk result (λ words. (place : List ℕ) × IsPlace place × (string_bytes words ≡ place ++ string_bytes entry.now.words)) }
 {
-    let mut words = String::new(alloc);
-    let mut left = moment / 10;
-    for _ in 0..8 {
-        if left == 0 {
-            words.push_str(" ")?;
-        }
-        left /= 10;
-    }
+    let mut words = spaces_behind(alloc, moment)?;
     words.push_str(entry.lane.picture())?;
     words.push_str("  ")?;
     words.push_str(entry.words.as_str())?;
     Ok(words)
+}
+
+/// The spaces between a moment and the ninth column.
+fn spaces_behind(alloc: Global, moment: u64) -> Result<String, NoMemory>
+    ensures { IfOk result (λ spaces. (count : ℕ) × (string_bytes spaces ≡ replicate count 32)) }
+{
+    let mut spaces = String::new(alloc);
+    let mut left = moment / 10;
+    for _ in 0..8 {
+        if left == 0 {
+            spaces.push_str(" ")?;
+        }
+        left /= 10;
+    }
+    Ok(spaces)
 }
 
 /// Adds the line of words at a moment.

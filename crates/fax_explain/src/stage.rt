@@ -1,18 +1,18 @@
 //! A gateway on which a script is played, and what is heard on its legs.
-ghost use Rattle.std.specs.Prelude.{ℕ, ◌≡◌, [], IfOk, OnOk};
+ghost use Rattle.std.specs.Prelude.{ℕ, ◌≡◌, ◌++◌, ◌∷◌, [], IfOk, MatchOption, OnOk};
 ghost use Rattle.fax_call.specs.Writings.{IsWriting, Writing};
 ghost use Rattle.fax_gateway.specs.Setups.{AreAllowed, Setup};
 ghost use Rattle.fax_gateway.specs.Reached.{IsReachedBy};
 ghost use Rattle.fax_trace.specs.declared.event.ScriptEvent.TheVariants as script;
 ghost use Rattle.fax_trace.specs.Playing.{Played, moment_at};
-ghost use Rattle.fax_explain.specs.Ladders.{EndsWithReport};
-ghost use Rattle.fax_explain.specs.Staged.{IsNew, PlaysOn, told_in};
+ghost use Rattle.fax_explain.specs.Ladders.{EndsWithReport, TellsRefusal};
+ghost use Rattle.fax_explain.specs.Staged.{GoesOn, IsNew, PlaysOn, told_in};
 
 use crate::called::CalledLeg;
 use crate::calling::CallingLeg;
-use crate::endings::why_ended;
 use crate::keeper::Place;
 use crate::lane::Lane;
+use crate::reasons::{why_ended, why_refused};
 use crate::tale::Tale;
 use crate::words::words_of_format;
 use fax_bits::NoMemory;
@@ -58,7 +58,7 @@ pub(crate) struct Stage {
 
 impl Stage {
     /// A gateway with these settings, to which nothing came.
-    pub fn new(alloc: Global, settings: Settings) -> Result<Self, NoMemory>
+    pub(crate) fn new(alloc: Global, settings: Settings) -> Result<Self, NoMemory>
         requires { AreAllowed settings }
         ensures new { IfOk result (λ stage. IsNew stage) }
         ensures settings { IfOk result (λ stage. stage.gateway.settings ≡ settings) }
@@ -73,7 +73,7 @@ impl Stage {
     }
 
     /// Plays an event at a moment, and tells what happened.
-    pub fn play(&mut self, event: &ScriptEvent, moment: u64) -> Result<Scene, NoMemory>
+    pub(crate) fn play(&mut self, event: &ScriptEvent, moment: u64) -> Result<Scene, NoMemory>
         ensures { IfOk result (λ scene. (setup : Setup) (writes : Writing) (old : Played) → IsWriting writes → moment ≡ moment_at event.now old.moment
             → IsReachedBy setup writes old.trace self.old.gateway → PlaysOn setup writes old event.now (told_in scene.tale.entries.items) self.new.gateway) }
     {
@@ -129,7 +129,7 @@ impl Stage {
             return self.calling.hear_outside(octets, tale);
         };
         self.calling.hear(octets, tale)?;
-        self.tell_over(call, tale)
+        self.tell_over(Some(call), tale)
     }
 
     /// A datagram comes on the called leg.
@@ -154,21 +154,41 @@ impl Stage {
         let call = self.gateway.call();
         let was_sending = self.gateway.sending().is_some();
         let given = self.gateway.tick(moment)?;
-        if let Some(found) = self.calling.give(&given, &mut scene.tale)? {
-            scene.pages.push(found)?;
-        }
-        if let Some(call) = call {
-            self.tell_over(call, &mut scene.tale)?;
-        }
+        self.give_calling(&given, scene)?;
+        self.tell_over(call, &mut scene.tale)?;
         self.begin_job(was_sending, &mut scene.tale)?;
-        if let Some(found) = self.called.give(&given, &mut scene.tale)? {
-            scene.pages.push(found)?;
-        }
+        self.give_called(&given, scene)?;
         self.end_job(&given, &mut scene.tale)
     }
 
-    /// The end of this call of the calling leg is told, where it is over.
-    fn tell_over(&self, call: u32, tale: &mut Tale) -> Result<(), NoMemory> {
+    /// What a tick gives on the calling leg is told, and why it refuses a page, where it does: behind the RTN.
+    fn give_calling(&mut self, given: &Given, scene: &mut Scene) -> Result<(), NoMemory>
+        ensures gateway { self.new.gateway ≡ self.old.gateway }
+        ensures refused { OnOk result (TellsRefusal given.now.refused (told_in scene.new.tale.entries.items)) }
+    {
+        let found = self.calling.give(given, &mut scene.tale)?;
+        keep_found(&mut scene.pages, found)?;
+        tell_refusal(self.alloc, given, &mut scene.tale)
+    }
+
+    /// What a tick gives on the called leg is told.
+    fn give_called(&mut self, given: &Given, scene: &mut Scene) -> Result<(), NoMemory>
+        ensures gateway { self.new.gateway ≡ self.old.gateway }
+        ensures goes_on { OnOk result (GoesOn (told_in scene.old.tale.entries.items) (told_in scene.new.tale.entries.items)) }
+    {
+        let mut behind = Tale::new(self.alloc);
+        let found = self.called.give(given, &mut behind)?;
+        keep_found(&mut scene.pages, found)?;
+        scene.tale.append(behind)
+    }
+
+    /// The end of this call of the calling leg is told, where one was on and is over.
+    fn tell_over(&self, call: Option<u32>, tale: &mut Tale) -> Result<(), NoMemory>
+        ensures { OnOk result (GoesOn (told_in tale.old.entries.items) (told_in tale.new.entries.items)) }
+    {
+        let Some(call) = call else {
+            return Ok(());
+        };
         if self.gateway.call().is_some() {
             return Ok(());
         }
@@ -178,7 +198,8 @@ impl Stage {
 
     /// Where a job is sent and none was before the tick, its call begins.
     fn begin_job(&mut self, was_sending: bool, tale: &mut Tale) -> Result<(), NoMemory>
-        ensures { self.new.gateway ≡ self.old.gateway }
+        ensures gateway { self.new.gateway ≡ self.old.gateway }
+        ensures goes_on { OnOk result (GoesOn (told_in tale.old.entries.items) (told_in tale.new.entries.items)) }
     {
         if was_sending {
             return Ok(());
@@ -196,10 +217,11 @@ impl Stage {
         tale.tell(Lane::Inside, words.as_str())
     }
 
-    /// The job that ended is told, by the line that `faxgate trace` prints, with why it ended so.
+    /// The job that ended is told last, by the line that `faxgate trace` prints, with why it ended so.
     fn end_job(&mut self, given: &Given, tale: &mut Tale) -> Result<(), NoMemory>
         ensures gateway { self.new.gateway ≡ self.old.gateway }
         ensures told { OnOk result (EndsWithReport given.now.report (told_in tale.new.entries.items)) }
+        ensures goes_on { OnOk result (GoesOn (told_in tale.old.entries.items) (told_in tale.new.entries.items)) }
     {
         let Some(report) = &given.report else {
             return Ok(());
@@ -209,4 +231,26 @@ impl Stage {
         let words = format!(in self.alloc; "{report}{why}")?;
         tale.tell(Lane::Inside, words.as_str())
     }
+}
+
+/// Keeps a page that was found, where one was. An `Err` leaves the pages as they were.
+fn keep_found(pages: &mut Vec<FoundPage>, found: Option<FoundPage>) -> Result<(), NoMemory>
+    ensures { OnOk result (MatchOption found (pages.new.items ≡ pages.old.items) (λ page. pages.new.items ≡ pages.old.items ++ page ∷ [])) }
+{
+    if let Some(found) = found {
+        pages.push(found)?;
+    }
+    Ok(())
+}
+
+/// Why a tick refuses a page is told, where it does: behind what was told last, which is its RTN.
+fn tell_refusal(alloc: Global, given: &Given, tale: &mut Tale) -> Result<(), NoMemory>
+    ensures { OnOk result (TellsRefusal given.now.refused (told_in tale.new.entries.items)) }
+{
+    let Some(refused) = &given.refused else {
+        return Ok(());
+    };
+    let why = why_refused(refused.why);
+    let words = format!(in alloc; ": {why}")?;
+    tale.add(words.as_str())
 }

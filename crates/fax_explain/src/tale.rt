@@ -1,6 +1,6 @@
 //! What happened at an event.
 ghost use Rattle.std.specs.Prelude.{◌≡◌, ◌++◌, ◌∷◌, [], OnOk};
-ghost use Rattle.fax_explain.specs.Staged.{told_in};
+ghost use Rattle.fax_explain.specs.Staged.{last_with, told_in};
 
 use crate::lane::Lane;
 use fax_bits::NoMemory;
@@ -22,7 +22,7 @@ pub(crate) struct Tale {
 
 impl Tale {
     /// Nothing has happened.
-    pub fn new(alloc: Global) -> Self
+    pub(crate) fn new(alloc: Global) -> Self
         ensures { told_in result.entries.items ≡ [] }
     {
         Tale {
@@ -32,7 +32,7 @@ impl Tale {
     }
 
     /// One thing more happened.
-    pub fn tell(&mut self, lane: Lane, words: &str) -> Result<(), NoMemory>
+    pub(crate) fn tell(&mut self, lane: Lane, words: &str) -> Result<(), NoMemory>
         ensures { OnOk result (told_in self.new.entries.items ≡ told_in self.old.entries.items ++ words.now ∷ []) }
     {
         let words = String::from_str(self.alloc, words)?;
@@ -41,15 +41,26 @@ impl Tale {
     }
 
     /// More words of what happened last.
-    pub fn add(&mut self, more: &str) -> Result<(), NoMemory> {
-        if let Some(last) = self.entries.last_mut() {
-            last.words.push_str(more)?;
-        }
+    pub(crate) fn add(&mut self, more: &str) -> Result<(), NoMemory>
+        ensures { OnOk result (told_in self.new.entries.items ≡ last_with more.now (told_in self.old.entries.items)) }
+    {
+        let Some(last) = self.entries.len().checked_sub(1) else {
+            return self.tell(Lane::Inside, more);
+        };
+        self.entries[last].words.push_str(more)?;
+        Ok(())
+    }
+
+    /// What happened in another tale happened behind it.
+    pub(crate) fn append(&mut self, mut other: Tale) -> Result<(), NoMemory>
+        ensures { OnOk result (told_in self.new.entries.items ≡ told_in self.old.entries.items ++ told_in other.entries.items) }
+    {
+        self.entries.append(&mut other.entries)?;
         Ok(())
     }
 
     /// What happened.
-    pub fn entries(&self) -> &[Entry]
+    pub(crate) fn entries(&self) -> &[Entry]
         ensures { result.now ≡ self.now.entries.items }
     {
         self.entries.as_slice()

@@ -3,12 +3,20 @@ use Rattle.fax_command.proofs.PutLemmas.{OnOk-then}
 use Rattle.fax_gateway.specs.Events.{Tick}
 use Rattle.fax_gateway.specs.Reached.{GatewayValue, IsReachedBy, given_shown}
 use Rattle.fax_trace.specs.declared.event.ScriptEvent.TheVariants as script
-use Rattle.fax_explain.proofs.PlayLemmas.{accepted_on}
+use Rattle.fax_explain.proofs.PlayLemmas.{OnOk-both, accepted_on, tick_answer}
+use Rattle.fax_explain.proofs.LadderLemmas.{TellsRefusal-on}
 use Rattle.fax_explain.proofs.stage.Stage.tick.Goals as goal
 
 pub returns : goal.returns
-returns c = OnOk-then c.end_job.result c.end_job.ensures.told (λ answer setup writes old written reached.
-    let ticked = Tick c.args.moment (given_shown c.in_ok-given.given) in
+returns c = OnOk-then c.end_job.result (OnOk-both _ _ c.end_job.result c.end_job.ensures.told c.end_job.ensures.goes_on) (λ told setup writes old written reached.
+    let given = c.in_ok-given.given in
+    let ticked = Tick c.args.moment (given_shown given) in
+    let over = TellsRefusal-on given.refused _ _ c.in_ok-give_calling.ensures.refused c.in_ok-tell_over.ensures in
+    let begun = TellsRefusal-on given.refused _ _ over c.in_ok-begin_job.ensures.goes_on in
+    let sent = TellsRefusal-on given.refused _ _ begun c.in_ok-give_called.ensures.goes_on in
+    let right = c.in_ok-given.ensures.refused setup writes old.trace reached in
+    let answer = tick_answer setup old.trace c.args.moment (given_shown given) _ given.refused right (TellsRefusal-on given.refused _ _ sent told.1) told.0 in
     accepted_on setup writes old (script.Tick c.args.moment) _ _ ticked refl refl answer
-    (subst (λ (g : GatewayValue). IsReachedBy setup writes (ticked ∷ old.trace) g) (sym (c.end_job.ensures.gateway ∙ c.begin_job.ensures))
+    (subst (λ (g : GatewayValue). IsReachedBy setup writes (ticked ∷ old.trace) g)
+    (sym (c.end_job.ensures.gateway ∙ c.in_ok-give_called.ensures.gateway ∙ c.in_ok-begin_job.ensures.gateway ∙ c.in_ok-give_calling.ensures.gateway))
     (c.in_ok-given.ensures.ticked setup writes old.trace written reached)))
