@@ -23,7 +23,7 @@ pub(crate) struct ClockPace<'a, H: Clock, E: Eprint> {
 
 impl<'a, H: Clock, E: Eprint> ClockPace<'a, H, E> {
     /// A time that begins now, whose waits end where a datagram comes to this socket.
-    pub fn new(
+    pub(crate) fn new(
         host: &'a H,
         watch: &'a Watch<'a, E>,
         socket: &UdpSocket,
@@ -38,7 +38,7 @@ impl<'a, H: Clock, E: Eprint> ClockPace<'a, H, E> {
     }
 
     /// Waits so many milliseconds at most, and tells the moment. `None`: the clock does not tell.
-    pub fn wait_for(&self, most_ms: i32) -> Option<u64> {
+    pub(crate) fn wait_for(&self, most_ms: i32) -> Option<u64> {
         let mut asked = [pollfd {
             fd: self.descriptor,
             events: POLLIN,

@@ -1,4 +1,7 @@
 //! The pages in files, as a job.
+ghost use Rattle.std.specs.Prelude.{IfOk, length};
+ghost use Rattle.fax_machine.specs.Runs.{IsJobOfFiles};
+
 use crate::run_fault::RunFault;
 use fax_command::{
     InputError, InputFault, Output, PageOptions, StdSource, page_of_hex, read_input,
@@ -22,13 +25,15 @@ pub(crate) struct Reading {
     pub coding: Coding,
 }
 
-/// The job of the pages in these files, in their order.
+/// The job of the pages in these files, in their order, as of call 0.
 pub(crate) fn read_job<'a, H: Files>(
     host: &H,
     alloc: Global,
     reading: Reading,
     files: &[&'a str],
-) -> Result<Job<PackedRows>, RunFault<'a>> {
+) -> Result<Job<PackedRows>, RunFault<'a>>
+    ensures { IfOk result (IsJobOfFiles (length files.now)) }
+{
     let Some((first, others)) = files.split_first() else {
         return Err(RunFault::PageCount);
     };
@@ -41,9 +46,9 @@ pub(crate) fn read_job<'a, H: Files>(
             return Err(RunFault::PageCount);
         }
         let page = read_file(host, alloc, reading, file)?;
-        if job.add_page(page).is_err() {
+        let Ok(()) = job.add_page(page) else {
             return Err(RunFault::NoMemory);
-        }
+        };
     }
     Ok(job)
 }

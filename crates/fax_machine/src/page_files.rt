@@ -28,7 +28,7 @@ pub(crate) struct PageFiles<'a, H: Files, E: Eprint> {
 
 impl<'a, H: Files, E: Eprint> PageFiles<'a, H, E> {
     /// Files of the pages of a call.
-    pub fn new(
+    pub(crate) fn new(
         host: &'a H,
         watch: &'a Watch<'a, E>,
         alloc: Global,
@@ -47,14 +47,14 @@ impl<'a, H: Files, E: Eprint> PageFiles<'a, H, E> {
     }
 
     /// The number of the page that it was given last, from 1 on.
-    pub fn last(&self) -> u32
+    pub(crate) fn last(&self) -> u32
         ensures { result ≡ self.now.pages }
     {
         self.pages
     }
 
     /// Why that page was not written. `None`: it was, or memory was wanted.
-    pub fn into_fault(self) -> Option<io::Error> {
+    pub(crate) fn into_fault(self) -> Option<io::Error> {
         self.fault
     }
 

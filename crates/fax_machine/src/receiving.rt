@@ -29,7 +29,8 @@ pub struct ReceiveOptions<'a> {
 }
 
 /// Answers calls, one after another, and writes each page that it confirms as a P4 picture, before its MCF is sent. Calls have
-/// the numbers from 0 on of which no file is there.
+/// the numbers from 0 on of which no file is there. No contract says what comes over a socket or stands in a file; what is kept
+/// of each call is told by that of `receive_call`.
 pub fn run_receive<'a, H: Net + Clock + Files, E: Eprint>(
     host: &'a H,
     watch: &'a Watch<'a, E>,

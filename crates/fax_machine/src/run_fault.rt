@@ -1,4 +1,7 @@
 //! Why a terminal does not run to its end.
+ghost use Rattle.std.specs.Prelude.{◌≡◌};
+ghost use Rattle.fax_machine.specs.Runs.{status_of_fault};
+
 use fax_bits::NoMemory;
 use fax_command::{InputError, InputFault, Status};
 use fax_pbm::PbmFault;
@@ -30,7 +33,9 @@ pub enum RunFault<'a> {
 
 impl RunFault<'_> {
     /// The exit status.
-    pub fn status(&self) -> Status {
+    pub fn status(&self) -> Status
+        ensures { result ≡ status_of_fault self.now }
+    {
         match self {
             RunFault::NoMemory => Status::NoMemory,
             RunFault::Picture(_, _) | RunFault::Text(_, _) | RunFault::PageCount => Status::Fault,

@@ -1,5 +1,7 @@
 //! A run of `faxgate send`.
+ghost use Rattle.std.specs.Prelude.{IfOk, length};
 ghost use Rattle.fax_gateway.specs.Setups.{AreAllowed};
+ghost use Rattle.fax_machine.specs.Runs.{TellsRun};
 
 use crate::clock_pace::ClockPace;
 use crate::job_files::{Reading, read_job};
@@ -33,7 +35,8 @@ pub struct SendOptions<'a> {
 }
 
 /// Calls a machine and sends the pages in these files, each a P4 picture or the hex text of a page, and reports how the call
-/// ended. Where it was not delivered, and sends or receives failed, that is told.
+/// ended. Where it was not delivered, and sends or receives failed, that is told. No contract says what stands in a file: the
+/// pages of the job that it tells are as many as the files.
 pub fn run_send<'a, H: Net + Clock + Files, E: Eprint>(
     host: &H,
     watch: &Watch<'_, E>,
@@ -42,6 +45,7 @@ pub fn run_send<'a, H: Net + Clock + Files, E: Eprint>(
     files: &[&'a str],
 ) -> Result<Report, RunFault<'a>>
     requires { AreAllowed options.settings }
+    ensures { IfOk result (TellsRun options.entry.settings.preamble_ms (length files.now)) }
 {
     let reading = Reading {
         format: options.format,

@@ -35,7 +35,7 @@ pub(crate) struct Port {
 
 impl Port {
     /// Nothing failed at this socket.
-    pub fn new(socket: UdpSocket) -> Self {
+    pub(crate) fn new(socket: UdpSocket) -> Self {
         Port {
             socket,
             count: Cell::new(0),
@@ -44,7 +44,7 @@ impl Port {
     }
 
     /// The socket.
-    pub fn socket(&self) -> &UdpSocket {
+    pub(crate) fn socket(&self) -> &UdpSocket {
         &self.socket
     }
 
@@ -55,7 +55,7 @@ impl Port {
     }
 
     /// Tells the failures at this address, if there were any.
-    pub fn tell<E: Eprint>(&self, watch: &Watch<'_, E>, address: &str) {
+    pub(crate) fn tell<E: Eprint>(&self, watch: &Watch<'_, E>, address: &str) {
         if let Some(kind) = self.last.get() {
             let count = self.count.get();
             watch.tell_trouble(format_args!(
@@ -76,7 +76,7 @@ pub(crate) struct UdpLeg<'a> {
 
 impl<'a> UdpLeg<'a> {
     /// A leg over this socket, to this peer.
-    pub fn new(port: &'a Port, peer: SocketAddr) -> Self
+    pub(crate) fn new(port: &'a Port, peer: SocketAddr) -> Self
         ensures { result.failures ≡ 0 }
     {
         UdpLeg {

@@ -10,7 +10,7 @@ pub struct Watch<'a, E: Eprint> {
 }
 
 impl<'a, E: Eprint> Watch<'a, E> {
-    /// Progress is told where the standard error is a screen.
+    /// Progress is told where the standard error is a screen. No contract says so, since none can say what the standard error is.
     pub fn new(stderr: &'a E) -> Self {
         Watch {
             stderr,
