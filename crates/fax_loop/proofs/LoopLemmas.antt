@@ -3,7 +3,7 @@ use Rattle.std.proofs.Common.{◌≡◌, ℕ, zero, suc, ◌+◌, List, [], ◌�
 use Rattle.fax_pagestore.specs.Pages.{PageValue}
 use Rattle.fax_runcodes.specs.Rows.{Elements}
 use Rattle.fax_command.specs.RowLines.{TellRows}
-use Rattle.fax_loop.specs.Kept.{rows_of}
+use Rattle.fax_loop.specs.Answers.{rows_of}
 
 -- lines that tell rows, behind others that do
 pub TellRows-append : (lines more : List (List ℕ)) (rows others : List Elements) → TellRows lines rows → TellRows more others

@@ -1,25 +1,24 @@
 -- What `faxgate loop` answers to an input. (This project's profile.)
-use Rattle.std.specs.Prelude.{◌≡◌, ℕ, false, List, [], ◌∷◌, Option, None, Some, slice_get}
+use Rattle.std.specs.Prelude.{◌≡◌, ℕ, false, List, [], ◌∷◌, Option, None, Some}
+use Rattle.std.specs.List.{flat_map}
 use Rattle.fax_runcodes.specs.Rows.{Elements}
 use Rattle.fax_runcodes.specs.declared.Width.TheVariants as width
 use Rattle.fax_runcodes.specs.declared.format.Coding.TheVariants as coding
+use Rattle.fax_pagestore.specs.Pages.{PageValue}
 use Rattle.fax_pagestore.specs.PageTexts.{MeansRows}
+use Rattle.fax_jobs.specs.Books.{job_of}
 use Rattle.fax_jobs.specs.declared.outcome.Outcome.{Outcome as JobOutcome}
 use Rattle.fax_jobs.specs.declared.outcome.Outcome.TheVariants as job
 use Rattle.fax_jobs.specs.declared.report.Report.{Report}
 use Rattle.fax_jobs.specs.ReportTexts.{report_text}
-use Rattle.fax_call.specs.Writings.{IsWriting, Writing}
-use Rattle.fax_gateway.specs.Events.{Event}
 use Rattle.fax_gateway.specs.declared.settings.Settings.{Settings}
-use Rattle.fax_gateway.specs.Setups.{AreSet, Setup}
-use Rattle.fax_gateway.specs.Sides.{book_of, sides}
-use Rattle.fax_gateway.specs.Traces.{IsTrace}
 use Rattle.fax_command.specs.declared.input_fault.InputFault.{InputFault}
 use Rattle.fax_command.specs.declared.input_fault.InputFault.TheVariants as faults
 use Rattle.fax_command.specs.declared.options.Output.TheVariants as output
 use Rattle.fax_command.specs.declared.options.PageOptions.{PageOptions}
 use Rattle.fax_command.specs.Answers.{IsHexOf, RefusesPage, fault_line, row_width}
 use Rattle.fax_command.specs.RowLines.{TellRows, text_of_lines}
+use Rattle.fax_loop.specs.Exchanges.{IsExchange, Lines}
 use Rattle.fax_loop.specs.declared.ending.Ending.{Ending}
 use Rattle.fax_loop.specs.declared.ending.Ending.TheVariants as endings
 
@@ -27,26 +26,34 @@ use Rattle.fax_loop.specs.declared.ending.Ending.TheVariants as endings
 abbrev pub page_options : PageOptions
 page_options = record { format = record { width = width.W1728; fine = false }; coding = coding.Mh; least_bits = 0; output = output.Runs }
 
--- the input is hex text of octets that mean a page
-abbrev pub MeansPage : List ℕ → Type 0
-MeansPage input = (octets : List ℕ) × (rows : List Elements) × IsHexOf input octets × MeansRows (row_width page_options) page_options.coding octets rows
+-- the input is hex text of octets that mean this page
+abbrev pub IsInput : PageValue → List ℕ → Type 0
+IsInput page input = (page.format ≡ page_options.format)
+    × (octets : List ℕ) × IsHexOf input octets × MeansRows (row_width page_options) page_options.coding octets page.rows
 
--- This is the first report of a gateway with these settings, behind some trace, or it has made none; and that is so whatever
--- gives the texts of pages.
-abbrev pub IsFirstReport : Settings → Option Report → Type 0
-IsFirstReport settings report = (setup : Setup) (writes : Writing) → AreSet setup settings → IsWriting writes
-    → (trace : List Event) × IsTrace setup writes trace × (report ≡ slice_get (book_of (sides setup writes trace)).reports 0)
+-- A page went from a machine that calls over a gateway to another machine, all with these settings: the gateway reported so, and
+-- the other machine confirmed these pages. What sockets carry is not told.
+abbrev pub IsSent : Settings → PageValue → Option Report → List PageValue → Type 0
+IsSent settings page report pages = (before : Lines) × (after : Lines) × IsExchange settings (job_of 0 page) before after report pages
 
--- How a run ends: the gateway reports the job, and these rows are told, of which nothing is said here; it reports none; or
--- something is wrong with the input, or memory is wanted.
+-- the page was the one of the input
+abbrev pub Sends : Settings → List ℕ → Option Report → List PageValue → Type 0
+Sends settings input report pages = (page : PageValue) × IsInput page input × IsSent settings page report pages
+
+-- the rows of pages, one after the other
+abbrev pub rows_of : List PageValue → List Elements
+rows_of pages = flat_map (λ page. page.rows) pages
+
+-- How a run ends: the gateway reports the job, and these rows are told, which are those of the pages that the machine that is
+-- called confirmed; it reports none; or something is wrong with the input, or memory is wanted.
 pub data Outcome : Type 0 where
   Reports : (report : Report) → (rows : List Elements) → Outcome
   ReportsNone : Outcome
   Refuses : (fault : InputFault) → Outcome
 
 abbrev pub Allows : Settings → List ℕ → Outcome → Type 0
-Allows settings input (Reports report rows) = MeansPage input × IsFirstReport settings (Some report)
-Allows settings input ReportsNone = MeansPage input × IsFirstReport settings None
+Allows settings input (Reports report rows) = (pages : List PageValue) × Sends settings input (Some report) pages × (rows ≡ rows_of pages)
+Allows settings input ReportsNone = (pages : List PageValue) × Sends settings input None pages
 Allows settings input (Refuses fault) = RefusesPage page_options input fault
 
 abbrev pub job_status : JobOutcome → ℕ

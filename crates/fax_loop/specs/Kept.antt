@@ -1,30 +1,118 @@
--- What is kept of a call, and of an answer.
-use Rattle.std.specs.Prelude.{◌≡◌, ℕ, List, [], ◌∷◌, ◌++◌, codes, string_bytes}
-use Rattle.std.specs.List.{flat_map}
-use Rattle.fax_runcodes.specs.Rows.{Elements}
+-- What is kept of an exchange, and of an answer.
+use Rattle.std.specs.Prelude.{◌≡◌, ◌↔◌, ℕ, ◌<◌, ◌≤◌, Bool, IsTrue, List, [], ◌∷◌, ◌++◌, codes, string_bytes, length, reverse, is_some, Option, Some, None}
 use Rattle.fax_pagestore.specs.Pages.{PageValue}
-use Rattle.fax_call.specs.Writings.{IsWriting, Writing}
-use Rattle.fax_gateway.specs.Driving.{DriverValue, Entry, HasMade}
-use Rattle.fax_gateway.specs.Events.{Event}
-use Rattle.fax_gateway.specs.Reached.{GatewayValue, IsReachedBy}
-use Rattle.fax_gateway.specs.declared.settings.Settings.{Settings}
-use Rattle.fax_gateway.specs.Setups.{AreSet, Setup}
+use Rattle.fax_jobs.specs.Jobs.{JobValue}
+use Rattle.fax_answer.specs.declared.step.Confirmed.{Confirmed}
+use Rattle.fax_answer.specs.Confirmation.{IsRead}
+use Rattle.fax_answer.specs.Table.{Reading}
+use Rattle.fax_call.specs.Writings.{Writing}
+use Rattle.fax_gateway.specs.declared.called.CalledSide.{CalledSide}
+use Rattle.fax_gateway.specs.declared.leg.Leg.{Leg}
+use Rattle.fax_gateway.specs.CalledLegs.{CalledLeg, calls}
+use Rattle.fax_gateway.specs.CalledLegs as called_legs
+use Rattle.fax_gateway.specs.CallingLegs.{CallingLeg, question, told_calling}
+use Rattle.fax_gateway.specs.Driving.{HasMade, failed_in_a_row, most_datagrams, most_failed, receipts}
+use Rattle.fax_gateway.specs.Reached.{CallingValue, IsCalled, IsCalling, IsReachedBy, heard_on}
+use Rattle.fax_gateway.specs.Setups.{Setup}
+use Rattle.fax_gateway.specs.Wires.{Grows}
 use Rattle.fax_command.specs.RowLines.{TellRows, text_of_lines}
-use Rattle.fax_loop.specs.declared.ending.Ending.{Ending}
-use Rattle.fax_loop.specs.declared.ending.Ending.TheVariants as endings
 use Rattle.fax_loop.specs.declared.answer.Answer.{Answer}
 use Rattle.fax_loop.specs.declared.answer.Answer.TheVariants as answer
+use Rattle.fax_loop.specs.declared.answering_machine.AnsweringMachine.{AnsweringMachine}
+use Rattle.fax_loop.specs.declared.calling_machine.CallingMachine.{CallingMachine}
+use Rattle.fax_loop.specs.declared.ending.Ending.{Ending}
+use Rattle.fax_loop.specs.declared.ending.Ending.TheVariants as endings
+use Rattle.fax_loop.specs.declared.exchange.Parties.{Parties}
+use Rattle.fax_loop.specs.declared.link.Link.{Link}
+use Rattle.fax_loop.specs.Answers.{rows_of}
+use Rattle.fax_loop.specs.Ends.{Told, handed}
+use Rattle.fax_loop.specs.Machines.{AreCame, Came, called_turned, called_with, calling_turned, calling_with, octets_of, pages_on}
+use Rattle.fax_loop.specs.Exchanges.{AreRounds, Carried, IsOver, Lines, Round, answerer_behind, caller_behind, log_behind, trace_behind}
 
--- A gateway with these settings that a trace led to is driven by what made all of some log.
-abbrev pub IsDriven : Settings → GatewayValue → DriverValue → Type 0
-IsDriven settings gateway driver = (setup : Setup) (writes : Writing) → AreSet setup settings → IsWriting writes
-    → (trace : List Event) × (log : List Entry) × IsReachedBy setup writes trace gateway × HasMade log driver
+-- what is on the leg of a machine, as a gateway has it
+abbrev pub leg_of : Link → Leg
+leg_of link = record { receiver = link.receiver; sender = link.sender }
 
--- the rows of pages, one after the other
-abbrev pub rows_of : List PageValue → List Elements
-rows_of pages = flat_map (λ page. page.rows) pages
+-- ---- the machine that calls, as a gateway has its called side
+abbrev pub caller_of : CallingMachine → CalledSide
+caller_of machine = record { caller = machine.caller; leg = leg_of machine.link }
 
--- this text is that of an answer
+-- at most so many datagrams came over its end, and led on
+pub record CallerHears (setup : Setup) (writes : Writing) (l : CalledLeg) (now most : ℕ) (before after : Told) (side : CalledSide) : Type 0 where
+  pub came : List (List ℕ)
+  pub few : length came ≤ most
+  pub received : Grows came before.received after.received
+  pub called : IsCalled setup writes (Some (calling_with writes now came l)) side
+
+-- a turn
+pub record CallerTurns (setup : Setup) (writes : Writing) (l : CalledLeg) (now : ℕ) (before after : Told) (side : CalledSide) : Type 0 where
+  pub came : List (List ℕ)
+  pub few : length came ≤ most_datagrams
+  pub received : Grows came before.received after.received
+  pub sent : Grows (handed (called_legs.told_by setup (calling_with writes now came l).given (calls writes (calling_with writes now came l) now).given)) before.sent after.sent
+  pub called : IsCalled setup writes (Some (calling_turned writes now came l)) side
+
+-- ---- the machine that is called, as a gateway has its calling side
+abbrev pub answerer_of : {S : Type 0} → AnsweringMachine S → CallingValue
+answerer_of machine = record { number = 0; kept = machine.answerer; leg = leg_of machine.link }
+
+-- its call led to it, and it keeps the pages that it confirmed
+pub record IsAnswering {S : Type 0} (setup : Setup) (leg : Option CallingLeg) (machine : AnsweringMachine S) : Type 0 where
+  pub calling : IsCalling setup leg (answerer_of machine)
+  pub rung : machine.has_rung ≡ is_some leg
+  pub pages_are : reverse machine.confirmed.items ≡ pages_on leg
+
+-- a datagram came
+pub record AnswererListens {S : Type 0} (setup : Setup) (l : CallingLeg) (now : ℕ) (octets : List ℕ) (machine : AnsweringMachine S) : Type 0 where
+  pub read : Reading
+  pub right : IsRead (question (Some l) now octets) read
+  pub answering : IsAnswering setup (heard_on setup (Some l) now octets read) machine
+
+-- at most so many datagrams came over its end, and led on
+pub record AnswererHears {S : Type 0} (setup : Setup) (leg : Option CallingLeg) (now most : ℕ) (before after : Told) (machine : AnsweringMachine S) : Type 0 where
+  pub came : List Came
+  pub few : length came ≤ most
+  pub read : AreCame setup now came leg
+  pub received : Grows (octets_of came) before.received after.received
+  pub answering : IsAnswering setup (called_with setup now came leg) machine
+
+-- a turn
+pub record AnswererTurns {S : Type 0} (setup : Setup) (leg : Option CallingLeg) (now : ℕ) (before after : Told) (machine : AnsweringMachine S) : Type 0 where
+  pub came : List Came
+  pub few : length came ≤ most_datagrams
+  pub read : AreCame setup now came leg
+  pub received : Grows (octets_of came) before.received after.received
+  pub sent : Grows (handed (told_calling setup (called_with setup now came leg) now)) before.sent after.sent
+  pub answering : IsAnswering setup (called_turned setup now came leg) machine
+
+-- the page that a tick confirmed, where it did
+abbrev pub pages_in : {S : Type 0} → Option (Confirmed S) → List PageValue
+pages_in None = []
+pages_in (Some confirmed) = confirmed.page ∷ []
+
+-- ---- an exchange: these rounds led to it, since the lines were so
+pub record HasPlayed (setup : Setup) (writes : Writing) (job : JobValue) (rounds : List Round) (before after : Lines) (parties : Parties) : Type 0 where
+  pub are_rounds : AreRounds setup writes rounds
+  pub gateway : IsReachedBy setup writes (trace_behind rounds) parties.gateway
+  pub driver : HasMade (log_behind rounds) parties.driver
+  pub caller : IsCalled setup writes (Some (caller_behind setup writes job rounds)) (caller_of parties.caller)
+  pub answerer : IsAnswering setup (answerer_behind setup rounds) parties.answerer
+  pub carried : Carried setup writes job rounds before after
+
+-- so many rounds, behind which this says whether the gateway's last 100 receives did not all fail
+pub record HasGone (setup : Setup) (writes : Writing) (job : JobValue) (count : ℕ) (goes_on : Bool) (before after : Lines) (parties : Parties) : Type 0 where
+  pub rounds : List Round
+  pub many : length rounds ≡ count
+  pub receives : IsTrue goes_on ↔ (failed_in_a_row (receipts (log_behind rounds)) < most_failed)
+  pub played : HasPlayed setup writes job rounds before after parties
+
+-- and no more are played
+pub record HasEnded (setup : Setup) (writes : Writing) (job : JobValue) (before after : Lines) (parties : Parties) : Type 0 where
+  pub rounds : List Round
+  pub over : IsOver setup writes rounds
+  pub played : HasPlayed setup writes job rounds before after parties
+
+-- ---- this text is that of an answer
 abbrev pub IsAnswerText : Answer → List ℕ → Type 0
 IsAnswerText (answer.Reported told) text = (lines : List (List ℕ)) × TellRows lines (rows_of told.confirmed.items)
     × (text ≡ (string_bytes told.line ++ 10 ∷ []) ++ text_of_lines lines)

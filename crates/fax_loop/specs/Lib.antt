@@ -1,2 +1,5 @@
 pub mod Answers
+pub mod Ends
+pub mod Exchanges
 pub mod Kept
+pub mod Machines

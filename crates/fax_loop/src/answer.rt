@@ -5,8 +5,8 @@ ghost use Rattle.fax_gateway.specs.declared.settings.Settings.{Settings as Gatew
 ghost use Rattle.fax_gateway.specs.Setups.{AreAllowed};
 ghost use Rattle.fax_command.specs.RowLines.{TellRows, text_of_lines};
 ghost use Rattle.fax_command.specs.Streams.{failed_after_write};
-ghost use Rattle.fax_loop.specs.Answers.{EndsSo, IsFirstReport, MeansPage};
-ghost use Rattle.fax_loop.specs.Kept.{IsAnswerText, ending_of_answer, rows_of};
+ghost use Rattle.fax_loop.specs.Answers.{EndsSo, IsInput, Sends, rows_of};
+ghost use Rattle.fax_loop.specs.Kept.{IsAnswerText, ending_of_answer};
 
 use crate::ending::Ending;
 use crate::exchange::{Ended, send_page};
@@ -116,7 +116,7 @@ fn answer_to_page<R: Net>(
     settings: Settings,
 ) -> io::Result<Answer>
     requires { AreAllowed settings }
-    ensures { IfOk result (λ answer. (input text : List ℕ) → MeansPage input → IsAnswerText answer text → EndsSo settings input (ending_of_answer answer) text) }
+    ensures { IfOk result (λ answer. (input text : List ℕ) → IsInput page input → IsAnswerText answer text → EndsSo settings input (ending_of_answer answer) text) }
 {
     match send_page(net, alloc, page, settings) {
         Ok(ended) => Ok(answer_of(alloc, ended)),
@@ -127,7 +127,7 @@ fn answer_to_page<R: Net>(
 
 /// The answer where a call ended so.
 fn answer_of(alloc: Global, ended: Ended) -> Answer
-    ensures { (set : GatewaySettings) (input text : List ℕ) → IsFirstReport set ended.report → MeansPage input → IsAnswerText result text → EndsSo set input (ending_of_answer result) text }
+    ensures { (set : GatewaySettings) (input text : List ℕ) → Sends set input ended.report ended.confirmed.items → IsAnswerText result text → EndsSo set input (ending_of_answer result) text }
 {
     let Some(report) = ended.report else {
         return Answer::Unreported;

@@ -1,17 +1,25 @@
 //! The machine that calls.
-ghost use Rattle.std.specs.Prelude.{IfOk};
+ghost use Rattle.std.specs.Prelude.{◌≡◌, [], Some, IfOk, OnOk};
+ghost use Rattle.fax_jobs.specs.Jobs.{JobValue};
 ghost use Rattle.fax_call.specs.Following.{IsJobOfCall};
-ghost use Rattle.fax_gateway.specs.Setups.{AreAllowed};
+ghost use Rattle.fax_call.specs.Writings.{IsWriting, Writing};
+ghost use Rattle.fax_gateway.specs.CalledLegs.{CalledLeg, hears};
+ghost use Rattle.fax_gateway.specs.Reached.{IsCalled};
+ghost use Rattle.fax_gateway.specs.Setups.{AreAllowed, HasSettings, Setup};
+ghost use Rattle.fax_gateway.specs.Wires.{Grows};
+ghost use Rattle.fax_gateway.specs.Driving.{most_datagrams};
+ghost use Rattle.fax_loop.specs.Kept.{CallerHears, CallerTurns, caller_of};
+ghost use Rattle.fax_loop.specs.Machines.{begins};
 
+use crate::end::{End, hand_over};
 use crate::exchange::{MOST_DATAGRAMS, MOST_OCTETS};
 use crate::link::Link;
 use fax_bits::NoMemory;
-use fax_call::Caller;
+use fax_call::{Caller, State};
 use fax_gateway::Settings;
 use fax_jobs::Job;
 use fax_pagestore::RowStore;
 use std::alloc::Global;
-use std::net::UdpSocket;
 
 /// A machine that calls the gateway, and sends the pages of a job.
 #[derive(Drop)]
@@ -24,14 +32,15 @@ impl CallingMachine {
     /// A machine whose call begins at moment 0, with these settings.
     pub fn new<S: RowStore>(
         alloc: Global,
-        socket: UdpSocket,
         job: &Job<S>,
         settings: Settings,
     ) -> Result<Self, NoMemory>
         requires { AreAllowed settings }
-        ensures { IfOk result (λ machine. IsJobOfCall machine.caller.procedure job.now) }
+        ensures job { IfOk result (λ machine. IsJobOfCall machine.caller.procedure job.now) }
+        ensures begun { IfOk result (λ machine. (setup : Setup) (writes : Writing) → HasSettings setup settings
+            → IsCalled setup writes (Some (begins setup writes job.now)) (caller_of machine)) }
     {
-        let link = Link::new(alloc, socket, settings.redundancy)?;
+        let link = Link::new(alloc, settings.redundancy)?;
         let mut caller = Caller::new(alloc, settings.preamble_ms);
         // what it ensures of the job is that it has a page
         let _ = job.pages();
@@ -39,32 +48,54 @@ impl CallingMachine {
         Ok(CallingMachine { caller, link })
     }
 
-    /// It hears what has come, time goes on, and it sends what it has to.
-    pub fn round<S: RowStore>(&mut self, job: &Job<S>, now: u64) -> Result<(), NoMemory>
+    /// Its turn: it hears what has come over its end, time goes on, and it sends what it has to. The job is the one of the call.
+    pub fn round<S: RowStore, E: End>(
+        &mut self,
+        end: &mut E,
+        job: &Job<S>,
+        now: u64,
+    ) -> Result<(), NoMemory>
         requires { IsJobOfCall self.old.caller.procedure job.now }
-        ensures { IsJobOfCall self.new.caller.procedure job.now }
+        ensures job { OnOk result (IsJobOfCall self.new.caller.procedure job.now) }
+        ensures turned { OnOk result ((setup : Setup) (writes : Writing) (l : CalledLeg) → IsWriting writes → l.job ≡ job.now
+            → IsCalled setup writes (Some l) (caller_of self.old) → CallerTurns setup writes l now (E.told end.old) (E.told end.new) (caller_of self.new)) }
     {
-        self.hear(job, now)?;
-        match self.caller.tick(job, now)? {
-            Some(packet) => self.link.send(packet.as_slice()),
-            None => Ok(()),
-        }
+        self.hear(end, now)?;
+        let packet = self.caller.tick(job, now)?;
+        let datagram = self.link.datagram(packet)?;
+        hand_over(end, datagram);
+        Ok(())
     }
 
     /// It hears what has come.
-    fn hear<S: RowStore>(&mut self, job: &Job<S>, now: u64) -> Result<(), NoMemory>
-        requires { IsJobOfCall self.old.caller.procedure job.now }
-        ensures { IsJobOfCall self.new.caller.procedure job.now }
+    fn hear<E: End>(&mut self, end: &mut E, now: u64) -> Result<(), NoMemory>
+        ensures job { (job : JobValue) → IsJobOfCall self.old.caller.procedure job → IsJobOfCall self.new.caller.procedure job }
+        ensures sent { Grows [] (E.told end.old).sent (E.told end.new).sent }
+        ensures heard { OnOk result ((setup : Setup) (writes : Writing) (l : CalledLeg) → IsCalled setup writes (Some l) (caller_of self.old)
+            → CallerHears setup writes l now most_datagrams (E.told end.old) (E.told end.new) (caller_of self.new)) }
     {
         let mut buffer = [0; MOST_OCTETS];
-        for _ in 0..MOST_DATAGRAMS {
-            let Some(count) = self.link.receive(buffer.as_mut_slice()) else {
-                return Ok(());
-            };
-            if let Some(decided) = self.link.read(&buffer[..count]) {
-                self.caller.slots(&decided, now)?;
+        for _i in 0..MOST_DATAGRAMS {
+            match end.receive(buffer.as_mut_slice()) {
+                None => return Ok(()),
+                Some(count) => self.hear_one(&buffer[..count], now)?,
             }
         }
         Ok(())
+    }
+
+    /// It hears a datagram.
+    fn hear_one(&mut self, octets: &[u8], now: u64) -> Result<(), NoMemory>
+        ensures job { (job : JobValue) → IsJobOfCall self.old.caller.procedure job → IsJobOfCall self.new.caller.procedure job }
+        ensures heard { OnOk result ((setup : Setup) (writes : Writing) (l : CalledLeg) → IsCalled setup writes (Some l) (caller_of self.old)
+            → IsCalled setup writes (Some (hears writes octets.now now l)) (caller_of self.new)) }
+    {
+        if self.caller.state() == State::Idle {
+            return Ok(());
+        }
+        match self.link.receiver.take(octets) {
+            Ok(decided) => self.caller.slots(&decided, now),
+            Err(_) => Ok(()),
+        }
     }
 }

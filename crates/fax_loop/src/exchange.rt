@@ -1,23 +1,28 @@
 //! A call from machine to machine, through a gateway.
-ghost use Rattle.std.specs.Prelude.{List, IfOk, OnOk};
+ghost use Rattle.std.specs.Prelude.{◌≡◌, ◌↔◌, ◌<◌, ℕ, Bool, true, IsTrue, List, [], ◌∷◌, length, None, IfOk, OnOk};
+ghost use Rattle.fax_jobs.specs.Books.{job_of};
+ghost use Rattle.fax_jobs.specs.Jobs.{JobValue};
 ghost use Rattle.fax_call.specs.Following.{IsJobOfCall};
-ghost use Rattle.fax_call.specs.Writings.{Writing};
-ghost use Rattle.fax_gateway.specs.declared.settings.Settings.{Settings as GatewaySettings};
-ghost use Rattle.fax_gateway.specs.Setups.{AreAllowed, AreSet, Setup};
-ghost use Rattle.fax_gateway.specs.Events.{Event};
+ghost use Rattle.fax_call.specs.Writings.{IsWriting, Writing};
+ghost use Rattle.fax_gateway.specs.Setups.{AreAllowed, AreSet, HasSettings, Setup};
+ghost use Rattle.fax_gateway.specs.Driving.{failed_in_a_row, most_failed, receipts};
+ghost use Rattle.fax_gateway.specs.Events.{Ring};
 ghost use Rattle.fax_gateway.specs.Reached.{IsReachedBy};
-ghost use Rattle.fax_loop.specs.Answers.{IsFirstReport};
-ghost use Rattle.fax_loop.specs.Kept.{IsDriven};
+ghost use Rattle.fax_loop.specs.Answers.{IsSent};
+ghost use Rattle.fax_loop.specs.Exchanges.{IsExchange, IsPlayed, Lines as LinesShown, Round, log_behind, moment_behind, most_rounds, reported};
+ghost use Rattle.fax_loop.specs.Kept.{HasEnded, HasGone, HasPlayed};
 
 use crate::answering_machine::AnsweringMachine;
 use crate::calling_machine::CallingMachine;
+use crate::end::{End, UdpEnd};
 use crate::loop_error::LoopError;
 use crate::socket::socket_pair;
 use crate::udp_wire::UdpWire;
-use fax_gateway::{Driver, Gateway, Settings};
+use fax_gateway::{Driver, Gateway, Settings, Wire};
 use fax_jobs::{Job, Report};
 use fax_pagestore::{PackedRows, Page};
 use std::alloc::Global;
+use std::io;
 use std::net::Net;
 
 /// The most rounds of a call.
@@ -39,17 +44,24 @@ pub(crate) struct Ended {
     pub confirmed: Vec<Page<PackedRows>>,
 }
 
-/// The machine that calls, the gateway, and the machine that is called, between sockets of the loopback interface.
+/// What an exchange goes over: the end of the machine that calls, the gateway's wire, and the end of the machine that is called.
 #[derive(Drop)]
-struct Exchange {
+pub(crate) struct Lines<E: End + Drop, W: Wire + Drop> {
+    pub caller: E,
+    pub wire: W,
+    pub answerer: E,
+}
+
+/// The machine that calls, the gateway with what drives it, and the machine that is called.
+#[derive(Drop)]
+struct Parties {
     caller: CallingMachine,
     gateway: Gateway<PackedRows>,
     driver: Driver,
-    wire: UdpWire,
     answerer: AnsweringMachine<PackedRows>,
 }
 
-/// Sends a page from machine to machine, in rounds, until the gateway reports the job. All three have these settings.
+/// Sends a page from machine to machine over sockets of the loopback interface. All three have these settings.
 pub(crate) fn send_page<R: Net>(
     net: &R,
     alloc: Global,
@@ -57,84 +69,142 @@ pub(crate) fn send_page<R: Net>(
     settings: Settings,
 ) -> Result<Ended, LoopError>
     requires { AreAllowed settings }
-    ensures { IfOk result (λ ended. IsFirstReport settings ended.report) }
+    ensures { IfOk result (λ ended. IsSent settings page ended.report ended.confirmed.items) }
+{
+    let mut lines = open_lines(net)?;
+    let ended = exchange(alloc, &mut lines, page, settings)?;
+    Ok(ended)
+}
+
+/// Lines of sockets of the loopback interface.
+fn open_lines<R: Net>(net: &R) -> io::Result<Lines<UdpEnd, UdpWire>> {
+    let (caller, calling) = socket_pair(net)?;
+    let (answerer, called) = socket_pair(net)?;
+    Ok(Lines {
+        caller: UdpEnd { socket: caller },
+        wire: UdpWire::new(calling, called)?,
+        answerer: UdpEnd { socket: answerer },
+    })
+}
+
+/// Sends a page from machine to machine over these lines, in rounds, until the gateway reports the job. All three have these
+/// settings.
+pub(crate) fn exchange<E: End + Drop, W: Wire + Drop>(
+    alloc: Global,
+    lines: &mut Lines<E, W>,
+    page: Page<PackedRows>,
+    settings: Settings,
+) -> Result<Ended, LoopError>
+    requires { AreAllowed settings }
+    ensures { IfOk result (λ ended. IsExchange settings (job_of 0 page)
+        (record { caller = E.told lines.old.caller; wire = W.known lines.old.wire; answerer = E.told lines.old.answerer })
+        (record { caller = E.told lines.new.caller; wire = W.known lines.new.wire; answerer = E.told lines.new.answerer })
+        ended.report ended.confirmed.items) }
 {
     let Ok(job) = Job::of_page(alloc, 0, page) else {
         return Err(LoopError::NoMemory);
     };
-    let mut exchange = Exchange::new(net, alloc, &job, settings)?;
-    exchange.play(&job)?;
-    Ok(exchange.end())
+    let parties = Parties::new(alloc, &job, settings)?;
+    let ended = parties.run(lines, &job)?;
+    Ok(ended)
 }
 
-/// A gateway with these settings that rings at moment 0.
+/// A gateway with these settings that was rung at moment 0.
 fn rung_gateway(alloc: Global, settings: Settings) -> Result<Gateway<PackedRows>, LoopError>
     requires { AreAllowed settings }
-    ensures { IfOk result (λ gateway. (setup : Setup) (writes : Writing) → AreSet setup settings → (trace : List Event) × IsReachedBy setup writes trace gateway) }
+    ensures { IfOk result (λ gateway. (setup : Setup) (writes : Writing) → AreSet setup settings → IsReachedBy setup writes (Ring 0 0 ∷ []) gateway) }
 {
     let mut gateway = Gateway::with_settings(alloc, settings)?;
     gateway.ring(0)?;
     Ok(gateway)
 }
 
-impl Exchange {
-    /// The machines and the gateway, which rings at moment 0.
-    fn new<R: Net>(
-        net: &R,
-        alloc: Global,
-        job: &Job<PackedRows>,
-        settings: Settings,
-    ) -> Result<Self, LoopError>
+impl Parties {
+    /// The machines and the gateway, which was rung at moment 0.
+    fn new(alloc: Global, job: &Job<PackedRows>, settings: Settings) -> Result<Self, LoopError>
         requires { AreAllowed settings }
-        ensures job { IfOk result (λ exchange. IsJobOfCall exchange.caller.caller.procedure job.now) }
-        ensures driven { IfOk result (λ exchange. IsDriven settings exchange.gateway exchange.driver) }
+        ensures job { IfOk result (λ parties. IsJobOfCall parties.caller.caller.procedure job.now) }
+        ensures begun { IfOk result (λ parties. (setup : Setup) (writes : Writing) (lines : LinesShown) → AreSet setup settings
+            → HasPlayed setup writes job.now [] lines lines parties) }
     {
-        let (caller, calling) = socket_pair(net)?;
-        let (called, answerer) = socket_pair(net)?;
-        let wire = UdpWire::new(calling, called)?;
-        let caller = CallingMachine::new(alloc, caller, job, settings)?;
-        let answerer = AnsweringMachine::new(alloc, answerer, settings)?;
+        let caller = CallingMachine::new(alloc, job, settings)?;
+        let answerer = AnsweringMachine::new(alloc, settings)?;
         let driver = Driver::new(alloc)?;
         let gateway = rung_gateway(alloc, settings)?;
-        Ok(Exchange {
+        Ok(Parties {
             caller,
             gateway,
             driver,
-            wire,
             answerer,
         })
     }
 
-    /// Plays rounds until the gateway has reported the job, its last 100 receives failed, or there were enough.
-    fn play(&mut self, job: &Job<PackedRows>) -> Result<(), LoopError>
-        requires { IsJobOfCall self.old.caller.caller.procedure job.now }
-        ensures { OnOk result ((set : GatewaySettings) → IsDriven set self.old.gateway self.old.driver → IsDriven set self.new.gateway self.new.driver) }
+    /// Plays it to its end, and tells how it ended.
+    fn run<E: End + Drop, W: Wire + Drop>(
+        mut self,
+        lines: &mut Lines<E, W>,
+        job: &Job<PackedRows>,
+    ) -> Result<Ended, LoopError>
+        requires { IsJobOfCall self.caller.caller.procedure job.now }
+        ensures { IfOk result (λ ended. (setup : Setup) (writes : Writing) (before : LinesShown) → IsWriting writes
+            → HasPlayed setup writes job.now [] before (record { caller = E.told lines.old.caller; wire = W.known lines.old.wire; answerer = E.told lines.old.answerer }) self
+            → IsPlayed setup writes job.now before (record { caller = E.told lines.new.caller; wire = W.known lines.new.wire; answerer = E.told lines.new.answerer })
+            ended.report ended.confirmed.items) }
     {
+        self.play(lines, job)?;
+        Ok(self.end())
+    }
+
+    /// Plays rounds until the gateway has reported the job, its last 100 receives failed, or there were enough.
+    fn play<E: End + Drop, W: Wire + Drop>(
+        &mut self,
+        lines: &mut Lines<E, W>,
+        job: &Job<PackedRows>,
+    ) -> Result<(), LoopError>
+        requires { IsJobOfCall self.old.caller.caller.procedure job.now }
+        ensures { OnOk result ((setup : Setup) (writes : Writing) (before : LinesShown) → IsWriting writes
+            → HasPlayed setup writes job.now [] before (record { caller = E.told lines.old.caller; wire = W.known lines.old.wire; answerer = E.told lines.old.answerer }) self.old
+            → HasEnded setup writes job.now before (record { caller = E.told lines.new.caller; wire = W.known lines.new.wire; answerer = E.told lines.new.answerer }) self.new) }
+    {
+        let mut goes_on = true;
         for round in 0..MOST_ROUNDS {
-            let goes_on = self.round(job, ROUND_MS * u64::from(round))?;
-            if !goes_on || self.gateway.report(0).is_some() {
-                break;
+            if !goes_on {
+                return Ok(());
             }
+            if self.gateway.report(0).is_some() {
+                return Ok(());
+            }
+            goes_on = self.round(lines, job, ROUND_MS * u64::from(round))?;
         }
         Ok(())
     }
 
-    /// A round: the machine that calls, the gateway's turn, and the machine that is called. It answers whether the gateway's
-    /// last 100 receives did not all fail.
-    fn round(&mut self, job: &Job<PackedRows>, now: u64) -> Result<bool, LoopError>
+    /// A round: the turn of the machine that calls, the gateway's, and that of the machine that is called. It answers whether the
+    /// gateway's last 100 receives did not all fail.
+    fn round<E: End + Drop, W: Wire + Drop>(
+        &mut self,
+        lines: &mut Lines<E, W>,
+        job: &Job<PackedRows>,
+        now: u64,
+    ) -> Result<bool, LoopError>
         requires { IsJobOfCall self.old.caller.caller.procedure job.now }
         ensures job { OnOk result (IsJobOfCall self.new.caller.caller.procedure job.now) }
-        ensures driven { OnOk result ((set : GatewaySettings) → IsDriven set self.old.gateway self.old.driver → IsDriven set self.new.gateway self.new.driver) }
+        ensures played { IfOk result (λ goes_on. (setup : Setup) (writes : Writing) (rounds : List Round) (before : LinesShown) → IsWriting writes → now ≡ moment_behind rounds
+            → length rounds < most_rounds → reported setup writes rounds ≡ None → failed_in_a_row (receipts (log_behind rounds)) < most_failed
+            → HasPlayed setup writes job.now rounds before (record { caller = E.told lines.old.caller; wire = W.known lines.old.wire; answerer = E.told lines.old.answerer }) self.old
+            → (round : Round) × (IsTrue goes_on ↔ (failed_in_a_row (receipts (log_behind (round ∷ rounds))) < most_failed))
+            × HasPlayed setup writes job.now (round ∷ rounds) before (record { caller = E.told lines.new.caller; wire = W.known lines.new.wire; answerer = E.told lines.new.answerer }) self.new) }
     {
-        self.caller.round(job, now)?;
-        let turned = self.driver.turn(&mut self.gateway, &mut self.wire, now);
-        self.answerer.round(now)?;
+        self.caller.round(&mut lines.caller, job, now)?;
+        let turned = self.driver.turn(&mut self.gateway, &mut lines.wire, now);
+        self.answerer.round(&mut lines.answerer, now)?;
         Ok(turned.goes_on)
     }
 
     /// How it ended.
     fn end(self) -> Ended
-        ensures { (set : GatewaySettings) → IsDriven set self.gateway self.driver → IsFirstReport set result.report }
+        ensures { (setup : Setup) (writes : Writing) (job : JobValue) (before after : LinesShown) → HasEnded setup writes job before after self
+            → IsPlayed setup writes job before after result.report result.confirmed.items }
     {
         Ended {
             report: self.gateway.report(0),

@@ -5,6 +5,7 @@
 mod answer;
 mod answering_machine;
 mod calling_machine;
+mod end;
 mod ending;
 mod exchange;
 mod link;

@@ -1,6 +1,7 @@
 //! A wire of a gateway over UDP.
 ghost use Rattle.std.specs.Prelude.{◌≡◌, ◌+◌, min, IfOk};
 ghost use Rattle.fax_gateway.specs.Wires.{greatest_count};
+ghost use Rattle.fax_loop.specs.Ends.{at_side};
 
 use crate::socket::receive;
 use fax_gateway::{Side, Wire, WireFault};
@@ -21,7 +22,8 @@ impl UdpWire {
     /// A wire over the socket of the calling and that of the called leg, each of which is connected to its peer. They wait
     /// no more. An `Err` is that of the system.
     pub fn new(calling: UdpSocket, called: UdpSocket) -> io::Result<Self>
-        ensures { IfOk result (λ wire. wire.failures ≡ 0) }
+        ensures failures { IfOk result (λ wire. wire.failures ≡ 0) }
+        ensures sockets { IfOk result (λ wire. (wire.calling ≡ calling) × (wire.called ≡ called)) }
     {
         calling.set_nonblocking(true)?;
         called.set_nonblocking(true)?;
@@ -33,7 +35,9 @@ impl UdpWire {
     }
 
     /// The socket of a leg.
-    fn socket(&self, side: Side) -> &UdpSocket {
+    fn socket(&self, side: Side) -> &UdpSocket
+        ensures { result.now ≡ at_side side self.now.calling self.now.called }
+    {
         match side {
             Side::Calling => &self.calling,
             Side::Called => &self.called,

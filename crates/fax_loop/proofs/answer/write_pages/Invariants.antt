@@ -1,7 +1,7 @@
 use Rattle.std.proofs.Common.{◌≡◌, ℕ, List, take}
 use Rattle.std.specs.Io.KnownBytes.{Appends}
 use Rattle.fax_command.specs.RowLines.{TellRows, text_of_lines}
-use Rattle.fax_loop.specs.Kept.{rows_of}
+use Rattle.fax_loop.specs.Answers.{rows_of}
 use Rattle.fax_loop.proofs.answer.write_pages.Given as goal
 
 -- the lines of the rows of the pages so far were written

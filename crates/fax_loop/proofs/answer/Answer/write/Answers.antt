@@ -1,7 +1,7 @@
 use Rattle.std.proofs.Common.{◌++◌, ◌∷◌, [], ap, subst}
 use Rattle.std.proofs.KnownBytes.{Appends-trans, Appends-kept}
 use Rattle.fax_command.specs.RowLines.{TellRows, text_of_lines}
-use Rattle.fax_loop.specs.Kept.{rows_of}
+use Rattle.fax_loop.specs.Answers.{rows_of}
 use Rattle.fax_loop.proofs.answer.Answer.write.Goals as goal
 
 pub returns-in_ok-flush-in-Reported-clause-text : goal.returns-in_ok-flush-in-Reported-clause-text

@@ -1,0 +1,114 @@
+-- The machine that calls, step by step.
+use Rattle.std.proofs.Common.{◌≡◌, ℕ, ◌+◌, ◌≤◌, Bool, true, false, List, [], ◌∷◌, ◌++◌, Option, Some, None, Result, Ok, Err, OnOk, refl, sym, ◌∙◌, ap, arith, append-nil, if◌then◌else◌}
+use Rattle.fax_udptl.specs.declared.fault.UdptlFault.{UdptlFault}
+use Rattle.fax_udptl.specs.Datagrams.{DatagramValue, datagram_of}
+use Rattle.fax_ifp.specs.Elements.{Slot}
+use Rattle.fax_jobs.specs.Jobs.{JobValue}
+use Rattle.fax_call.specs.Writings.{Writing}
+use Rattle.fax_call.specs.Replies.{Packet}
+use Rattle.fax_call.specs.Calls.{Calling, ticked}
+use Rattle.fax_call.specs.Delivery.{is_over}
+use Rattle.fax_call.specs.Reached as call
+use Rattle.fax_gateway.specs.declared.called.CalledSide.{CalledSide}
+use Rattle.fax_gateway.specs.Setups.{Setup}
+use Rattle.fax_gateway.specs.CalledLegs.{CalledLeg, calls, core_of, hears, leg_with, packets_given, told_by}
+use Rattle.fax_gateway.specs.Driving.{most_datagrams}
+use Rattle.fax_gateway.specs.Reached.{IsCalled}
+use Rattle.fax_gateway.specs.Wires.{Grows}
+use Rattle.fax_gateway.proofs.DrivingLemmas.{grows_as, grows_more, grows_none}
+use Rattle.fax_loop.proofs.LegsTick.{Gives, side_ticks_on}
+use Rattle.fax_loop.specs.Ends.{Told, handed}
+use Rattle.fax_loop.specs.Machines.{calling_turned, calling_with, datagrams_of}
+use Rattle.fax_loop.specs.Exchanges.{Round, caller_behind, moment_behind}
+use Rattle.fax_loop.specs.Kept.{CallerHears, CallerTurns}
+
+-- a datagram, by whether the call is over
+abbrev hears_by : Bool → CalledLeg → ℕ → Result DatagramValue UdptlFault → CalledLeg
+hears_by b l now r = if b then l else leg_with r now l
+
+hears-job : (b : Bool) (l : CalledLeg) (now : ℕ) (r : Result DatagramValue UdptlFault) → (hears_by b l now r).job ≡ l.job
+hears-job true l now r = refl
+hears-job false l now (Ok d) = refl
+hears-job false l now (Err e) = refl
+
+hears-given : (b : Bool) (l : CalledLeg) (now : ℕ) (r : Result DatagramValue UdptlFault) → (hears_by b l now r).given ≡ l.given
+hears-given true l now r = refl
+hears-given false l now (Ok d) = refl
+hears-given false l now (Err e) = refl
+
+calling_with-job : (writes : Writing) (now : ℕ) (came : List (List ℕ)) (l : CalledLeg) → (calling_with writes now came l).job ≡ l.job
+calling_with-job writes now [] l = refl
+calling_with-job writes now (octets ∷ came) l =
+    hears-job (is_over (core_of writes (calling_with writes now came l)).state) (calling_with writes now came l) now (datagram_of octets) ∙ calling_with-job writes now came l
+
+calling_with-given : (writes : Writing) (now : ℕ) (came : List (List ℕ)) (l : CalledLeg) → (calling_with writes now came l).given ≡ l.given
+calling_with-given writes now [] l = refl
+calling_with-given writes now (octets ∷ came) l =
+    hears-given (is_over (core_of writes (calling_with writes now came l)).state) (calling_with writes now came l) now (datagram_of octets) ∙ calling_with-given writes now came l
+
+-- the job is that of the call
+pub caller_behind-job : (setup : Setup) (writes : Writing) (job : JobValue) (rounds : List Round) → (caller_behind setup writes job rounds).job ≡ job
+caller_behind-job setup writes job [] = refl
+caller_behind-job setup writes job (round ∷ rounds) = calling_with-job writes (moment_behind rounds) round.calling (caller_behind setup writes job rounds) ∙ caller_behind-job setup writes job rounds
+
+-- nothing came yet
+pub caller_hears_none : (setup : Setup) (writes : Writing) (l : CalledLeg) (now : ℕ) (told : Told) (side : CalledSide) → IsCalled setup writes (Some l) side
+    → CallerHears setup writes l now 0 told told side
+caller_hears_none setup writes l now told side r = record { came = []; few = omega arith; received = grows_none told.received; called = r }
+
+-- one datagram more
+pub caller_hears_more : (setup : Setup) (writes : Writing) (l : CalledLeg) (now most : ℕ) (octets : List ℕ) (a b c : Told) (old new : CalledSide) → Grows (octets ∷ []) b.received c.received
+    → ((k : CalledLeg) → IsCalled setup writes (Some k) old → IsCalled setup writes (Some (hears writes octets now k)) new)
+    → CallerHears setup writes l now most a b old → CallerHears setup writes l now (most + 1) a c new
+caller_hears_more setup writes l now most octets a b c old new grew heard h = record {
+  came = octets ∷ h.came;
+  few = let few = h.few in omega arith;
+  received = grows_more h.came (octets ∷ []) a.received b.received c.received h.received grew;
+  called = heard (calling_with writes now h.came l) h.called;
+}
+
+-- and then none
+pub caller_hears_all : (setup : Setup) (writes : Writing) (l : CalledLeg) (now some most : ℕ) (a b c : Told) (side : CalledSide) → some ≤ most → Grows [] b.received c.received
+    → CallerHears setup writes l now some a b side → CallerHears setup writes l now most a c side
+caller_hears_all setup writes l now some most a b c side low grew h = record {
+  came = h.came;
+  few = let few = h.few in omega arith;
+  received = grows_more h.came [] a.received b.received c.received h.received grew;
+  called = h.called;
+}
+
+-- a turn: then a tick, and what it gives is handed over
+pub caller_turns : (setup : Setup) (writes : Writing) (l : CalledLeg) (now : ℕ) (job : JobValue) (a b c : Told) (old new : CalledSide) (packet datagram : Option (List ℕ)) → l.job ≡ job
+    → ((heard : List Slot) (core : Calling) → call.IsReached writes job heard core old.caller → call.IsReached writes job heard (ticked writes job core now).core new.caller × call.IsGiven (ticked writes job core now) packet)
+    → Gives setup packet old.leg new.leg datagram → Grows [] a.sent b.sent → Grows [] b.received c.received → Grows (handed datagram) b.sent c.sent
+    → CallerHears setup writes l now most_datagrams a b old → CallerTurns setup writes l now a c new
+caller_turns setup writes l now job a b c old new packet datagram same ticks gives quiet still grew h =
+    let k : CalledLeg = calling_with writes now h.came l in
+    let t = side_ticks_on setup writes k now job old new packet datagram (calling_with-job writes now h.came l ∙ same) ticks gives h.called in
+    record {
+      came = h.came;
+      few = h.few;
+      received = grows_more h.came [] a.received b.received c.received h.received still;
+      sent =
+          grows_as (handed datagram) _ a.sent c.sent (ap handed t.told)
+          (grows_as (handed datagram ++ []) (handed datagram) a.sent c.sent (append-nil (handed datagram)) (grows_more [] (handed datagram) a.sent b.sent c.sent quiet grew));
+      called = t.called;
+    }
+
+-- what was sent in a turn, in front of what was before
+datagrams_of-given : (setup : Setup) (o : Option Packet) (given : List (List ℕ)) → datagrams_of setup (packets_given o given) ≡ handed (told_by setup given o) ++ datagrams_of setup given
+datagrams_of-given setup None given = refl
+datagrams_of-given setup (Some packet) given = refl
+
+pub caller_sends : (setup : Setup) (writes : Writing) (now : ℕ) (came : List (List ℕ)) (l : CalledLeg) (a b c : Told) → Grows (datagrams_of setup l.given) a.sent b.sent
+    → Grows (handed (told_by setup (calling_with writes now came l).given (calls writes (calling_with writes now came l) now).given)) b.sent c.sent
+    → Grows (datagrams_of setup (calling_turned writes now came l).given) a.sent c.sent
+caller_sends setup writes now came l a b c first second =
+    let k : CalledLeg = calling_with writes now came l in
+    let before = grows_as (datagrams_of setup l.given) (datagrams_of setup k.given) a.sent b.sent (ap (datagrams_of setup) (sym (calling_with-given writes now came l))) first in
+    grows_as _ _ a.sent c.sent (sym (datagrams_of-given setup (calls writes k now).given k.given)) (grows_more (datagrams_of setup k.given) (handed (told_by setup k.given (calls writes k now).given)) a.sent b.sent c.sent before second)
+
+-- what an `Ok` says
+pub on_ok : {T E : Type 0} {P Q : Type 0} (r : Result T E) → OnOk r P → (P → Q) → OnOk r Q
+on_ok (Ok x) p f = f p
+on_ok (Err e) p f = p

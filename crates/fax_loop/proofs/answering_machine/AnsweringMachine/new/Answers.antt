@@ -1,0 +1,17 @@
+use Rattle.std.proofs.Common.{ℕ, [], reverse, refl, ap, subst}
+use Rattle.fax_udptl.specs.Slots.{slots, newest_slots}
+use Rattle.fax_answer.specs.Calls.{new_answering}
+use Rattle.fax_answer.specs.Reached.{IsReached}
+use Rattle.fax_loop.proofs.answering_machine.AnsweringMachine.new.Goals as goal
+
+pub returns : goal.returns
+unfolding newest_slots slots
+returns g c = λ setup set. record {
+  calling = record {
+    number = tt;
+    core = subst (λ (pause : ℕ). IsReached (newest_slots []) (new_answering pause) c.new-2.result) set.pause c.new-2.ensures;
+    on_leg = c.in_ok-link.ensures setup set.redundancy;
+  };
+  rung = refl;
+  pages_are = ap reverse c.new-3.ensures.items;
+}

@@ -1,0 +1,12 @@
+use Rattle.fax_loop.proofs.ExchangeLemmas.{carried_none}
+use Rattle.fax_loop.proofs.exchange.Parties.new.Goals as goal
+
+pub returns-clause-begun : goal.returns-clause-begun
+returns-clause-begun c = λ setup writes lines set. record {
+  are_rounds = tt;
+  gateway = c.in_ok-gateway.ensures setup writes set;
+  driver = c.in_ok-driver.ensures;
+  caller = c.in_ok-caller.ensures.begun setup writes set.set;
+  answerer = c.in_ok-answerer.ensures setup set.set;
+  carried = carried_none setup writes c.args.job.now lines;
+}
