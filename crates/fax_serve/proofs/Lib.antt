@@ -1,2 +1,4 @@
 mod Goodbyes
+mod Naming
 mod Records
+mod Waits

@@ -1,6 +1,8 @@
 //! The pages of a server that are kept on a disk.
 ghost use Rattle.std.specs.Prelude.{◌≡◌, List, [], ◌∷◌, ◌++◌, OnOk};
+ghost use Rattle.fax_spool.specs.RecordOctets.{PageValue as SpoolPage};
 ghost use Rattle.fax_line.specs.declared.settling.PageToKeep.{PageToKeep as ToKeep};
+ghost use Rattle.fax_serve.specs.Jobs.{EndsJob, EndsJobAt, PagesWait};
 ghost use Rattle.fax_serve.specs.Keeping.{KeepsPages};
 
 use crate::shelf::{Shelf, Waiting};
@@ -8,6 +10,7 @@ use fax_hold::{KeepFault, Keeper};
 use fax_jobs::Report;
 use fax_keep::KeptFile;
 use fax_line::PageToKeep;
+use fax_spool::laws::files_share_what_waits;
 use fax_spool::{EndedRecord, PageRecord, Spool};
 use sqlite_disk::Disk;
 use std::alloc::Global;
@@ -146,45 +149,94 @@ impl Keeping {
         }
     }
 
-    /// The job of line i that was first in turn ended: its pages wait no more. Where that cannot be noted, they are restored at the
-    /// next start, and sent again.
-    pub(crate) fn end(&mut self, i: usize, report: Report) {
-        let Some(shelf) = self.shelves.get_mut(i) else {
-            return;
-        };
-        let Some(ended) = shelf.end(report.pages) else {
-            return;
-        };
-        let line = shelf.line().as_bytes();
-        if ended.kept == 0 || line.len() > 255 {
-            return;
+    /// The job of line i that was first in turn ended: its pages wait no more. An `Err`: that was not noted, since none of them is on
+    /// the disk, or it could not be, so that they are restored at the next start, and sent again; or the disk failed behind it, and
+    /// the spool refuses the pages from then on.
+    pub(crate) fn end(&mut self, i: usize, report: Report) -> Result<(), KeepFault>
+        ensures { OnOk result (EndsJobAt ⟦<KeptFile as Disk>⟧.seen ⟦<KeptFile as Disk>⟧.may_leave ⟦<KeptFile as Disk>⟧.is_usable report.pages i self.old.shelves.items self.new.shelves.items self.old.spool self.new.spool) }
+    {
+        if i >= self.shelves.len() {
+            return Err(KeepFault);
         }
-        let record = EndedRecord {
-            life: ended.life,
-            call: ended.call,
-            first: ended.first,
-            pages: ended.last.saturating_sub(ended.first).saturating_add(1),
-            delivered: report.delivered,
-            format: report.format,
-            outcome: report.outcome,
-            line,
-        };
-        if self.spool.end(self.alloc, &record).is_ok() {
-            self.kept = self.kept.saturating_sub(ended.kept);
-            self.change_files();
-        }
+        let kept = put_end(self.alloc, &mut self.spool, &mut self.shelves[i], report)?;
+        self.kept = self.kept.saturating_sub(kept);
+        self.octets = change_files(self.alloc, &mut self.spool, self.octets)?;
+        Ok(())
     }
+}
 
-    /// The older file is cleared where nothing in it waits; and where much was put into the newer one, the other is taken into
-    /// use. A spool whose disk fails refuses the pages from then on.
-    fn change_files(&mut self) {
-        if self.spool.clear().is_err() || self.octets < MOST_OCTETS {
-            return;
-        }
-        if let Ok(true) = self.spool.change(self.alloc) {
-            self.octets = 0;
-        }
+/// The job of so many pages that is first in turn on a shelf ended: puts its record into a spool. It answers how many of its pages
+/// were on the disk; where none was, there is no record, and an `Err`.
+fn put_end(
+    alloc: Global,
+    spool: &mut Spool<KeptFile>,
+    shelf: &mut Shelf,
+    report: Report,
+) -> Result<u64, KeepFault>
+    ensures { OnOk result (EndsJob ⟦<KeptFile as Disk>⟧.seen ⟦<KeptFile as Disk>⟧.may_leave ⟦<KeptFile as Disk>⟧.is_usable report.pages shelf.old shelf.new spool.old spool.new) }
+{
+    let Some(ended) = shelf.end(report.pages) else {
+        return Err(KeepFault);
+    };
+    let line = shelf.line().as_bytes();
+    if ended.kept == 0 || line.len() > 255 {
+        return Err(KeepFault);
     }
+    let record = EndedRecord {
+        life: ended.life,
+        call: ended.call,
+        first: ended.first,
+        pages: ended.pages,
+        delivered: report.delivered,
+        format: report.format,
+        outcome: report.outcome,
+        line,
+    };
+    let Ok(()) = spool.end(alloc, &record) else {
+        return Err(KeepFault);
+    };
+    Ok(ended.kept)
+}
+
+/// The older file is cleared where nothing in it waits; and where so many octets were put into the newer one that they are enough,
+/// the other is taken into use. It answers how many count from then on.
+fn change_files(
+    alloc: Global,
+    spool: &mut Spool<KeptFile>,
+    octets: usize,
+) -> Result<usize, KeepFault>
+    ensures { OnOk result ((waits : List SpoolPage) → PagesWait ⟦<KeptFile as Disk>⟧.seen ⟦<KeptFile as Disk>⟧.may_leave ⟦<KeptFile as Disk>⟧.is_usable spool.old waits
+        → PagesWait ⟦<KeptFile as Disk>⟧.seen ⟦<KeptFile as Disk>⟧.may_leave ⟦<KeptFile as Disk>⟧.is_usable spool.new waits) }
+{
+    clear_older(spool)?;
+    if octets < MOST_OCTETS {
+        return Ok(octets);
+    }
+    let was = change(alloc, spool)?;
+    Ok(if was { 0 } else { octets })
+}
+
+/// The older file is cleared where nothing in it waits.
+fn clear_older(spool: &mut Spool<KeptFile>) -> Result<bool, KeepFault>
+    ensures { OnOk result ((waits : List SpoolPage) → PagesWait ⟦<KeptFile as Disk>⟧.seen ⟦<KeptFile as Disk>⟧.may_leave ⟦<KeptFile as Disk>⟧.is_usable spool.old waits
+        → PagesWait ⟦<KeptFile as Disk>⟧.seen ⟦<KeptFile as Disk>⟧.may_leave ⟦<KeptFile as Disk>⟧.is_usable spool.new waits) }
+{
+    files_share_what_waits();
+    let Ok(was) = spool.clear() else {
+        return Err(KeepFault);
+    };
+    Ok(was)
+}
+
+/// The other file is taken into use where it is empty.
+fn change(alloc: Global, spool: &mut Spool<KeptFile>) -> Result<bool, KeepFault>
+    ensures { OnOk result ((waits : List SpoolPage) → PagesWait ⟦<KeptFile as Disk>⟧.seen ⟦<KeptFile as Disk>⟧.may_leave ⟦<KeptFile as Disk>⟧.is_usable spool.old waits
+        → PagesWait ⟦<KeptFile as Disk>⟧.seen ⟦<KeptFile as Disk>⟧.may_leave ⟦<KeptFile as Disk>⟧.is_usable spool.new waits) }
+{
+    let Ok(was) = spool.change(alloc) else {
+        return Err(KeepFault);
+    };
+    Ok(was)
 }
 
 /// Puts the record of a page of this line into a spool: the page of this number in its call, in this life.

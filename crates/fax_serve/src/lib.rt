@@ -13,6 +13,7 @@ pub mod laws;
 mod leg_socket;
 mod legs;
 mod pace;
+mod restored;
 mod run;
 mod schedule;
 mod shelf;

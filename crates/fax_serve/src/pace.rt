@@ -265,7 +265,7 @@ impl<'a, C: Clock, I: Read + Drop, O: Write + Drop> RealPace<'a, C, I, O> {
         let tag = job_tag(&self.keeping, card, i, report.call);
         self.teller.tell_job(card.name(), report, tag, self.now);
         if let Some(keeping) = &mut self.keeping {
-            keeping.end(i, report);
+            let _ = keeping.end(i, report);
         }
     }
 

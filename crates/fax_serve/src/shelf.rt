@@ -1,13 +1,10 @@
 //! The pages of a line that wait, as a spool knows them.
-ghost use Rattle.std.specs.Prelude.{◌≡◌, [], IfOk};
+ghost use Rattle.std.specs.Prelude.{◌≡◌, ◌↔◌, [], ◌∷◌, ◌++◌, take, drop, count_by, true, IsTrue, IfOk, IfSome, OnOk};
+ghost use Rattle.fax_serve.specs.Shelves.{AreInOrder, IsBehind, NamesFirst};
 
-use fax_answer::Confirmed;
 use fax_bits::NoMemory;
-use fax_gateway::RestoredCall;
-use fax_keep::read_waiting_page;
-use fax_pagestore::{PackedRows, Page, PageFault};
-use fax_spool::WaitingPage;
-use std::alloc::Global;
+use std::alloc::{AllocError, Global};
+use std::marker::Model;
 
 /// A page that waits: in which life and call it was confirmed, and as which page of the call.
 #[derive(Clone, Copy, PartialEq, Eq, Debug)]
@@ -25,9 +22,10 @@ pub(crate) struct Waiting {
 pub(crate) struct Ended {
     pub life: u32,
     pub call: u32,
-    /// The numbers of its first page and of its last one.
+    /// The number of its first page.
     pub first: u32,
-    pub last: u32,
+    /// How many numbers there are from that one on to the number of its last page, with both.
+    pub pages: u32,
     /// How many of its pages are on the disk.
     pub kept: u64,
 }
@@ -51,13 +49,27 @@ pub(crate) struct Shelf {
     /// The call in which the newest page was confirmed in this life, and which page of it that is.
     call: Option<u32>,
     number: u32,
-    /// Whether each page of this life was noted.
+    /// Whether each page was noted, and came behind those before it.
     is_whole: bool,
+}
+
+impl Model for Shelf {
+    ghost use Rattle.std.specs.Prelude.{◌≡◌, true};
+    ghost use Rattle.std.specs.String.{string_bytes};
+    ghost use Rattle.fax_serve.specs.Shelves.{AreInOrder, ShelfValue};
+
+    ghost Value = { ShelfValue };
+
+    ghost view = { λ s. record { line = string_bytes s.line; waits = s.waits.items; is_whole = s.is_whole } };
+
+    ghost invariant = { λ s. s.is_whole ≡ true → AreInOrder s.waits.items };
 }
 
 impl Shelf {
     /// None of the line of this name waits.
-    fn new(alloc: Global, line: &str) -> Result<Self, NoMemory> {
+    pub(crate) fn new(alloc: Global, line: &str) -> Result<Self, NoMemory>
+        ensures { IfOk result (λ shelf. shelf ≡ record { line = line.now; waits = []; is_whole = true }) }
+    {
         Ok(Shelf {
             line: String::from_str(alloc, line)?,
             waits: Vec::new(alloc),
@@ -70,8 +82,17 @@ impl Shelf {
     }
 
     /// The name of the line.
-    pub(crate) fn line(&self) -> &str {
+    pub(crate) fn line(&self) -> &str
+        ensures { result.now ≡ self.now.line }
+    {
         self.line.as_str()
+    }
+
+    /// Its pages that wait.
+    pub(crate) fn waits(&self) -> &[Waiting]
+        ensures { result.now ≡ self.now.waits }
+    {
+        self.waits.as_slice()
     }
 
     /// The pages of earlier lives that mean none.
@@ -104,7 +125,9 @@ impl Shelf {
     }
 
     /// A page is confirmed in this call of this life: which page of the call it is, from 1 on.
-    pub(crate) fn number(&mut self, call: u32) -> u32 {
+    pub(crate) fn number(&mut self, call: u32) -> u32
+        ensures { self.new ≡ self.old }
+    {
         if self.call == Some(call) {
             self.number = self.number.saturating_add(1);
         } else {
@@ -114,134 +137,118 @@ impl Shelf {
         self.number
     }
 
+    /// A page of an earlier life means none.
+    pub(crate) fn set_aside(&mut self, call: u32, number: u32) -> Result<(), NoMemory>
+        ensures { self.new ≡ self.old }
+    {
+        Ok(self.aside.push((call, number))?)
+    }
+
+    /// A call of an earlier life had this tag.
+    pub(crate) fn set_tag(
+        &mut self,
+        alloc: Global,
+        life: u32,
+        call: u32,
+        tag: &str,
+    ) -> Result<(), NoMemory>
+        ensures { self.new ≡ self.old }
+    {
+        let tag = String::from_str(alloc, tag)?;
+        Ok(self.tags.push(RestoredTag { life, call, tag })?)
+    }
+
     /// One more page waits, behind the others. Without memory it is not noted, and from then on no job of the line is told to
     /// have ended: its pages are restored at the next start, and sent again.
-    pub(crate) fn add(&mut self, page: Waiting) {
-        if self.waits.push(page).is_err() {
+    pub(crate) fn add(&mut self, page: Waiting)
+        ensures line { self.new.line ≡ self.old.line }
+    {
+        if self.push(page).is_err() {
             self.is_whole = false;
         }
     }
 
-    /// The job that is first in turn ended: so many pages wait no more. `None`: which ones they are is not known.
-    pub(crate) fn end(&mut self, pages: u32) -> Option<Ended> {
-        if !self.is_whole || pages == 0 || self.waits.len() < pages as usize {
+    /// The same, where an `Err` tells that it is not noted.
+    pub(crate) fn push(&mut self, page: Waiting) -> Result<(), AllocError>
+        ensures line { self.new.line ≡ self.old.line }
+        ensures waits { OnOk result (self.new.waits ≡ self.old.waits ++ page ∷ []) }
+    {
+        let is_behind = comes_behind(&page, self.waits.as_slice());
+        self.waits.push(page)?;
+        if !is_behind {
             self.is_whole = false;
+        }
+        Ok(())
+    }
+
+    /// The job that is first in turn ended: so many pages wait no more. `None`: which ones they are is not known, and from then on
+    /// that is so of each job of the line.
+    pub(crate) fn end(&mut self, pages: u32) -> Option<Ended>
+        ensures line { self.new.line ≡ self.old.line }
+        ensures names { IfSome result (λ ended. NamesFirst pages ended self.old.waits) }
+        ensures left { IfSome result (λ _. self.new.waits ≡ drop pages self.old.waits) }
+    {
+        if !self.is_whole {
             return None;
         }
-        let first = *self.waits.first()?;
-        let mut ended = Ended {
-            life: first.life,
-            call: first.call,
-            first: first.number,
-            last: first.number,
-            kept: 0,
+        let Some(ended) = first_job(self.waits.as_slice(), pages) else {
+            self.is_whole = false;
+            return None;
         };
-        for page in self.waits.drain(..pages as usize) {
-            ended.last = ended.last.max(page.number);
-            if page.is_kept {
-                ended.kept = ended.kept.saturating_add(1);
-            }
-        }
+        let _ = self.waits.drain(..pages as usize);
         Some(ended)
     }
 }
 
-/// What a line begins with behind a crash.
-#[derive(Drop)]
-pub(crate) struct Restored {
-    pub calls: Vec<RestoredCall<PackedRows>>,
-    pub shelf: Shelf,
-}
-
-impl Restored {
-    /// Nothing waits.
-    fn new(alloc: Global, line: &str) -> Result<Self, NoMemory>
-        ensures { IfOk result (λ restored. restored.calls.items ≡ []) }
-    {
-        let shelf = Shelf::new(alloc, line)?;
-        Ok(Restored {
-            calls: Vec::new(alloc),
-            shelf,
-        })
-    }
-
-    /// One more page waits.
-    fn add(
-        &mut self,
-        alloc: Global,
-        waits: &WaitingPage,
-        page: Page<PackedRows>,
-    ) -> Result<(), NoMemory> {
-        let begins = match self.shelf.waits.last() {
-            Some(last) => last.life != waits.life || last.call != waits.call,
-            None => true,
-        };
-        if begins {
-            self.begin_call(alloc, waits)?;
-        }
-        if let Some(call) = self.calls.last_mut() {
-            call.confirmed.push(Confirmed {
-                page,
-                closes: waits.closes,
-            })?;
-        }
-        self.shelf.waits.push(Waiting {
-            life: waits.life,
-            call: waits.call,
-            number: waits.number,
-            is_kept: true,
-        })?;
-        Ok(())
-    }
-
-    /// The next page is the first of its call.
-    fn begin_call(&mut self, alloc: Global, waits: &WaitingPage) -> Result<(), NoMemory> {
-        self.calls.push(RestoredCall {
-            number: waits.call,
-            confirmed: Vec::new(alloc),
-        })?;
-        let Ok(tag) = std::str::from_utf8(waits.tag.as_slice()) else {
-            return Ok(());
-        };
-        if tag.is_empty() {
-            return Ok(());
-        }
-        self.shelf.tags.push(RestoredTag {
-            life: waits.life,
-            call: waits.call,
-            tag: String::from_str(alloc, tag)?,
-        })?;
-        Ok(())
-    }
-}
-
-/// What the line of this name begins with where these pages wait: its own, the oldest first. One whose text means no page is set
-/// aside, and its record left as it is.
-pub(crate) fn restore_line(
-    alloc: Global,
-    line: &str,
-    pages: &[WaitingPage],
-) -> Result<Restored, NoMemory>
-    ensures { pages.now ≡ [] → IfOk result (λ restored. restored.calls.items ≡ []) }
+/// Whether a page came behind these.
+fn comes_behind(page: &Waiting, waits: &[Waiting]) -> bool
+    ensures { result ≡ true → AreInOrder waits.now → AreInOrder (waits.now ++ page.now ∷ []) }
 {
-    if pages.is_empty() {
-        return Restored::new(alloc, line);
+    match waits.last() {
+        Some(last) => is_behind(page, last),
+        None => true,
     }
-    restore_pages(alloc, line, pages)
 }
 
-/// The same where pages wait.
-fn restore_pages(alloc: Global, line: &str, pages: &[WaitingPage]) -> Result<Restored, NoMemory> {
-    let mut restored = Restored::new(alloc, line)?;
-    for waits in pages {
-        if waits.line.as_slice() != line.as_bytes() {
-            continue;
-        }
-        match read_waiting_page(alloc, waits) {
-            Ok(page) => restored.add(alloc, waits, page)?,
-            Err(PageFault::NoMemory) => return Err(NoMemory),
-            Err(_) => restored.shelf.aside.push((waits.call, waits.number))?,
-        }
+/// Whether a page came behind another.
+fn is_behind(page: &Waiting, other: &Waiting) -> bool
+    ensures { IsTrue result ↔ IsBehind page.now other.now }
+{
+    if other.life != page.life {
+        return other.life < page.life;
     }
-    Ok(restored)
+    if other.call != page.call {
+        return other.call < page.call;
+    }
+    other.number < page.number
+}
+
+/// The job of so many pages that is first in turn. `None`: so many do not wait, or they did not come in one call.
+fn first_job(waits: &[Waiting], pages: u32) -> Option<Ended>
+    requires { AreInOrder waits.now }
+    ensures { IfSome result (λ ended. NamesFirst pages ended waits.now) }
+{
+    let first = waits.first()?;
+    let last = waits.get((pages as usize).checked_sub(1)?)?;
+    if first.life != last.life || first.call != last.call {
+        return None;
+    }
+    Some(Ended {
+        life: first.life,
+        call: first.call,
+        first: first.number,
+        pages: last.number.checked_sub(first.number)?.checked_add(1)?,
+        kept: count_kept(waits, pages),
+    })
+}
+
+/// How many of the first pages are on the disk, of so many.
+fn count_kept(waits: &[Waiting], pages: u32) -> u64
+    ensures { result ≡ count_by (λ page. page.is_kept) (take pages waits.now) }
+{
+    waits
+        .iter()
+        .take(pages as usize)
+        .filter(|page| page.is_kept)
+        .count() as u64
 }

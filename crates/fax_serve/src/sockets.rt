@@ -7,7 +7,8 @@ ghost use Rattle.fax_line.specs.Deeds.{AreBegun, AreNew};
 
 use crate::fault::ServeFault;
 use crate::leg_socket::LegSocket;
-use crate::shelf::{Restored, Shelf, restore_line};
+use crate::restored::{Restored, restore_line};
+use crate::shelf::Shelf;
 use crate::udp_wire::UdpWire;
 use fax_config::{LegConfig, LineConfig, Repeat};
 use fax_control::Leg;
