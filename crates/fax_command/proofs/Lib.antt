@@ -1,4 +1,5 @@
 pub mod AnswerLemmas
+pub mod LineFeeds
 pub mod LineTexts
 pub mod PictureLemmas
 pub mod PutLemmas

@@ -7,6 +7,7 @@ ghost use Rattle.fax_command.specs.RowLines.{line_of, lines_of, TellsRow, IsRowL
 use fax_bits::NoMemory;
 use fax_runcodes::{Row, RowFault, Width};
 use itoa::Buffer;
+use memchr::memchr;
 use std::alloc::Global;
 
 /// The first line of a text, and the text behind it; none of an empty text.
@@ -31,7 +32,7 @@ fn line_feed(text: &[u8]) -> Option<usize>
     ensures before { IfSome result (λ place. (k : ℕ) → k < place → slice_index text.now k ≢ 10) }
     ensures none { IfNone result ((k : ℕ) → k < length text.now → slice_index text.now k ≢ 10) }
 {
-    text.iter().position(|octet| *octet == b'\n')
+    memchr(b'\n', text)
 }
 
 /// The number of which a text is the decimal form.

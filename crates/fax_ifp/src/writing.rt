@@ -10,6 +10,7 @@ use crate::codes::{DataType, FieldType};
 use crate::packet::Field;
 use fax_bits::{NoMemory, Octets};
 use std::alloc::Global;
+use std::mem;
 
 /// The first octet of data without fields, but for the type.
 const DATA: u8 = 0x40;
@@ -234,7 +235,20 @@ fn push_counted(octets: &mut Vec<u8>, own: &[u8])
     let [high, low] = u16::to_be_bytes((own.len() - 1) as u16);
     octets.push_reserved(high);
     octets.push_reserved(low);
+    push_own(octets, own);
+}
+
+/// Adds octets, for which there is room. The list is held here meanwhile: so the compiler knows that none of the octets that
+/// are written is the list's length, and copies many at once.
+fn push_own(octets: &mut Vec<u8>, own: &[u8])
+    requires room { vec_len octets.old + length own.now ≤ vec_capacity octets.old }
+    ensures items { octets.new.items ≡ octets.old.items ++ own.now }
+    ensures capacity { vec_capacity octets.new ≡ vec_capacity octets.old }
+{
+    let nothing = Vec::new(*octets.allocator());
+    let mut held = mem::replace(octets, nothing);
     for octet in own {
-        octets.push_reserved(*octet);
+        held.push_reserved(*octet);
     }
+    *octets = held;
 }

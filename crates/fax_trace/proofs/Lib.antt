@@ -1,4 +1,5 @@
 pub mod AnswerLemmas
+pub mod HexLemmas
 pub mod PlayLemmas
 pub mod ScriptLemmas
 pub mod TextLemmas

@@ -1,10 +1,9 @@
 //! Events of a script, each told by a line.
-ghost use Rattle.std.specs.Prelude.{ℕ, ◌≡◌, ◌≢◌, ◌++◌, ◌∷◌, List, Ok, IfOk, IfSome, IfNone};
-ghost use Rattle.hex.specs.Hex.{decode_of};
+ghost use Rattle.std.specs.Prelude.{ℕ, ◌≡◌, ◌≢◌, ◌∷◌, List, IfOk, IfSome, IfNone};
 ghost use Rattle.fax_trace.specs.Scripts.{TellsEvent, TellsMoment};
 
+use crate::hex_text::octets_of_hex;
 use fax_bits::{NoMemory, Octets};
-use hex::FromHexError;
 use std::alloc::Global;
 
 /// What comes to a gateway.
@@ -29,10 +28,10 @@ pub fn event_of_line(alloc: Global, line: &[u8]) -> Result<Option<ScriptEvent>, 
         return Ok(Some(ScriptEvent::Ring));
     }
     if let Some(text) = behind(line, b'A') {
-        return Ok(octets_of(alloc, text)?.map(ScriptEvent::FromCalling));
+        return Ok(octets_of_hex(alloc, text)?.map(ScriptEvent::FromCalling));
     }
     if let Some(text) = behind(line, b'B') {
-        return Ok(octets_of(alloc, text)?.map(ScriptEvent::FromCalled));
+        return Ok(octets_of_hex(alloc, text)?.map(ScriptEvent::FromCalled));
     }
     match behind(line, b'T') {
         Some(digits) => Ok(moment_of(digits).map(ScriptEvent::Tick)),
@@ -48,18 +47,6 @@ fn behind(line: &[u8], letter: u8) -> Option<&[u8]>
     match line {
         [first, b' ', text @ ..] if *first == letter => Some(text),
         _ => None,
-    }
-}
-
-/// The octets of hex text, in either case.
-fn octets_of(alloc: Global, text: &[u8]) -> Result<Option<Octets>, NoMemory>
-    ensures some { IfOk result (λ found. IfSome found (λ octets. decode_of text.now ≡ Ok octets)) }
-    ensures none { IfOk result (λ found. IfNone found ((octets : List ℕ) → decode_of text.now ≢ Ok octets)) }
-{
-    match hex::decode(alloc, text) {
-        Ok(octets) => Ok(Some(Octets::from_vec(octets))),
-        Err(FromHexError::OutOfMemory) => Err(NoMemory),
-        Err(_) => Ok(None),
     }
 }
 

@@ -4,6 +4,7 @@
 mod answer;
 mod ending;
 mod event;
+mod hex_text;
 mod player;
 mod run;
 mod script_fault;

@@ -4,6 +4,7 @@ ghost use Rattle.fax_command.specs.RowLines.{text_of_lines};
 ghost use Rattle.fax_gateway.specs.Reached.{given_shown};
 ghost use Rattle.fax_trace.specs.Told.{datagram_lines, given_lines, job_lines};
 
+use crate::hex_text::push_hex;
 use fax_bits::{NoMemory, Octets};
 use fax_gateway::Given;
 use fax_jobs::Report;
@@ -30,15 +31,14 @@ pub(crate) fn lines_of_given(alloc: Global, given: &Given) -> Result<Vec<u8>, No
     ensures { IfOk result (λ text. text.items ≡ text_of_lines (given_lines (given_shown given.now))) }
 {
     let mut text = Vec::new(alloc);
-    push_datagram(alloc, &mut text, b"a ", &given.calling)?;
-    push_datagram(alloc, &mut text, b"b ", &given.called)?;
+    push_datagram(&mut text, b"a ", &given.calling)?;
+    push_datagram(&mut text, b"b ", &given.called)?;
     push_job(alloc, &mut text, &given.report)?;
     Ok(text)
 }
 
 /// Adds the line of a datagram, where there is one: a letter and a space, and its octets as hex text, in lower case.
 fn push_datagram(
-    alloc: Global,
     text: &mut Vec<u8>,
     letter: &[u8],
     datagram: &Option<Octets>,
@@ -46,9 +46,10 @@ fn push_datagram(
     ensures { OnOk result (text.new.items ≡ text.old.items ++ text_of_lines (datagram_lines letter.now datagram.now)) }
 {
     if let Some(octets) = datagram {
-        let digits = hex::encode(alloc, octets.as_slice())?;
+        let octets = octets.as_slice();
+        text.reserve(octets.len().saturating_mul(2).saturating_add(3))?;
         text.extend_from_slice(letter)?;
-        text.extend_from_slice(digits.as_bytes())?;
+        push_hex(text, octets)?;
         text.push(b'\n')?;
     }
     Ok(())
