@@ -1,10 +1,11 @@
 -- What is answered to an input.
-use Rattle.std.proofs.Common.{◌≡◌, ℕ, List, Option, None, Some, IfSome, codes, refl, ◌∙◌, subst}
+use Rattle.std.proofs.Common.{◌≡◌, ℕ, List, Option, None, Some, IfSome, codes, refl, sym, ◌∙◌, subst}
 use Rattle.std.specs.Io.KnownBytes.{Appends}
 use Rattle.fax_gateway.specs.declared.settings.Settings.{Settings}
 use Rattle.fax_command.specs.declared.input_fault.InputFault.{InputFault}
 use Rattle.fax_command.specs.declared.input_fault.InputFault.TheVariants.{NoMemory}
 use Rattle.fax_command.specs.Answers.{RefusesPage, fault_line}
+use Rattle.fax_command.specs.Runs.{RunsOver, Sinks, Sources}
 use Rattle.fax_loop.specs.declared.ending.Ending.{Ending}
 use Rattle.fax_loop.specs.declared.ending.Ending.TheVariants as endings
 use Rattle.fax_loop.specs.Answers.{Answers, EndsSo, Allows, Refuses, page_options, fault_ending, ending_status}
@@ -47,3 +48,8 @@ pub Answers-ended : (settings : Settings) (told : Option (List ℕ)) (end : Endi
     → IfSome told (λ input. (text : List ℕ) × Answers settings input status text × Appends old new text)
 Answers-ended settings None end status old new ended is = tt
 Answers-ended settings (Some input) end status old new (text, ends, written) is = (text, record { ending = end; ends_so = ends; status_is = is }, written)
+
+-- a run is one by its status
+pub Runs-ended : {I O : Type 0} {sources : Sources I} {sinks : Sinks O} {source read : I} {sink written : O} {status other : ℕ} → RunsOver sources sinks source read sink written other → status ≡ other
+    → RunsOver sources sinks source read sink written status
+Runs-ended {sources = sources} {sinks = sinks} {source = source} {read = read} {sink = sink} {written = written} runs is = subst (λ (n : ℕ). RunsOver sources sinks source read sink written n) (sym is) runs

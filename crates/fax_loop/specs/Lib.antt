@@ -1,5 +1,7 @@
 pub mod Answers
 pub mod Ends
 pub mod Exchanges
+pub mod Faithful
 pub mod Kept
+pub mod Links
 pub mod Machines

@@ -11,10 +11,12 @@ ghost use Rattle.fax_gateway.specs.Reached.{IsReachedBy};
 ghost use Rattle.fax_loop.specs.Answers.{IsSent};
 ghost use Rattle.fax_loop.specs.Exchanges.{IsExchange, IsPlayed, Lines as LinesShown, Round, log_behind, moment_behind, most_rounds, reported};
 ghost use Rattle.fax_loop.specs.Kept.{HasEnded, HasGone, HasPlayed};
+ghost use Rattle.fax_loop.specs.Links.{IsFaithful};
 
 use crate::answering_machine::AnsweringMachine;
 use crate::calling_machine::CallingMachine;
 use crate::end::{End, UdpEnd};
+use crate::laws::confirms_the_page_over_links;
 use crate::loop_error::LoopError;
 use crate::socket::socket_pair;
 use crate::udp_wire::UdpWire;
@@ -88,7 +90,8 @@ fn open_lines<R: Net>(net: &R) -> io::Result<Lines<UdpEnd, UdpWire>> {
 }
 
 /// Sends a page from machine to machine over these lines, in rounds, until the gateway reports the job. All three have these
-/// settings.
+/// settings. Where the lines carry what was handed to them, lost, repeated, late and out of order at will, each page that the called
+/// machine confirmed is the page that was handed in, and where the job is reported as delivered, there is one at least.
 pub(crate) fn exchange<E: End + Drop, W: Wire + Drop>(
     alloc: Global,
     lines: &mut Lines<E, W>,
@@ -96,11 +99,18 @@ pub(crate) fn exchange<E: End + Drop, W: Wire + Drop>(
     settings: Settings,
 ) -> Result<Ended, LoopError>
     requires { AreAllowed settings }
-    ensures { IfOk result (λ ended. IsExchange settings (job_of 0 page)
+    ensures played { IfOk result (λ ended. IsExchange settings (job_of 0 page)
         (record { caller = E.told lines.old.caller; wire = W.known lines.old.wire; answerer = E.told lines.old.answerer })
         (record { caller = E.told lines.new.caller; wire = W.known lines.new.wire; answerer = E.told lines.new.answerer })
         ended.report ended.confirmed.items) }
+    ensures faithful { IfOk result (λ ended. IsFaithful
+        (record { caller = E.told lines.old.caller; wire = W.known lines.old.wire; answerer = E.told lines.old.answerer })
+        (record { caller = E.told lines.new.caller; wire = W.known lines.new.wire; answerer = E.told lines.new.answerer })
+        page ended.report ended.confirmed.items) }
 {
+    confirms_the_page_over_links();
+    // what it ensures of the page's rows makes this a page
+    let _ = page.rows();
     let Ok(job) = Job::of_page(alloc, 0, page) else {
         return Err(LoopError::NoMemory);
     };

@@ -8,6 +8,7 @@ mod calling_machine;
 mod end;
 mod ending;
 mod exchange;
+pub mod laws;
 mod link;
 mod loop_error;
 mod run;

@@ -1,14 +1,13 @@
 //! A run of `faxgate loop`, over any streams.
-ghost use Rattle.std.specs.Prelude.{ℕ, List, ◌≡◌, ◌≢◌, ◌+◌, ◌<◌, ◌≤◌, ◌⊎◌, true, false, length, IfSome};
-ghost use Rattle.std.specs.Io.KnownBytes.{Appends, Keeps};
+ghost use Rattle.std.specs.Prelude.{ℕ, List, ◌≡◌, ◌≢◌, ◌<◌, ◌⊎◌, true, IfSome};
+ghost use Rattle.std.specs.Io.KnownBytes.{Appends};
+ghost use Rattle.fax_command.specs.Runs.{RunsOver};
 ghost use Rattle.fax_gateway.specs.Setups.{AreAllowed};
 ghost use Rattle.fax_loop.specs.Answers.{Answers, EndsSo, ending_status};
 
 use crate::answer::{Answer, answer_to};
 use crate::ending::Ending;
-use fax_command::{
-    InputError, MOST_AT_ONCE, MOST_OCTETS, MOST_READS, Sink, Source, WriteFault, read_input,
-};
+use fax_command::{InputError, MOST_OCTETS, MOST_READS, Sink, Source, WriteFault, read_input};
 use fax_gateway::Settings;
 use std::alloc::Global;
 use std::net::Net;
@@ -29,20 +28,8 @@ pub fn run_loop<R: Net, I: Source, O: Sink>(
     // bound, or a socket could not be made.
     ensures answers { result ≢ 4 → IfSome (I.remaining source.old) (λ input. (text : List ℕ)
         × Answers settings input result text × Appends (O.contents sink.old) (O.contents sink.new) text) }
-    ensures handed_on { result ≢ 4 → O.held_back sink.new ≡ false }
-    ensures unwritten { result ≡ 4 → O.failed sink.new ≡ false → Keeps (O.contents sink.old) (O.contents sink.new) }
-
-    // A known input past the bound is not answered; memory may be wanting before its end.
-    ensures too_long { IfSome (I.remaining source.old) (λ input. MOST_OCTETS < length input → (result ≡ 4) ⊎ (result ≡ 3)) }
-
-    // The source is read no further than its bounds.
-    ensures reads { I.reads source.new ≤ I.reads source.old + MOST_READS }
-    ensures given { I.given source.new ≤ I.given source.old + MOST_OCTETS + MOST_AT_ONCE }
-    ensures failed_read { I.failed source.old ≡ false → I.failed source.new ≡ true
-        → (result ≡ 4) × Keeps (O.contents sink.old) (O.contents sink.new) }
-    ensures too_much { I.given source.old ≡ 0 → MOST_OCTETS < I.given source.new
-        → (result ≡ 4) × Keeps (O.contents sink.old) (O.contents sink.new) }
-    ensures failed_write { O.failed sink.old ≡ false → O.failed sink.new ≡ true → result ≡ 4 }
+    ensures run { RunsOver record { remaining = I.remaining; reads = I.reads; given = I.given; failed = I.failed }
+        record { contents = O.contents; failed = O.failed; held_back = O.held_back } source.old source.new sink.old sink.new result }
 {
     play_loop(net, alloc, source, sink, settings)
         .status()
@@ -63,24 +50,12 @@ pub fn play_loop<R: Net, I: Source, O: Sink>(
     // bound, or a socket could not be made.
     ensures answers { ending_status result ≢ 4 → IfSome (I.remaining source.old) (λ input. (text : List ℕ)
         × EndsSo settings input result text × Appends (O.contents sink.old) (O.contents sink.new) text) }
-    ensures handed_on { ending_status result ≢ 4 → O.held_back sink.new ≡ false }
-    ensures unwritten { ending_status result ≡ 4 → O.failed sink.new ≡ false → Keeps (O.contents sink.old) (O.contents sink.new) }
-
-    // A known input past the bound is not answered; memory may be wanting before its end.
-    ensures too_long { IfSome (I.remaining source.old) (λ input. MOST_OCTETS < length input → (ending_status result ≡ 4) ⊎ (ending_status result ≡ 3)) }
-
-    // The source is read no further than its bounds.
-    ensures reads { I.reads source.new ≤ I.reads source.old + MOST_READS }
-    ensures given { I.given source.new ≤ I.given source.old + MOST_OCTETS + MOST_AT_ONCE }
+    ensures run { RunsOver record { remaining = I.remaining; reads = I.reads; given = I.given; failed = I.failed }
+        record { contents = O.contents; failed = O.failed; held_back = O.held_back } source.old source.new sink.old sink.new (ending_status result) }
 
     // A source that was not read is fresh: its counts are 0, and it has not failed.
     ensures stream { I.reads source.old ≡ 0 → I.given source.old ≡ 0 → result ≡ Ending.Stream → (I.failed source.new ≡ true)
         ⊎ (O.failed sink.new ≡ true) ⊎ (MOST_OCTETS < I.given source.new) ⊎ (I.reads source.new ≡ MOST_READS) }
-    ensures failed_read { I.failed source.old ≡ false → I.failed source.new ≡ true
-        → (ending_status result ≡ 4) × Keeps (O.contents sink.old) (O.contents sink.new) }
-    ensures too_much { I.given source.old ≡ 0 → MOST_OCTETS < I.given source.new
-        → (ending_status result ≡ 4) × Keeps (O.contents sink.old) (O.contents sink.new) }
-    ensures failed_write { O.failed sink.old ≡ false → O.failed sink.new ≡ true → ending_status result ≡ 4 }
 {
     let answer = match read_input(alloc, source) {
         Ok(input) => match answer_to(net, alloc, input, settings) {

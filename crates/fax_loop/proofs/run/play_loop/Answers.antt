@@ -1,4 +1,4 @@
-use Rattle.std.proofs.Common.{◌≡◌, ◌∙◌, ap}
+use Rattle.std.proofs.Common.{rules, ◌≡◌, ◌∙◌, ap}
 use Rattle.fax_loop.specs.Kept.{IsAnswerText, ending_of_answer}
 use Rattle.fax_loop.proofs.AnswerLemmas.{EndsSo-read, EndsSo-unread}
 use Rattle.fax_loop.proofs.run.play_loop.Goals as goal
@@ -18,3 +18,15 @@ returns-in-Ok-write-clause-answers g c = λ other.
       | in-Err-NoMemory w ↦
           EndsSo-unread c.args.settings told _ text old new (ending ∙ ap ending_of_answer w.answer-is) (rw w.answer-is at is) written
     ]
+
+pub returns-in-Ok-write-clause-run : goal.returns-in-Ok-write-clause-run
+returns-in-Ok-write-clause-run g c = record {
+  handed_on = search rules;
+  unwritten = search rules;
+  too_long = search rules;
+  reads = search rules;
+  given = search rules;
+  failed_read = search rules;
+  too_much = search rules;
+  failed_write = search rules;
+}

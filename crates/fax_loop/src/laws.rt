@@ -1,0 +1,31 @@
+//! Laws of an exchange: functions that do nothing, each of whose contracts is a theorem.
+ghost use Rattle.fax_loop.specs.Faithful.{ConfirmsIfDelivered, ConfirmsThePage};
+ghost use Rattle.fax_loop.specs.Links.{ConfirmsThePageOver};
+
+use fax_gateway::laws::{jobs_are_of_their_calls, jobs_have_states};
+
+/// In rounds over honest links, which lose, repeat, delay and reorder at will, each page that the machine that is called confirms
+/// is the page that the machine that calls was given.
+pub fn confirms_the_page()
+    ensures { ConfirmsThePage }
+{
+    jobs_are_of_their_calls();
+}
+
+/// And where the gateway reports that the job was delivered, the machine that is called confirmed a page at least, if the way back
+/// from it to the gateway is honest too.
+pub fn confirms_if_delivered()
+    ensures { ConfirmsIfDelivered }
+{
+    jobs_are_of_their_calls();
+    jobs_have_states();
+}
+
+/// So it is in each exchange over lines that tell what goes over them, where each datagram that came is one of those that were handed
+/// over at the other end.
+pub fn confirms_the_page_over_links()
+    ensures { ConfirmsThePageOver }
+{
+    jobs_are_of_their_calls();
+    jobs_have_states();
+}
