@@ -13,9 +13,11 @@ use Rattle.fax_trace.specs.Told.{lines_told}
 use Rattle.fax_trace.specs.Playing.{Played, IsRefusal, scripted, moment_at}
 use Rattle.fax_explain.specs.Ladders.{EndsWithReport, HasAnswer, TellsRefusal}
 use Rattle.fax_explain.specs.Staged.{PlaysOn}
+use Rattle.fax_telling.specs.Tales.{inside}
+use Rattle.fax_telling.specs.Tellings.{Telling}
 
 -- it is accepted, and the answer told
-pub accepted_on : (setup : Setup) (writes : Writing) (old : Played) (event : ScriptEvent) (told : List (List ℕ)) (gateway : GatewayValue) (accepted : Event)
+pub accepted_on : (setup : Setup) (writes : Writing) (old : Played) (event : ScriptEvent) (told : List Telling) (gateway : GatewayValue) (accepted : Event)
     → scripted accepted ≡ event → moment_of accepted ≡ moment_at event old.moment → HasAnswer setup old.trace accepted told → IsReachedBy setup writes (accepted ∷ old.trace) gateway
     → PlaysOn setup writes old event told gateway
 accepted_on setup writes old event told gateway accepted is at answer reached = record {
@@ -25,8 +27,8 @@ accepted_on setup writes old event told gateway accepted is at answer reached = 
 }
 
 -- a ring that is refused, and why
-pub refused_on : (setup : Setup) (writes : Writing) (old : Played) (told : List (List ℕ)) (gateway : GatewayValue) (line why : List ℕ) → IsRefusal setup old.trace line
-    → told ≡ (line ++ why) ∷ [] → IsReachedBy setup writes old.trace gateway → PlaysOn setup writes old script.Ring told gateway
+pub refused_on : (setup : Setup) (writes : Writing) (old : Played) (told : List Telling) (gateway : GatewayValue) (line why : List ℕ) → IsRefusal setup old.trace line
+    → told ≡ inside (line ++ why) ∷ [] → IsReachedBy setup writes old.trace gateway → PlaysOn setup writes old script.Ring told gateway
 refused_on setup writes old told gateway line why cause is reached = record {
   new = record { trace = old.trace; moment = old.moment; lines = old.lines ++ line ∷ [] };
   tells = inr (record { refuses = record { line = line; is_ring = refl; cause = cause; new_is = refl }; why = why; told_is = is });
@@ -49,7 +51,7 @@ OnOk-both P Q (Ok done) p q = (p, q)
 OnOk-both P Q (Err fault) p q = tt
 
 -- what is told of a tick
-pub tick_answer : (setup : Setup) (earlier : List Event) (now : ℕ) (given : Given) (told : List (List ℕ)) (refused : Option Refused)
+pub tick_answer : (setup : Setup) (earlier : List Event) (now : ℕ) (given : Given) (told : List Telling) (refused : Option Refused)
     → IsRefusedAt (calling_leg setup earlier) (max now (clock earlier)) refused → TellsRefusal refused told → EndsWithReport given.report told
     → HasAnswer setup earlier (Tick now given) told
 tick_answer setup earlier now given told refused right tells ends = ((refused, right, tells), ends)

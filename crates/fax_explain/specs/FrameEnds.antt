@@ -1,6 +1,6 @@
 -- FRAME ENDS: how many frames end in a packet (ITU-T T.38 of 1998, field types 2 to 5 of V.21 data).
 use Rattle.std.specs.Prelude.{ℕ, ◌==◌, ◌||◌, Bool, true, false, if◌then◌else◌, count_by}
-use Rattle.fax_ifp.specs.Packets.{FieldText, Packet, Indicator, Message}
+use Rattle.fax_ifp.specs.Packets.{Packet, Indicator, Message}
 use Rattle.fax_ifp.specs.declared.piece.Piece.{Piece}
 use Rattle.fax_ifp.specs.declared.piece.Piece.TheVariants.{Frame}
 

@@ -6,7 +6,7 @@ use Rattle.fax_frames.specs.declared.frame.Frame.TheVariants.{Csi, Nsf, Tsi, Eom
 use Rattle.fax_explain.specs.declared.listener.Attention.{Attention}
 use Rattle.fax_explain.specs.declared.listener.Attention.TheVariants.{Hears, Waits}
 use Rattle.fax_explain.specs.declared.listener.Due.{Due}
-use Rattle.fax_explain.specs.declared.listener.Due.TheVariants.{Nothing, Check, Page}
+use Rattle.fax_explain.specs.declared.listener.Due.TheVariants.{Check, Page}
 
 -- the commands behind a page
 abbrev pub is_command : Frame → Bool

@@ -7,7 +7,6 @@ ghost use Rattle.fax_trace.specs.Playing.{moment_at};
 ghost use Rattle.fax_explain.specs.Explained.{Explains, HasTold};
 ghost use Rattle.fax_explain.specs.Staged.{IsNew, TellsOn};
 
-use crate::paragraph::paragraph_of;
 use crate::stage::{FoundPage, Stage};
 use fax_bits::NoMemory;
 use fax_command::first_line;
@@ -128,5 +127,5 @@ fn explain_event(
     for found in scene.pages {
         pages.push(found)?;
     }
-    paragraph_of(alloc, moment, scene.tale.entries())
+    scene.tale.paragraph(moment)
 }

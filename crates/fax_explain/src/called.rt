@@ -1,15 +1,13 @@
 //! What is heard on the called leg.
 ghost use Rattle.std.specs.Prelude.{◌≡◌, ◌+◌, ◌-◌, ◌^◌, min};
 
-use crate::command::Command;
 use crate::keeper::Place;
-use crate::lane::Lane;
 use crate::listener::Listener;
 use crate::stage::FoundPage;
-use crate::tale::Tale;
 use fax_bits::NoMemory;
 use fax_frames::Frame;
 use fax_gateway::{Given, Side};
+use fax_telling::{Command, Lane, Tale};
 use std::alloc::Global;
 
 /// What is heard on the called leg.

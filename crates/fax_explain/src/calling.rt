@@ -1,28 +1,12 @@
 //! What is heard on the calling leg.
-ghost use Rattle.std.specs.Prelude.{◌≡◌};
-ghost use Rattle.fax_explain.specs.Reasons.{given_up_text};
-
 use crate::keeper::Place;
-use crate::lane::Lane;
 use crate::listener::Listener;
 use crate::stage::FoundPage;
-use crate::tale::Tale;
-use crate::words::words_of_format;
 use fax_bits::NoMemory;
 use fax_frames::Frame;
 use fax_gateway::{Given, Kept, Side};
+use fax_telling::{Exchange, Lane, Tale, words_of_format};
 use std::alloc::Global;
-
-/// Where the exchange of DIS and DCS stands.
-#[derive(Clone, Copy, PartialEq, Eq, Debug)]
-enum Exchange {
-    /// Our DIS was not given.
-    Before,
-    /// It was, and no DCS answered it.
-    Awaited,
-    /// A DCS answered it.
-    Answered,
-}
 
 /// What is heard on the calling leg in one call.
 #[derive(Drop)]
@@ -76,7 +60,7 @@ impl CallingLeg {
             return Ok(None);
         };
         if given.gave_up.is_some() {
-            tale.tell(Lane::Inside, self.why_given_up())?;
+            tale.tell(Lane::Inside, self.exchange.why_given_up())?;
         }
         self.ours.hear(octets.as_slice(), tale)?;
         let frame = self.ours.frames().last().copied();
@@ -87,16 +71,6 @@ impl CallingLeg {
             _ => {}
         }
         Ok(None)
-    }
-
-    /// Which timer ends the call (ITU-T T.30, 5.4.3).
-    fn why_given_up(&self) -> &'static str
-        ensures { result.now ≡ given_up_text self.now.exchange }
-    {
-        match self.exchange {
-            Exchange::Before | Exchange::Awaited => "T1: no DCS in 35 s, so the call is given up",
-            Exchange::Answered => "T2: nothing heard in 6 s, so the call is given up",
-        }
     }
 
     /// Our DIS was given. Where it was given before, the timer that gave it again is told.

@@ -1,10 +1,11 @@
 //! An image signal, as far as it has come.
 ghost use Rattle.std.specs.Prelude.{◌≡◌, ◌+◌, ◌-◌, ◌^◌, ◌++◌, ◌∷◌, [], length, min, IfOk, OnOk, string_bytes};
-ghost use Rattle.fax_explain.specs.Words.{wholeness_text};
+ghost use Rattle.fax_telling.specs.Words.{wholeness_text};
 
 use fax_bits::NoMemory;
 use fax_frames::Dcs;
 use fax_pagestore::{PackedRows, Page, PageFault, PageReader};
+use fax_telling::words_of_wholeness;
 use std::alloc::Global;
 
 /// An image signal, as far as it has come: a training check or a page (ITU-T T.30, 5.3.6.2).
@@ -96,15 +97,7 @@ impl Image {
     pub(crate) fn wholeness(&self, whole: bool) -> Result<String, NoMemory>
         ensures { IfOk result (λ words. string_bytes words ≡ wholeness_text whole (string_bytes self.now.missing)) }
     {
-        let missing = self.missing.as_str();
-        let words = if whole {
-            format!(in self.alloc; "whole")?
-        } else if missing.is_empty() {
-            format!(in self.alloc; "not whole, something else stands in it")?
-        } else {
-            format!(in self.alloc; "not whole, missing{missing}")?
-        };
-        Ok(words)
+        words_of_wholeness(self.alloc, whole, self.missing.as_str())
     }
 
     /// The page that it means, where one was due.

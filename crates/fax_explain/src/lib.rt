@@ -7,18 +7,12 @@
 mod answer;
 mod called;
 mod calling;
-mod command;
 mod frame_ends;
 mod image;
 mod keeper;
-mod lane;
 mod listener;
-mod paragraph;
-mod reasons;
 mod run;
 mod stage;
-mod tale;
-mod words;
 
 pub use keeper::{KeepFault, NoPages, PageKeeper, Place};
 pub use run::run_explain;

@@ -4,13 +4,11 @@ ghost use Rattle.fax_explain.specs.Listening.{attention_while, due_behind_cfr, i
 
 use crate::frame_ends::FrameEnds;
 use crate::image::Image;
-use crate::lane::Lane;
-use crate::tale::Tale;
-use crate::words::{name_of_kind, words_of_frame, words_of_numbers};
 use fax_bits::NoMemory;
 use fax_frames::{Dcs, Dis, Frame};
 use fax_ifp::{Head, Ifp, IfpFault, Indicator, Piece, Signals, Slot};
 use fax_pagestore::{PackedRows, Page, PageFault, RowStore};
+use fax_telling::{Lane, Tale, name_of_kind, words_of_frame, words_of_numbers};
 use fax_udptl::{Receiver, read};
 use std::alloc::Global;
 

@@ -1,7 +1,8 @@
 //! A run of `faxgate explain`, over any streams.
-ghost use Rattle.std.specs.Prelude.{ℕ, List, ◌≡◌, ◌≢◌, ◌+◌, ◌<◌, ◌≤◌, ◌⊎◌, true, false, length, IfSome};
-ghost use Rattle.std.specs.Io.KnownBytes.{Appends, Keeps};
+ghost use Rattle.std.specs.Prelude.{ℕ, List, ◌≡◌, ◌≢◌, ◌<◌, ◌⊎◌, true, false, IfSome};
+ghost use Rattle.std.specs.Io.KnownBytes.{Appends};
 ghost use Rattle.fax_gateway.specs.Setups.{AreAllowed};
+ghost use Rattle.fax_command.specs.Runs.{RunsOver};
 ghost use Rattle.fax_command.specs.Streams.{failed_after_write};
 ghost use Rattle.fax_trace.specs.Kept.{status_of_answer, text_of_answer};
 ghost use Rattle.fax_explain.specs.Explained.{Explains};
@@ -10,7 +11,7 @@ use crate::answer::explain;
 use crate::keeper::{KeepFault, PageKeeper};
 use crate::stage::FoundPage;
 use fax_command::{
-    InputError, MOST_AT_ONCE, MOST_OCTETS, MOST_READS, Sink, Source, Status, WriteFault, read_input,
+    InputError, MOST_OCTETS, MOST_READS, Sink, Source, Status, WriteFault, read_input,
 };
 use fax_gateway::Settings;
 use fax_trace::Answer;
@@ -32,24 +33,13 @@ pub fn run_explain<I: Source, O: Sink, K: PageKeeper>(
     // its bound.
     ensures answers { result ≢ 4 → IfSome (I.remaining source.old) (λ input. (text : List ℕ)
         × Explains settings input result text × Appends (O.contents sink.old) (O.contents sink.new) text) }
-    ensures handed_on { result ≢ 4 → O.held_back sink.new ≡ false }
-    ensures unwritten { result ≡ 4 → O.failed sink.new ≡ false → Keeps (O.contents sink.old) (O.contents sink.new) }
+    ensures run { RunsOver record { remaining = I.remaining; reads = I.reads; given = I.given; failed = I.failed }
+        record { contents = O.contents; failed = O.failed; held_back = O.held_back } source.old source.new sink.old sink.new result }
 
-    // A known input past the bound is not answered; memory may be wanting before its end.
-    ensures too_long { IfSome (I.remaining source.old) (λ input. MOST_OCTETS < length input → (result ≡ 4) ⊎ (result ≡ 3)) }
-
-    // The source is read no further than its bounds.
-    ensures reads { I.reads source.new ≤ I.reads source.old + MOST_READS }
-    ensures given { I.given source.new ≤ I.given source.old + MOST_OCTETS + MOST_AT_ONCE }
-
-    // A source that was not read is fresh: its counts are 0, and it has not failed.
+    // Nothing but a stream or a page that is not kept gives status 4. A source that was not read is fresh: its counts are 0, and
+    // it has not failed.
     ensures stream { I.reads source.old ≡ 0 → I.given source.old ≡ 0 → result ≡ 4 → (I.failed source.new ≡ true)
         ⊎ (O.failed sink.new ≡ true) ⊎ (K.failed keeper.new ≡ true) ⊎ (MOST_OCTETS < I.given source.new) ⊎ (I.reads source.new ≡ MOST_READS) }
-    ensures failed_read { I.failed source.old ≡ false → I.failed source.new ≡ true
-        → (result ≡ 4) × Keeps (O.contents sink.old) (O.contents sink.new) }
-    ensures too_much { I.given source.old ≡ 0 → MOST_OCTETS < I.given source.new
-        → (result ≡ 4) × Keeps (O.contents sink.old) (O.contents sink.new) }
-    ensures failed_write { O.failed sink.old ≡ false → O.failed sink.new ≡ true → result ≡ 4 }
     ensures failed_page { K.failed keeper.old ≡ false → K.failed keeper.new ≡ true → result ≡ 4 }
 {
     let script = match read_input(alloc, source) {

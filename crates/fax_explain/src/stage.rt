@@ -6,18 +6,15 @@ ghost use Rattle.fax_gateway.specs.Reached.{IsReachedBy};
 ghost use Rattle.fax_trace.specs.declared.event.ScriptEvent.TheVariants as script;
 ghost use Rattle.fax_trace.specs.Playing.{Played, moment_at};
 ghost use Rattle.fax_explain.specs.Ladders.{EndsWithReport, TellsRefusal};
-ghost use Rattle.fax_explain.specs.Staged.{GoesOn, IsNew, PlaysOn, told_in};
+ghost use Rattle.fax_explain.specs.Staged.{GoesOn, IsNew, PlaysOn};
 
 use crate::called::CalledLeg;
 use crate::calling::CallingLeg;
 use crate::keeper::Place;
-use crate::lane::Lane;
-use crate::reasons::{why_ended, why_refused};
-use crate::tale::Tale;
-use crate::words::words_of_format;
 use fax_bits::NoMemory;
 use fax_gateway::{Gateway, Given, RingFault, Settings};
 use fax_pagestore::{PackedRows, Page};
+use fax_telling::{Lane, Tale, why_ended, why_refused, words_of_format};
 use fax_trace::ScriptEvent;
 use std::alloc::Global;
 
@@ -38,7 +35,7 @@ pub(crate) struct Scene {
 impl Scene {
     /// Nothing has happened.
     fn new(alloc: Global) -> Self
-        ensures { told_in result.tale.entries.items ≡ [] }
+        ensures { result.tale ≡ [] }
     {
         Scene {
             tale: Tale::new(alloc),
@@ -75,7 +72,7 @@ impl Stage {
     /// Plays an event at a moment, and tells what happened.
     pub(crate) fn play(&mut self, event: &ScriptEvent, moment: u64) -> Result<Scene, NoMemory>
         ensures { IfOk result (λ scene. (setup : Setup) (writes : Writing) (old : Played) → IsWriting writes → moment ≡ moment_at event.now old.moment
-            → IsReachedBy setup writes old.trace self.old.gateway → PlaysOn setup writes old event.now (told_in scene.tale.entries.items) self.new.gateway) }
+            → IsReachedBy setup writes old.trace self.old.gateway → PlaysOn setup writes old event.now scene.tale self.new.gateway) }
     {
         let mut scene = Scene::new(self.alloc);
         self.act(event, moment, &mut scene)?;
@@ -84,9 +81,9 @@ impl Stage {
 
     /// Plays an event at a moment, of which nothing was told.
     fn act(&mut self, event: &ScriptEvent, moment: u64, scene: &mut Scene) -> Result<(), NoMemory>
-        requires { told_in scene.old.tale.entries.items ≡ [] }
+        requires { scene.old.tale ≡ [] }
         ensures { OnOk result ((setup : Setup) (writes : Writing) (old : Played) → IsWriting writes → moment ≡ moment_at event.now old.moment
-            → IsReachedBy setup writes old.trace self.old.gateway → PlaysOn setup writes old event.now (told_in scene.new.tale.entries.items) self.new.gateway) }
+            → IsReachedBy setup writes old.trace self.old.gateway → PlaysOn setup writes old event.now scene.new.tale self.new.gateway) }
     {
         match event {
             ScriptEvent::Ring => self.ring(moment, &mut scene.tale),
@@ -102,9 +99,9 @@ impl Stage {
 
     /// It rings.
     fn ring(&mut self, moment: u64, tale: &mut Tale) -> Result<(), NoMemory>
-        requires { told_in tale.old.entries.items ≡ [] }
+        requires { tale.old ≡ [] }
         ensures { OnOk result ((setup : Setup) (writes : Writing) (old : Played) → moment ≡ old.moment → IsReachedBy setup writes old.trace self.old.gateway
-            → PlaysOn setup writes old script.Ring (told_in tale.new.entries.items) self.new.gateway) }
+            → PlaysOn setup writes old script.Ring tale.new self.new.gateway) }
     {
         match self.gateway.ring(moment) {
             Ok(call) => {
@@ -121,7 +118,7 @@ impl Stage {
     /// A datagram comes on the calling leg.
     fn hear_calling(&mut self, octets: &[u8], moment: u64, tale: &mut Tale) -> Result<(), NoMemory>
         ensures { OnOk result ((setup : Setup) (writes : Writing) (old : Played) → moment ≡ old.moment → IsReachedBy setup writes old.trace self.old.gateway
-            → PlaysOn setup writes old (script.FromCalling octets.now) (told_in tale.new.entries.items) self.new.gateway) }
+            → PlaysOn setup writes old (script.FromCalling octets.now) tale.new self.new.gateway) }
     {
         let call = self.gateway.call();
         self.gateway.from_calling(octets, moment)?;
@@ -135,7 +132,7 @@ impl Stage {
     /// A datagram comes on the called leg.
     fn hear_called(&mut self, octets: &[u8], moment: u64, tale: &mut Tale) -> Result<(), NoMemory>
         ensures { OnOk result ((setup : Setup) (writes : Writing) (old : Played) → moment ≡ old.moment → IsReachedBy setup writes old.trace self.old.gateway
-            → PlaysOn setup writes old (script.FromCalled octets.now) (told_in tale.new.entries.items) self.new.gateway) }
+            → PlaysOn setup writes old (script.FromCalled octets.now) tale.new self.new.gateway) }
     {
         let is_on = self.gateway.sending().is_some();
         self.gateway.from_called(octets, moment)?;
@@ -149,7 +146,7 @@ impl Stage {
     /// Time goes on to a moment.
     fn tick(&mut self, moment: u64, scene: &mut Scene) -> Result<(), NoMemory>
         ensures { OnOk result ((setup : Setup) (writes : Writing) (old : Played) → IsWriting writes → IsReachedBy setup writes old.trace self.old.gateway
-            → PlaysOn setup writes old (script.Tick moment) (told_in scene.new.tale.entries.items) self.new.gateway) }
+            → PlaysOn setup writes old (script.Tick moment) scene.new.tale self.new.gateway) }
     {
         let call = self.gateway.call();
         let was_sending = self.gateway.sending().is_some();
@@ -164,7 +161,7 @@ impl Stage {
     /// What a tick gives on the calling leg is told, and why it refuses a page, where it does: behind the RTN.
     fn give_calling(&mut self, given: &Given, scene: &mut Scene) -> Result<(), NoMemory>
         ensures gateway { self.new.gateway ≡ self.old.gateway }
-        ensures refused { OnOk result (TellsRefusal given.now.refused (told_in scene.new.tale.entries.items)) }
+        ensures refused { OnOk result (TellsRefusal given.now.refused scene.new.tale) }
     {
         let found = self.calling.give(given, &mut scene.tale)?;
         keep_found(&mut scene.pages, found)?;
@@ -174,7 +171,7 @@ impl Stage {
     /// What a tick gives on the called leg is told.
     fn give_called(&mut self, given: &Given, scene: &mut Scene) -> Result<(), NoMemory>
         ensures gateway { self.new.gateway ≡ self.old.gateway }
-        ensures goes_on { OnOk result (GoesOn (told_in scene.old.tale.entries.items) (told_in scene.new.tale.entries.items)) }
+        ensures goes_on { OnOk result (GoesOn scene.old.tale scene.new.tale) }
     {
         let mut behind = Tale::new(self.alloc);
         let found = self.called.give(given, &mut behind)?;
@@ -184,7 +181,7 @@ impl Stage {
 
     /// The end of this call of the calling leg is told, where one was on and is over.
     fn tell_over(&self, call: Option<u32>, tale: &mut Tale) -> Result<(), NoMemory>
-        ensures { OnOk result (GoesOn (told_in tale.old.entries.items) (told_in tale.new.entries.items)) }
+        ensures { OnOk result (GoesOn tale.old tale.new) }
     {
         let Some(call) = call else {
             return Ok(());
@@ -199,7 +196,7 @@ impl Stage {
     /// Where a job is sent and none was before the tick, its call begins.
     fn begin_job(&mut self, was_sending: bool, tale: &mut Tale) -> Result<(), NoMemory>
         ensures gateway { self.new.gateway ≡ self.old.gateway }
-        ensures goes_on { OnOk result (GoesOn (told_in tale.old.entries.items) (told_in tale.new.entries.items)) }
+        ensures goes_on { OnOk result (GoesOn tale.old tale.new) }
     {
         if was_sending {
             return Ok(());
@@ -220,8 +217,8 @@ impl Stage {
     /// The job that ended is told last, by the line that `faxgate trace` prints, with why it ended so.
     fn end_job(&mut self, given: &Given, tale: &mut Tale) -> Result<(), NoMemory>
         ensures gateway { self.new.gateway ≡ self.old.gateway }
-        ensures told { OnOk result (EndsWithReport given.now.report (told_in tale.new.entries.items)) }
-        ensures goes_on { OnOk result (GoesOn (told_in tale.old.entries.items) (told_in tale.new.entries.items)) }
+        ensures told { OnOk result (EndsWithReport given.now.report tale.new) }
+        ensures goes_on { OnOk result (GoesOn tale.old tale.new) }
     {
         let Some(report) = &given.report else {
             return Ok(());
@@ -245,7 +242,7 @@ fn keep_found(pages: &mut Vec<FoundPage>, found: Option<FoundPage>) -> Result<()
 
 /// Why a tick refuses a page is told, where it does: behind what was told last, which is its RTN.
 fn tell_refusal(alloc: Global, given: &Given, tale: &mut Tale) -> Result<(), NoMemory>
-    ensures { OnOk result (TellsRefusal given.now.refused (told_in tale.new.entries.items)) }
+    ensures { OnOk result (TellsRefusal given.now.refused tale.new) }
 {
     let Some(refused) = &given.refused else {
         return Ok(());

@@ -1,8 +1,10 @@
-use Rattle.std.proofs.Common.{ℕ, ◌+◌, [], ◌∷◌, ◌++◌, refl, rules, arith, sym, ◌∙◌, ap, append_assoc, length-append}
+use Rattle.std.proofs.Common.{ℕ, ◌+◌, [], ◌∷◌, ◌++◌, map, refl, rules, arith, sym, ◌∙◌, ap, append_assoc, length-append}
 use Rattle.fax_command.specs.RowLines.{lines_of}
 use Rattle.fax_trace.specs.Playing.{nothing_played}
 use Rattle.fax_trace.proofs.ScriptLemmas.{TellEvents-push}
 use Rattle.fax_trace.proofs.TextLemmas.{text_of_more}
+use Rattle.fax_telling.specs.Tales.{line_text}
+use Rattle.fax_explain.proofs.LadderLemmas.{paragraph_lines}
 use Rattle.fax_explain.proofs.Told.{IsTold-push, explained}
 use Rattle.fax_explain.proofs.answer.explain_lines.Goals as goal
 
@@ -33,12 +35,13 @@ loop-line-preserved c =
       short = omega (arith, so_far.short, c.in-Some.ensures.shorter);
       events = so_far.events ++ event ∷ [];
       tell = TellEvents-push so_far.before so_far.events line event so_far.tell tells;
-      lines = so_far.lines ++ own.paragraph.lines;
+      lines = so_far.lines ++ map (line_text c.moment_of-moment.result) own.told;
       told = λ setup writes set written.
           let t = so_far.told setup writes set written in
-          IsTold-push setup writes so_far.events event so_far.lines own.paragraph.lines own.told _ _ _ _ t c.moment_of-moment.ensures own.paragraph.are_at
+          IsTold-push setup writes so_far.events event so_far.lines own.told _ _ _ _ t c.moment_of-moment.ensures
           (λ at. own.plays setup writes t.played written at t.reached);
-      text_is = text_of_more so_far.lines own.paragraph.lines c.loop-line.text.items _ _ so_far.text_is c.in_ok-add.ensures.ok (c.as_slice.ensures.value ∙ own.paragraph.text_is);
+      text_is = text_of_more so_far.lines (map (line_text c.moment_of-moment.result) own.told) c.loop-line.text.items _ _ so_far.text_is c.in_ok-add.ensures.ok
+          (c.as_slice.ensures.value ∙ own.text_is ∙ paragraph_lines c.moment_of-moment.result own.told);
     }
 
 pub loop-line-preserved-in_ok-add : goal.loop-line-preserved-in_ok-add
@@ -55,12 +58,13 @@ loop-line-preserved-in_ok-add c =
       short = omega (arith, so_far.short, c.in-Some.ensures.shorter);
       events = so_far.events ++ event ∷ [];
       tell = TellEvents-push so_far.before so_far.events line event so_far.tell tells;
-      lines = so_far.lines ++ own.paragraph.lines;
+      lines = so_far.lines ++ map (line_text c.moment_of-moment.result) own.told;
       told = λ setup writes set written.
           let t = so_far.told setup writes set written in
-          IsTold-push setup writes so_far.events event so_far.lines own.paragraph.lines own.told _ _ _ _ t c.moment_of-moment.ensures own.paragraph.are_at
+          IsTold-push setup writes so_far.events event so_far.lines own.told _ _ _ _ t c.moment_of-moment.ensures
           (λ at. own.plays setup writes t.played written at t.reached);
-      text_is = text_of_more so_far.lines own.paragraph.lines c.loop-line.text.items _ _ so_far.text_is c.in_ok-add.ensures.ok (c.as_slice.ensures.value ∙ own.paragraph.text_is);
+      text_is = text_of_more so_far.lines (map (line_text c.moment_of-moment.result) own.told) c.loop-line.text.items _ _ so_far.text_is c.in_ok-add.ensures.ok
+          (c.as_slice.ensures.value ∙ own.text_is ∙ paragraph_lines c.moment_of-moment.result own.told);
     }
 
 pub loop-line-preserved-in_ok-add-2 : goal.loop-line-preserved-in_ok-add-2
@@ -77,12 +81,13 @@ loop-line-preserved-in_ok-add-2 c =
       short = omega (arith, so_far.short, c.in-Some.ensures.shorter);
       events = so_far.events ++ event ∷ [];
       tell = TellEvents-push so_far.before so_far.events line event so_far.tell tells;
-      lines = so_far.lines ++ own.paragraph.lines;
+      lines = so_far.lines ++ map (line_text c.moment_of-moment.result) own.told;
       told = λ setup writes set written.
           let t = so_far.told setup writes set written in
-          IsTold-push setup writes so_far.events event so_far.lines own.paragraph.lines own.told _ _ _ _ t c.moment_of-moment.ensures own.paragraph.are_at
+          IsTold-push setup writes so_far.events event so_far.lines own.told _ _ _ _ t c.moment_of-moment.ensures
           (λ at. own.plays setup writes t.played written at t.reached);
-      text_is = text_of_more so_far.lines own.paragraph.lines c.loop-line.text.items _ _ so_far.text_is c.in_ok-add.ensures.ok (c.as_slice.ensures.value ∙ own.paragraph.text_is);
+      text_is = text_of_more so_far.lines (map (line_text c.moment_of-moment.result) own.told) c.loop-line.text.items _ _ so_far.text_is c.in_ok-add.ensures.ok
+          (c.as_slice.ensures.value ∙ own.text_is ∙ paragraph_lines c.moment_of-moment.result own.told);
     }
 
 pub returns : goal.returns

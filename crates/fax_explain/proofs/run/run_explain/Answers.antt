@@ -1,5 +1,4 @@
-use Rattle.std.proofs.Common.{◌≡◌, ℕ, List, ◌++◌, codes, refl, ◌∙◌, ap}
-use Rattle.fax_trace.specs.Kept.{status_of_answer, text_of_answer}
+use Rattle.std.proofs.Common.{ℕ, List, ◌++◌, codes, refl, ap}
 use Rattle.fax_explain.proofs.ExplainLemmas.{Explains-read, Explains-unread}
 use Rattle.fax_explain.proofs.run.run_explain.Goals as goal
 

@@ -1,4 +1,4 @@
-use Rattle.std.proofs.Common.{◌≡◌, ℕ, List, ◌++◌, codes, ◌∙◌, ap}
+use Rattle.std.proofs.Common.{rules, ℕ, List, ◌++◌, codes, ◌∙◌, ap}
 use Rattle.fax_trace.specs.declared.answer.PlayedScript.{PlayedScript}
 use Rattle.fax_trace.specs.Kept.{status_of_answer, text_of_answer}
 use Rattle.fax_trace.proofs.AnswerLemmas.{Answers-read, Answers-unread}
@@ -22,3 +22,18 @@ returns-in-Ok-write-clause-answers g c = λ other.
           (status ∙ ap (λ (p : PlayedScript). status_of_answer p.answer) w.played-is)
           (ap (λ (p : PlayedScript). text_of_answer p.answer) w.played-is ∙ ap (λ (text : List ℕ). text ++ codes "fault memory\n") w.new.ensures.items) c.in-Ok-write.ensures.text
     ]
+
+pub returns-in-Ok-write-clause-run : goal.returns-in-Ok-write-clause-run
+returns-in-Ok-write-clause-run g c = record {
+  over = record {
+    handed_on = search rules;
+    unwritten = search rules;
+    too_long = search rules;
+    reads = search rules;
+    given = search rules;
+    failed_read = search rules;
+    too_much = search rules;
+    failed_write = search rules;
+  };
+  stream = search rules;
+}

@@ -9,3 +9,6 @@ returns-clause-answers g c = λ other.
     let old = g.O.Sink.contents c.args.sink.now in
     let new = g.O.Sink.contents c.play_script.new.sink in
     Answers-played c.args.settings (g.I.Source.remaining c.args.source.now) c.play_script.result.played _ c.code.result old new (c.play_script.ensures.answers (λ four. other (is ∙ four))) is
+
+pub returns-clause-run : goal.returns-clause-run
+returns-clause-run g c = rw c.code.ensures c.play_script.ensures.run

@@ -1,0 +1,4 @@
+pub mod Tellings
+pub mod Tales
+pub mod Words
+pub mod Reasons

@@ -1,0 +1,22 @@
+//! What happens in a call, in words: frames and faults, why a page is refused and why a job ended so, and the lines that tell
+//! such things at a moment.
+//!
+//! What the words are stands in `specs/Words` and `specs/Reasons`, and what a line is in `specs/Tales`.
+#![tactic(auto)]
+
+mod command;
+mod exchange;
+mod lane;
+mod paragraph;
+mod reasons;
+mod tale;
+mod words;
+
+pub use command::Command;
+pub use exchange::Exchange;
+pub use lane::Lane;
+pub use reasons::{why_ended, why_refused};
+pub use tale::Tale;
+pub use words::{
+    name_of_kind, words_of_format, words_of_frame, words_of_numbers, words_of_wholeness,
+};
