@@ -7,7 +7,6 @@ use crate::answers::{
 };
 use crate::card::Card;
 use crate::clock::Stopwatch;
-use crate::keeping::Keeping;
 use crate::legs::{hang_up_answer, peer_answer, settle_legs};
 use crate::schedule::Schedule;
 use crate::sockets::{ServedLine, ServedLines};
@@ -24,6 +23,7 @@ use fax_hold::HoldingWire;
 use fax_jobs::Report;
 use fax_line::{Order, Pace, SLOTS};
 use fax_repeat::RepeatingWire;
+use fax_shelf::Keeping;
 use fax_spool::WaitingPage;
 use std::alloc::Global;
 use std::io::{Read, Write};
