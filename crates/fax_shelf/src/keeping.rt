@@ -1,17 +1,16 @@
 //! The pages of a server that are kept on a disk.
-ghost use Rattle.std.specs.Prelude.{◌≡◌, List, [], ◌∷◌, ◌++◌, OnOk};
+ghost use Rattle.std.specs.Prelude.{◌≡◌, List, OnOk};
 ghost use Rattle.fax_spool.specs.RecordOctets.{PageValue as SpoolPage};
-ghost use Rattle.fax_line.specs.declared.settling.PageToKeep.{PageToKeep as ToKeep};
 ghost use Rattle.fax_shelf.specs.Jobs.{EndsJob, EndsJobAt, PagesWait};
-ghost use Rattle.fax_shelf.specs.Keeping.{KeepsPages};
 
+use crate::putting::{CallTag, Names, put_pages};
 use crate::shelf::{Shelf, Waiting};
 use fax_hold::{KeepFault, Keeper};
 use fax_jobs::Report;
 use fax_keep::KeptFile;
 use fax_line::PageToKeep;
 use fax_spool::laws::files_share_what_waits;
-use fax_spool::{EndedRecord, PageRecord, Spool};
+use fax_spool::{EndedRecord, Spool};
 use sqlite_disk::Disk;
 use std::alloc::Global;
 
@@ -30,11 +29,8 @@ pub struct Keeping {
     life: u32,
     /// Of each line, in the order of the configuration.
     shelves: Vec<Shelf>,
-    /// The line whose page is kept next, and the tag of its call.
-    line: usize,
-    tag: Vec<u8>,
-    /// Whether that page was handed over.
-    is_handed: bool,
+    /// The tags of the calls whose pages are kept next.
+    tags: Vec<CallTag>,
     /// How many octets were put since a file was taken into use, at least.
     octets: usize,
     /// How many pages wait on the disk.
@@ -54,9 +50,7 @@ impl Keeping {
             spool,
             life,
             shelves,
-            line: 0,
-            tag: Vec::new(alloc),
-            is_handed: false,
+            tags: Vec::new(alloc),
             octets: MOST_OCTETS,
             kept,
         }
@@ -88,46 +82,40 @@ impl Keeping {
         }
     }
 
-    /// The next page is one of line i, whose call has this tag.
-    pub fn turn_to(&mut self, i: usize, tag: Option<&str>) {
-        self.line = i;
-        self.is_handed = false;
-        self.tag = match tag {
-            Some(tag) => match tag.as_bytes().to_vec(self.alloc) {
-                Ok(tag) => tag,
-                Err(_) => Vec::new(self.alloc),
-            },
-            None => Vec::new(self.alloc),
-        };
+    /// The pages of another turn of a slot are kept next.
+    pub fn begin_slot(&mut self) {
+        self.tags.clear();
     }
 
-    /// The page of this call that was to be kept next was handed over, or it could not be for want of memory: then it waits, and is
-    /// not on the disk.
-    pub fn note(&mut self, call: u32) {
-        if self.is_handed {
-            return;
+    /// One of them came in a call of line i that has this tag. Without memory for that the page is kept without one.
+    pub fn set_tag(&mut self, i: usize, tag: &str) {
+        if let Ok(tag) = tag.as_bytes().to_vec(self.alloc) {
+            let _ = self.tags.push(CallTag { line: i, tag });
         }
-        let number = self.next_number(call);
-        self.wait(call, number, false);
     }
 
-    /// Which page of this call the next one is, from 1 on.
-    fn next_number(&mut self, call: u32) -> u32
+    /// A page of line i that was confirmed in this call was not handed over, as for want of memory: it waits, and is not on the disk.
+    pub fn note(&mut self, i: usize, call: u32) {
+        let number = self.next_number(i, call);
+        self.wait(i, call, number, false);
+    }
+
+    /// Which page of this call of line i the next one is, from 1 on.
+    fn next_number(&mut self, i: usize, call: u32) -> u32
         ensures { self.new.spool ≡ self.old.spool }
     {
-        self.is_handed = true;
-        match self.shelves.get_mut(self.line) {
+        match self.shelves.get_mut(i) {
             Some(shelf) => shelf.number(call),
             None => 0,
         }
     }
 
-    /// A page waits, which is on the disk or not.
-    fn wait(&mut self, call: u32, number: u32, is_kept: bool)
+    /// A page of line i waits, which is on the disk or not.
+    fn wait(&mut self, i: usize, call: u32, number: u32, is_kept: bool)
         ensures { self.new.spool ≡ self.old.spool }
     {
         let life = self.life;
-        if let Some(shelf) = self.shelves.get_mut(self.line) {
+        if let Some(shelf) = self.shelves.get_mut(i) {
             shelf.add(Waiting {
                 life,
                 call,
@@ -137,15 +125,43 @@ impl Keeping {
         }
     }
 
+    /// Which pages of their calls these are, from 1 on: of the first of them, where memory is refused for more.
+    fn numbers_of(&mut self, pages: &[PageToKeep]) -> Vec<u32>
+        ensures { self.new.spool ≡ self.old.spool }
+    {
+        let mut numbers = Vec::new(self.alloc);
+        for page in pages {
+            if numbers.reserve(1).is_err() {
+                return numbers;
+            }
+            let number = self.next_number(page.line, page.kept.call);
+            numbers.push_reserved(number);
+        }
+        numbers
+    }
+
     /// A page that was put waits; where it is not on the disk, it waits all the same.
     fn add(&mut self, page: &PageToKeep, number: u32, is_kept: bool)
         ensures { self.new.spool ≡ self.old.spool }
     {
-        self.wait(page.kept.call, number, is_kept);
+        self.wait(page.line, page.kept.call, number, is_kept);
         if is_kept {
             self.kept = self.kept.saturating_add(1);
             let octets = page.text.as_slice().len().saturating_add(RECORD_OCTETS);
             self.octets = self.octets.saturating_add(octets);
+        }
+    }
+
+    /// The same of all that were put at once, with their numbers.
+    fn add_all(&mut self, pages: &[PageToKeep], numbers: &[u32], is_kept: bool)
+        ensures { self.new.spool ≡ self.old.spool }
+    {
+        for (k, page) in pages.iter().enumerate() {
+            let number = match numbers.get(k) {
+                Some(number) => *number,
+                None => self.next_number(page.line, page.kept.call),
+            };
+            self.add(page, number, is_kept);
         }
     }
 
@@ -239,66 +255,22 @@ fn change(alloc: Global, spool: &mut Spool<KeptFile>) -> Result<bool, KeepFault>
     Ok(was)
 }
 
-/// Puts the record of a page of this line into a spool: the page of this number in its call, in this life.
-fn put_page(
-    alloc: Global,
-    spool: &mut Spool<KeptFile>,
-    page: &PageToKeep,
-    name: (u32, u32),
-    line: Option<&[u8]>,
-    tag: &[u8],
-) -> Result<(), KeepFault>
-    ensures { OnOk result ((before : List ToKeep) → KeepsPages ⟦<KeptFile as Disk>⟧.seen ⟦<KeptFile as Disk>⟧.may_leave ⟦<KeptFile as Disk>⟧.is_usable spool.old before
-        → KeepsPages ⟦<KeptFile as Disk>⟧.seen ⟦<KeptFile as Disk>⟧.may_leave ⟦<KeptFile as Disk>⟧.is_usable spool.new (before ++ page.now ∷ [])) }
-{
-    let Some(line) = line else {
-        return Err(KeepFault);
-    };
-    if line.len() > 255 || tag.len() > 255 {
-        return Err(KeepFault);
-    }
-    let (life, number) = name;
-    let record = PageRecord {
-        life,
-        call: page.kept.call,
-        number,
-        format: page.kept.format,
-        closes: page.kept.closes,
-        line,
-        tag,
-        text: page.text.as_slice(),
-    };
-    match spool.put(alloc, &record) {
-        Ok(()) => Ok(()),
-        Err(_) => Err(KeepFault),
-    }
-}
-
 /// What it keeps are records of its spool.
 impl Keeper<PageToKeep> for Keeping {
     ghost use Rattle.fax_shelf.specs.Keeping.{KeepsPages};
 
     ghost keeps = { λ keeping pages. KeepsPages ⟦<KeptFile as Disk>⟧.seen ⟦<KeptFile as Disk>⟧.may_leave ⟦<KeptFile as Disk>⟧.is_usable keeping.spool pages };
 
-    fn keep(&mut self, page: PageToKeep) -> Result<(), KeepFault> {
-        let number = self.next_number(page.kept.call);
-        let answer = put_page(
-            self.alloc,
-            &mut self.spool,
-            &page,
-            (self.life, number),
-            line_of(self.shelves.as_slice(), self.line),
-            self.tag.as_slice(),
-        );
-        self.add(&page, number, answer.is_ok());
+    fn keep_all(&mut self, pages: &[PageToKeep]) -> Result<(), KeepFault> {
+        let numbers = self.numbers_of(pages);
+        let names = Names {
+            life: self.life,
+            numbers: numbers.as_slice(),
+            shelves: self.shelves.as_slice(),
+            tags: self.tags.as_slice(),
+        };
+        let answer = put_pages(self.alloc, &mut self.spool, pages, &names);
+        self.add_all(pages, numbers.as_slice(), answer.is_ok());
         answer
-    }
-}
-
-/// The name of line i.
-fn line_of(shelves: &[Shelf], i: usize) -> Option<&[u8]> {
-    match shelves.get(i) {
-        Some(shelf) => Some(shelf.line().as_bytes()),
-        None => None,
     }
 }

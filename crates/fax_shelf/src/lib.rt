@@ -4,6 +4,7 @@
 
 mod keeping;
 pub mod laws;
+mod putting;
 mod restored;
 mod shelf;
 
