@@ -5,8 +5,9 @@ ghost use Rattle.fax_gateway.specs.declared.side.Side.{Side as SideShown};
 ghost use Rattle.fax_repeat.specs.Policies.{IsToldAs};
 ghost use Rattle.fax_hold.specs.Holding.{Holds, Mutes, Releases, Sends, Speaks, as_told, fresh};
 
+use crate::line_wire::LineWire;
 use fax_gateway::{Side, Wire, WireFault};
-use fax_repeat::TimedWire;
+use fax_repeat::{RepeatingWire, TimedWire};
 use std::alloc::Global;
 use std::marker::Model;
 
@@ -195,4 +196,18 @@ impl<W: TimedWire + Drop> TimedWire for HoldingWire<W> {
     fn next_due(&self) -> Option<u64> {
         self.wire.next_due()
     }
+}
+
+/// It holds back.
+impl<W: TimedWire + Drop> LineWire for HoldingWire<W> {
+    ghost use Rattle.std.specs.Prelude.{Some};
+
+    ghost holding = { λ wire. Some wire };
+}
+
+/// It sends at once.
+impl<W: Wire + Drop> LineWire for RepeatingWire<W> {
+    ghost use Rattle.std.specs.Prelude.{None};
+
+    ghost holding = { λ wire. None };
 }

@@ -1,10 +1,9 @@
 //! A page is kept before what confirms it goes out.
-ghost use Rattle.std.specs.Prelude.{◌≡◌, ℕ, List, [], ◌∷◌, ◌++◌, true, false, OnOk, OnErr, Option, is_ok, is_some};
+ghost use Rattle.std.specs.Prelude.{◌<◌, ℕ, List, ◌∷◌, ◌++◌, OnOk, OnErr, Option, length};
 ghost use Rattle.fax_repeat.specs.Policies.{IsToldAs};
 ghost use Rattle.fax_hold.specs.Holding.{as_told};
 ghost use Rattle.fax_hold.specs.Keeping.{Deed, HasDone, HoldsBehind};
 ghost use Rattle.fax_hold.specs.Keeping.{Turn as TurnDeed};
-ghost use Rattle.std.specs.Option.{option_to_list};
 
 use crate::holding::HoldingWire;
 use fax_repeat::TimedWire;
@@ -20,54 +19,32 @@ pub trait Keeper<P> {
     /// It keeps these pages, in this order, whatever crash follows.
     ghost keeps: { Self → List P → Type 0 };
 
-    /// Keeps a page behind the others. At an `Err` it may be kept or not.
-    fn keep(&mut self, page: P) -> Result<(), KeepFault>
-        ensures kept { OnOk result ((before : List P) → keeps self.old before → keeps self.new (before ++ page ∷ [])) };
+    /// Keeps pages behind the others, in their order. At an `Err` each of them may be kept or not.
+    fn keep_all(&mut self, pages: &[P]) -> Result<(), KeepFault>
+        ensures kept { OnOk result ((before : List P) → keeps self.old before → keeps self.new (before ++ pages.now)) };
 }
 
-/// Keeps a page, where there is one.
-fn keep<P, K: Keeper<P>>(keeper: &mut K, page: Option<P>) -> Result<(), KeepFault>
-    ensures kept { OnOk result ((before : List P) → K.keeps keeper.old before → K.keeps keeper.new (before ++ option_to_list page)) }
-    ensures some { OnErr result (is_some page ≡ true) }
+/// Keeps pages, all of them at once. Where there are none the keeper is not asked.
+pub fn keep<P, K: Keeper<P>>(keeper: &mut K, pages: &[P]) -> Result<(), KeepFault>
+    ensures kept { OnOk result ((before : List P) → K.keeps keeper.old before → K.keeps keeper.new (before ++ pages.now)) }
+    ensures some { OnErr result (0 < length pages.now) }
 {
-    match page {
-        None => Ok(()),
-        Some(page) => {
-            keeper.keep(page)?;
-            Ok(())
-        }
+    if pages.is_empty() {
+        return Ok(());
     }
+    keeper.keep_all(pages)
 }
 
-/// The end of a turn: the page that it confirmed is kept, where it confirmed one, and then what it gave on the calling leg goes
-/// out. Where the page was not kept, that does not go out, and the leg is mute until the next call begins. A datagram whose send
-/// fails is lost.
-pub fn settle<P, K: Keeper<P>, W: TimedWire + Drop>(
-    keeper: &mut K,
-    wire: &mut HoldingWire<W>,
-    page: Option<P>,
-) -> Result<(), KeepFault>
-    ensures kept { OnOk result ((before : List P) → K.keeps keeper.old before → K.keeps keeper.new (before ++ option_to_list page)) }
-    ensures settled { (deeds : List Deed) (given : Option (List ℕ)) → HoldsBehind deeds given wire.old → HasDone (TurnDeed given (is_some page) (is_ok result) ∷ deeds) wire.new }
+/// The end of a turn, which confirmed a page or not, that is kept or not. Where it confirmed none, and where its page is kept, what
+/// it gave on the calling leg goes out; where its page is not kept that does not go out, and the leg is mute until the next call
+/// begins. A datagram whose send fails is lost.
+pub fn end_turn<W: TimedWire + Drop>(wire: &mut HoldingWire<W>, confirms: bool, is_kept: bool)
+    ensures settled { (deeds : List Deed) (given : Option (List ℕ)) → HoldsBehind deeds given wire.old → HasDone (TurnDeed given confirms is_kept ∷ deeds) wire.new }
     ensures told { IsToldAs (as_told wire.old) (as_told wire.new) }
 {
-    match keep(keeper, page) {
-        Ok(()) => {
-            let _ = wire.release();
-            Ok(())
-        }
-        Err(fault) => {
-            wire.mute();
-            Err(fault)
-        }
+    if confirms && !is_kept {
+        wire.mute();
+    } else {
+        let _ = wire.release();
     }
-}
-
-/// The end of a turn that confirmed a page which could not be handed to a keeper, as for want of memory: what the turn gave on the
-/// calling leg does not go out, and the leg is mute until the next call begins.
-pub fn refuse<W: TimedWire + Drop>(wire: &mut HoldingWire<W>)
-    ensures settled { (deeds : List Deed) (given : Option (List ℕ)) → HoldsBehind deeds given wire.old → HasDone (TurnDeed given true false ∷ deeds) wire.new }
-    ensures told { IsToldAs (as_told wire.old) (as_told wire.new) }
-{
-    wire.mute();
 }

@@ -9,6 +9,8 @@
 mod holding;
 mod keeping;
 pub mod laws;
+mod line_wire;
 
 pub use holding::HoldingWire;
-pub use keeping::{KeepFault, Keeper, refuse, settle};
+pub use keeping::{KeepFault, Keeper, end_turn, keep};
+pub use line_wire::LineWire;

@@ -16,6 +16,7 @@ use Rattle.fax_gateway.specs.Turns.{TellTicks}
 use Rattle.fax_gateway.specs.Driving.{Accepts, Carries, DriverValue, Entry, HasMade, Happens, IsTurn, RefusesRing, events, events_in}
 use Rattle.fax_gateway.proofs.DrivingLemmas.{grows_none, happens_more, refused_so, refuses, steps_ring}
 use Rattle.fax_repeat.specs.Policies.{IsToldAs}
+use Rattle.fax_hold.specs.Holding.{HoldingValue}
 use Rattle.fax_line.specs.Actions.{Action, AreSteps, Goes, IsStep, LineValue, Rests, Rings, TellsTurn, Turns, Wakes}
 
 -- the trace behind two logs
@@ -45,13 +46,13 @@ carries_told : (a b : Known) → IsToldAs a b → Carries [] a b
 carries_told a b told = record { received = told.received; sent = told.sent; failures = λ low. omega (arith, told.failures) }
 
 -- a line, part by part
-abbrev pub line_of : GatewayValue → DriverValue → Known → Option ℕ → Turned → LineValue
-line_of gateway driver wire wire_due turned = record { gateway = gateway; driver = driver; wire = wire; wire_due = wire_due; turned = turned }
+abbrev pub line_of : GatewayValue → DriverValue → Known → Option ℕ → Option HoldingValue → Turned → LineValue
+line_of gateway driver wire wire_due holding turned = record { gateway = gateway; driver = driver; wire = wire; wire_due = wire_due; holding = holding; turned = turned }
 
 pub goes_told :
-    (gateway : GatewayValue) (driver : DriverValue) (a b : Known) (m n : Option ℕ) (x y : Turned) → IsToldAs a b
-    → Goes [] (line_of gateway driver a m x) (line_of gateway driver b n y)
-goes_told gateway driver a b m n x y told = record {
+    (gateway : GatewayValue) (driver : DriverValue) (a b : Known) (m n : Option ℕ) (h k : Option HoldingValue) (x y : Turned) → IsToldAs a b
+    → Goes [] (line_of gateway driver a m h x) (line_of gateway driver b n k y)
+goes_told gateway driver a b m n h k x y told = record {
   goes = λ setup writes trace earlier writing reached made. ([], refl, record { reached = reached; wanting = tt; carried = carries_told a b told }, made);
 }
 
@@ -59,7 +60,7 @@ told_same : (a : Known) → IsToldAs a a
 told_same a = record { failures = refl; received = grows_none a.received; sent = grows_none a.sent }
 
 pub goes_none : (line : LineValue) → Goes [] line line
-goes_none line = goes_told line.gateway line.driver line.wire line.wire line.wire_due line.wire_due line.turned line.turned (told_same line.wire)
+goes_none line = goes_told line.gateway line.driver line.wire line.wire line.wire_due line.wire_due line.holding line.holding line.turned line.turned (told_same line.wire)
 
 pub goes_more : (older newer : List Action) (a b c : LineValue) → Goes older a b → Goes newer b c → Goes (newer ++ older) a c
 goes_more older newer a b c first second = record {
@@ -75,25 +76,25 @@ goes_more older newer a b c first second = record {
 
 -- a turn, by what a driver ensures of one
 turns_driven :
-    (now : ℕ) (old new : GatewayValue) (driver driven : DriverValue) (a b : Known) (m n : Option ℕ) (x y : Turned)
+    (now : ℕ) (old new : GatewayValue) (driver driven : DriverValue) (a b : Known) (m n : Option ℕ) (h k : Option HoldingValue) (x y : Turned)
     → ((setup : Setup) (writes : Writing) (trace : List Event) (earlier : List Entry) → IsWriting writes → IsReachedBy setup writes trace old → HasMade earlier driver
     → (turn : List Entry) × IsTurn now turn × Happens setup writes turn trace new a b × HasMade (turn ++ earlier) driven
     × TellTicks setup trace (events turn ++ trace) y.report y.kept y.refused y.gave_up)
-    → Goes (Turns now ∷ []) (line_of old driver a m x) (line_of new driven b n y)
-turns_driven now old new driver driven a b m n x y turned = record {
+    → Goes (Turns now ∷ []) (line_of old driver a m h x) (line_of new driven b n k y)
+turns_driven now old new driver driven a b m n h k x y turned = record {
   goes = λ setup writes trace earlier writing reached made.
       let t = turned setup writes trace earlier writing reached made in (t.0, one_step setup writes trace (Turns now) t.0 t.1, t.2, t.3);
 }
 
 pub goes_turn :
-    (now : ℕ) (old new : GatewayValue) (driver driven : DriverValue) (a b c : Known) (m n : Option ℕ) (x y : Turned) → IsToldAs a b
+    (now : ℕ) (old new : GatewayValue) (driver driven : DriverValue) (a b c : Known) (m n : Option ℕ) (h k : Option HoldingValue) (x y : Turned) → IsToldAs a b
     → ((setup : Setup) (writes : Writing) (trace : List Event) (earlier : List Entry) → IsWriting writes → IsReachedBy setup writes trace old → HasMade earlier driver
     → (turn : List Entry) × IsTurn now turn × Happens setup writes turn trace new b c × HasMade (turn ++ earlier) driven
     × TellTicks setup trace (events turn ++ trace) y.report y.kept y.refused y.gave_up)
-    → Goes (Turns now ∷ []) (line_of old driver a m x) (line_of new driven c n y)
-goes_turn now old new driver driven a b c m n x y told turned =
-    goes_more [] (Turns now ∷ []) (line_of old driver a m x) (line_of old driver b m x) (line_of new driven c n y)
-    (goes_told old driver a b m m x x told) (turns_driven now old new driver driven b c m n x y turned)
+    → Goes (Turns now ∷ []) (line_of old driver a m h x) (line_of new driven c n k y)
+goes_turn now old new driver driven a b c m n h k x y told turned =
+    goes_more [] (Turns now ∷ []) (line_of old driver a m h x) (line_of old driver b m h x) (line_of new driven c n k y)
+    (goes_told old driver a b m m h h x x told) (turns_driven now old new driver driven b c m n h k x y turned)
 
 -- what is done with the wire alone before a turn is not seen in it
 wire_first : (setup : Setup) (writes : Writing) (log : List Entry) (trace : List Event) (old new : GatewayValue) (a b c : Known)
@@ -103,12 +104,12 @@ wire_first setup writes log trace old new a b c reached told happens =
     (happens_more setup writes [] log trace old new a b c record { reached = reached; wanting = tt; carried = carries_told a b told } happens)
 
 pub tells_turn :
-    (now : ℕ) (old new : GatewayValue) (driver driven : DriverValue) (a b c : Known) (m n : Option ℕ) (x y : Turned) → IsToldAs a b
+    (now : ℕ) (old new : GatewayValue) (driver driven : DriverValue) (a b c : Known) (m n : Option ℕ) (h k : Option HoldingValue) (x y : Turned) → IsToldAs a b
     → ((setup : Setup) (writes : Writing) (trace : List Event) (earlier : List Entry) → IsWriting writes → IsReachedBy setup writes trace old → HasMade earlier driver
     → (turn : List Entry) × IsTurn now turn × Happens setup writes turn trace new b c × HasMade (turn ++ earlier) driven
     × TellTicks setup trace (events turn ++ trace) y.report y.kept y.refused y.gave_up)
-    → TellsTurn now (line_of old driver a m x) (line_of new driven c n y)
-tells_turn now old new driver driven a b c m n x y told turned = record {
+    → TellsTurn now (line_of old driver a m h x) (line_of new driven c n k y)
+tells_turn now old new driver driven a b c m n h k x y told turned = record {
   tells = λ setup writes trace earlier writing reached made.
       let t = turned setup writes trace earlier writing reached made in
       (t.0, t.1, wire_first setup writes t.0 trace old new a b c reached told t.2, t.3, t.4);
@@ -116,10 +117,10 @@ tells_turn now old new driver driven a b c m n x y told turned = record {
 
 -- a ring that is accepted, and one that is refused
 rings_accepted :
-    (now number : ℕ) (old new : GatewayValue) (driver : DriverValue) (a : Known) (m : Option ℕ) (x : Turned)
+    (now number : ℕ) (old new : GatewayValue) (driver : DriverValue) (a : Known) (m : Option ℕ) (h : Option HoldingValue) (x : Turned)
     → ((setup : Setup) (writes : Writing) (trace : List Event) → IsReachedBy setup writes trace old → IsReachedBy setup writes (Ring now number ∷ trace) new)
-    → Goes (Rings now (Some number) ∷ []) (line_of old driver a m x) (line_of new driver a m x)
-rings_accepted now number old new driver a m x rung = record {
+    → Goes (Rings now (Some number) ∷ []) (line_of old driver a m h x) (line_of new driver a m h x)
+rings_accepted now number old new driver a m h x rung = record {
   goes = λ setup writes trace earlier writing reached made.
       let log : List Entry = Accepts (Ring now number) ∷ [] in
       let s = steps_ring setup writes true now log trace earlier new a driver (inl (number, refl)) (tt, tt) (rung setup writes trace reached) made in
@@ -127,12 +128,12 @@ rings_accepted now number old new driver a m x rung = record {
 }
 
 pub goes_ring :
-    (now number : ℕ) (old new : GatewayValue) (driver : DriverValue) (a b : Known) (m n : Option ℕ) (x : Turned) → IsToldAs a b
+    (now number : ℕ) (old new : GatewayValue) (driver : DriverValue) (a b : Known) (m n : Option ℕ) (h k : Option HoldingValue) (x : Turned) → IsToldAs a b
     → ((setup : Setup) (writes : Writing) (trace : List Event) → IsReachedBy setup writes trace old → IsReachedBy setup writes (Ring now number ∷ trace) new)
-    → Goes (Rings now (Some number) ∷ []) (line_of old driver a m x) (line_of new driver b n x)
-goes_ring now number old new driver a b m n x told rung =
-    goes_more (Rings now (Some number) ∷ []) [] (line_of old driver a m x) (line_of new driver a m x) (line_of new driver b n x)
-    (rings_accepted now number old new driver a m x rung) (goes_told new driver a b m n x x told)
+    → Goes (Rings now (Some number) ∷ []) (line_of old driver a m h x) (line_of new driver b n k x)
+goes_ring now number old new driver a b m n h k x told rung =
+    goes_more (Rings now (Some number) ∷ []) [] (line_of old driver a m h x) (line_of new driver a m h x) (line_of new driver b n k x)
+    (rings_accepted now number old new driver a m h x rung) (goes_told new driver a b m n h k x x told)
 
 pub goes_refused :
     (now : ℕ) (line : LineValue) (fault : RingFault)

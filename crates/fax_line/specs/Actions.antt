@@ -12,14 +12,16 @@ use Rattle.fax_gateway.specs.Setups.{AreSetWith, Setup}
 use Rattle.fax_gateway.specs.Wires.{Known}
 use Rattle.fax_gateway.specs.Driving.{Accepts, DriverValue, Entry, HasMade, Happens, IsTurn, RefusesRing, events, failed_in_a_row, most_failed, receipts}
 use Rattle.fax_gateway.specs.Turns.{TellTicks}
+use Rattle.fax_hold.specs.Holding.{HoldingValue}
 
--- its gateway, what drives that, what is known of its wire and from when on that has something to do, and what the last turn
--- told
+-- its gateway, what drives that, what is known of its wire and from when on that has something to do, what the wire holds back
+-- where it does, and what the last turn told
 pub record LineValue : Type 0 where
   pub gateway : GatewayValue
   pub driver : DriverValue
   pub wire : Known
   pub wire_due : Option ℕ
+  pub holding : Option HoldingValue
   pub turned : Turned
 
 -- before the first turn

@@ -1,6 +1,6 @@
 -- All lines of a server, in forty slots: what is done with them, and what each goes through. Lists of deeds have the newest
 -- first. (This project's profile.)
-use Rattle.std.specs.Prelude.{◌≡◌, ℕ, ◌<◌, ◌≤◌, ◌+◌, ◌%◌, Bool, false, nat_eq, List, [], ◌∷◌, ◌++◌, length, map, slice_get, slice_index_or, Option, Some, if◌then◌else◌}
+use Rattle.std.specs.Prelude.{◌≡◌, ℕ, ◌<◌, ◌≤◌, ◌+◌, ◌-◌, ◌%◌, Bool, false, nat_eq, List, [], ◌∷◌, ◌++◌, length, map, slice_get, slice_index_or, Option, Some, if◌then◌else◌}
 use Rattle.std.specs.List.{All}
 use Rattle.fax_line.specs.Actions.{Action, LineValue, Rings, Wakes}
 use Rattle.fax_line.specs.Places.{GoesInPlace, IsBegun, IsNewPlace, PlaceValue, is_at_rest, visit_of}
@@ -20,6 +20,10 @@ slot_of line = line % 40
 -- the slot behind a slot
 abbrev pub slot_after : ℕ → ℕ
 slot_after slot = if nat_eq slot 39 then 0 else slot + 1
+
+-- the slot before a slot: the one that had the last turn, where this one has the next
+abbrev pub slot_before : ℕ → ℕ
+slot_before slot = if nat_eq slot 0 then 39 else slot - 1
 
 -- which lines are at rest at a moment
 abbrev pub rests_at : ℕ → List PlaceValue → ℕ → Bool

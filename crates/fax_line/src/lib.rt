@@ -2,7 +2,7 @@
 //!
 //! What is done with a line, and what comes of it, is told in `specs/Actions`; when it is left at rest, in `specs/Places`; what
 //! is done with all lines, in `specs/Deeds`; what is ordered and answered in a whole run, in `specs/Runs`; and what is kept of the
-//! page that a turn confirmed, before what confirms it goes out, in `specs/Settling`.
+//! pages that a slot's turns confirmed, before what confirms them goes out, in `specs/Settling`.
 #![tactic(auto)]
 
 pub mod laws;
@@ -17,4 +17,4 @@ pub use line::Line;
 pub use lines::{Lines, SLOTS};
 pub use order::{Order, Pace};
 pub use run::serve;
-pub use settling::PageToKeep;
+pub use settling::{PageToKeep, SlotEnd};

@@ -11,11 +11,12 @@ ghost use Rattle.fax_gateway.specs.Setups.{AreAllowed, Setup};
 ghost use Rattle.fax_gateway.specs.Turns.{call_dialled, call_ended, call_kept};
 ghost use Rattle.fax_gateway.specs.Restored.{call_shown};
 ghost use Rattle.fax_line.specs.Actions.{BeginsWith, Goes, IsNew, Rings, TellsTurn, Turns, call_of, no_turn};
+ghost use Rattle.fax_line.specs.Settling.{EndsTurn, IsOfTurnIf};
 
-use crate::settling::{PageToKeep, settle_turn};
+use crate::settling::{PageToKeep, page_to_keep};
 use fax_bits::NoMemory;
 use fax_gateway::{Buffer, Engine, Gateway, RestoredCall, RingFault, Settings, Side, Turned};
-use fax_hold::{HoldingWire, KeepFault, Keeper};
+use fax_hold::{HoldingWire, KeepFault, LineWire, end_turn};
 use fax_jobs::{Job, Report};
 use fax_pagestore::PackedRows;
 use fax_repeat::TimedWire;
@@ -25,7 +26,7 @@ use std::marker::Model;
 
 /// A gateway, what drives it, and its wire.
 #[derive(Drop)]
-pub struct Line<W: TimedWire + Drop> {
+pub struct Line<W: LineWire + Drop> {
     gateway: Gateway<PackedRows>,
     engine: Engine,
     wire: W,
@@ -33,17 +34,17 @@ pub struct Line<W: TimedWire + Drop> {
     turned: Turned,
 }
 
-impl<W: TimedWire + Drop> Model for Line<W> {
+impl<W: LineWire + Drop> Model for Line<W> {
     ghost use Rattle.fax_line.specs.Actions.{LineValue, TellsWhether};
 
     ghost Value = { LineValue };
 
-    ghost view = { λ l. record { gateway = l.gateway; driver = l.engine; wire = W.known l.wire; wire_due = W.due l.wire; turned = l.turned } };
+    ghost view = { λ l. record { gateway = l.gateway; driver = l.engine; wire = W.known l.wire; wire_due = W.due l.wire; holding = W.holding l.wire; turned = l.turned } };
 
     ghost invariant = { λ l. TellsWhether l.turned.goes_on l.engine };
 }
 
-impl<W: TimedWire + Drop> Line<W> {
+impl<W: LineWire + Drop> Line<W> {
     /// A line to which nothing came, with these settings. It takes memory for its gateway.
     pub fn new(alloc: Global, settings: Settings, wire: W) -> Result<Self, NoMemory>
         requires { AreAllowed settings }
@@ -189,24 +190,34 @@ impl<W: TimedWire + Drop> Line<W> {
 }
 
 impl<W: TimedWire + Drop> Line<HoldingWire<W>> {
-    /// The end of a turn: the page that it confirmed is kept, where it confirmed one, and then what it gave on the calling leg goes
-    /// out. Where the page was not kept that does not go out, and the leg is mute until the next call begins on it; the page's job
-    /// is sent all the same. The line goes through nothing in it.
-    pub fn settle<K: Keeper<PageToKeep>>(
-        &mut self,
+    /// The page that its last turn confirmed, as that of the line of this number; none where it confirmed none. An `Err`: it confirmed
+    /// one, and memory was refused for its text.
+    pub fn page_to_keep(
+        &self,
         alloc: Global,
-        keeper: &mut K,
-    ) -> Result<(), KeepFault>
+        number: usize,
+    ) -> Result<Option<PageToKeep>, KeepFault>
+        ensures ok { IfOk result (IsOfTurnIf number self.now) }
+        ensures err { OnErr result (is_some self.now.turned.kept ≡ true) }
+    {
+        match self.turned.kept {
+            None => Ok(None),
+            Some(kept) => match page_to_keep(alloc, number, &self.gateway, kept) {
+                Ok(page) => Ok(Some(page)),
+                Err(fault) => Err(fault),
+            },
+        }
+    }
+
+    /// The end of a turn, whose page is kept or not, where it confirmed one: what it gave on the calling leg goes out, but where its
+    /// page was not kept; then the leg is mute until the next call begins on it, and the page's job is sent all the same. The line
+    /// goes through nothing in it.
+    pub fn end_turn(&mut self, is_kept: bool)
+        ensures ends { EndsTurn is_kept self.old self.new }
         ensures goes { Goes [] self.old self.new }
         ensures turned { self.new.turned ≡ self.old.turned }
     {
-        settle_turn(
-            alloc,
-            &self.gateway,
-            self.turned.kept,
-            &mut self.wire,
-            keeper,
-        )
+        end_turn(&mut self.wire, self.turned.kept.is_some(), is_kept);
     }
 
     /// The end of a turn where pages are not kept: what it gave on the calling leg goes out. The line goes through nothing in it.

@@ -1,17 +1,19 @@
 //! All lines of a server, in forty slots.
-ghost use Rattle.std.specs.Prelude.{◌≡◌, ◌+◌, ◌<◌, List, [], ◌∷◌, ℕ, Bool, true, false, IsTrue, IfOk, OnOk, OnErr, IsSome, ◌≤◌, ◌↔◌, MatchOption, length, map, nat_eq, slice_index_or, if◌then◌else◌};
+ghost use Rattle.std.specs.Prelude.{◌≡◌, ◌+◌, ◌<◌, ◌&&◌, List, [], ◌∷◌, ◌++◌, ℕ, Bool, true, false, IsTrue, IfOk, OnOk, OnErr, IsSome, ◌≤◌, ◌↔◌, MatchOption, length, map, nat_eq, slice_index_or, if◌then◌else◌};
 ghost use Rattle.fax_gateway.specs.Restored.{RestoredCall};
 ghost use Rattle.fax_line.specs.Actions.{BeginsWith, IsNew, Rings, Wakes, call_of};
 ghost use Rattle.fax_line.specs.Places.{visit_of};
-ghost use Rattle.fax_line.specs.Deeds.{AreBegun, AreNew, EachGoes, IsAdded, IsLineAt, RingsLine, TurnsSlot, WakesLine, Went, have_turned, most_slots, rests_at, slot_after, slot_of};
+ghost use Rattle.fax_line.specs.Deeds.{AreBegun, AreNew, EachGoes, IsAdded, IsLineAt, RingsLine, TurnsSlot, WakesLine, Went, have_turned, most_slots, rests_at, slot_after, slot_before, slot_of};
 ghost use Rattle.fax_line.specs.Runs.{call_if};
+ghost use Rattle.fax_line.specs.Settling.{ArePagesOf, EachComes, EndsSlot, EndsWhere, HandsOverSlot, has_page, is_kept_in};
+ghost use Rattle.fax_line.specs.declared.settling.PageToKeep.{PageToKeep as ToKeep};
 
 use crate::line::Line;
 use crate::place::Place;
-use crate::settling::PageToKeep;
+use crate::settling::{PageToKeep, SlotEnd, has_page};
 use fax_bits::NoMemory;
 use fax_gateway::{Buffer, RingFault};
-use fax_hold::{HoldingWire, KeepFault, Keeper};
+use fax_hold::{HoldingWire, Keeper, LineWire, keep};
 use fax_repeat::TimedWire;
 use std::alloc::{AllocError, Global};
 use std::marker::Model;
@@ -23,7 +25,7 @@ pub const SLOTS: usize = 40;
 /// each line has one each 40 ms: there it is turned, or left at rest where nothing is due on it and it was not woken since it
 /// was turned last. All share one buffer, which is lent to the line whose turn it is.
 #[derive(Drop)]
-pub struct Lines<W: TimedWire + Drop> {
+pub struct Lines<W: LineWire + Drop> {
     places: Vec<Place<W>>,
     alloc: Global,
     buffer: Buffer,
@@ -31,7 +33,7 @@ pub struct Lines<W: TimedWire + Drop> {
     slot: usize,
 }
 
-impl<W: TimedWire + Drop> Model for Lines<W> {
+impl<W: LineWire + Drop> Model for Lines<W> {
     ghost use Rattle.std.specs.Prelude.{◌<◌};
     ghost use Rattle.fax_line.specs.Deeds.{LinesValue, most_slots};
 
@@ -42,7 +44,7 @@ impl<W: TimedWire + Drop> Model for Lines<W> {
     ghost invariant = { λ l. l.slot < most_slots };
 }
 
-impl<W: TimedWire + Drop> Lines<W> {
+impl<W: LineWire + Drop> Lines<W> {
     /// No lines. It takes memory for their buffer.
     pub fn new(alloc: Global) -> Result<Self, NoMemory>
         ensures { IfOk result (λ lines. lines ≡ record { lines = []; slot = 0 }) }
@@ -144,18 +146,19 @@ impl<W: TimedWire + Drop> Lines<W> {
 }
 
 impl<W: TimedWire + Drop> Lines<HoldingWire<W>> {
-    /// The end of a turn of line i, counted from 0, where there is one: the page that it confirmed is kept, where it confirmed one,
-    /// and then what it gave on the calling leg goes out. Where the page was not kept that does not go out, and the leg is mute
-    /// until the next call begins on it.
-    pub fn settle<K: Keeper<PageToKeep>>(
-        &mut self,
-        i: usize,
-        keeper: &mut K,
-    ) -> Result<(), KeepFault>
+    /// The end of the turn of the slot that had the last one. The pages that its lines confirmed are kept, all of them at once; then
+    /// what these lines gave on their calling legs goes out. Where the pages were not kept none of that does, and these legs are mute
+    /// until the next calls begin on them; where memory was refused for a page's text that is so of its line alone. What a line gave
+    /// that confirmed none goes out before. A line of the slot that was left at rest, and a line of another slot, is not touched.
+    pub fn settle_slot<K: Keeper<PageToKeep>>(&mut self, keeper: &mut K) -> SlotEnd
         ensures went { Went [] self.old.lines self.new.lines }
         ensures slot { self.new.slot ≡ self.old.slot }
+        ensures pages { ArePagesOf (slot_before self.old.slot) self.old.lines result.pages.items }
+        ensures kept { OnOk result.answer ((before : List ToKeep) → K.keeps keeper.old before → K.keeps keeper.new (before ++ result.pages.items)) }
+        ensures settled { EndsSlot (slot_before self.old.slot) (is_kept_in result) self.old.lines self.new.lines }
     {
-        settle_one(self.places.as_mut_slice(), self.alloc, i, keeper)
+        let slot = slot_before(self.slot);
+        settle_places(self.places.as_mut_slice(), self.alloc, slot, keeper)
     }
 
     /// The end of a turn of line i where pages are not kept: what it gave on the calling leg goes out.
@@ -176,6 +179,15 @@ fn slot_behind(slot: usize) -> usize
     if slot == SLOTS - 1 { 0 } else { slot + 1 }
 }
 
+/// The slot before a slot.
+fn slot_before(slot: usize) -> usize
+    requires { slot < most_slots }
+    ensures before { result ≡ slot_before slot }
+    ensures low { result < most_slots }
+{
+    if slot == 0 { SLOTS - 1 } else { slot - 1 }
+}
+
 /// The slot half a round away.
 fn slot_across(slot: usize) -> usize
     requires { slot < most_slots }
@@ -185,7 +197,7 @@ fn slot_across(slot: usize) -> usize
 }
 
 /// The turn of a slot, and the wires of the slot half a round away are told the time.
-fn serve_slot<W: TimedWire + Drop>(
+fn serve_slot<W: LineWire + Drop>(
     places: &mut [Place<W>],
     buffer: &mut Buffer,
     slot: usize,
@@ -199,7 +211,7 @@ fn serve_slot<W: TimedWire + Drop>(
 }
 
 /// A turn of each line of a slot, but for those that are left at rest.
-fn turn_slot<W: TimedWire + Drop>(
+fn turn_slot<W: LineWire + Drop>(
     places: &mut [Place<W>],
     buffer: &mut Buffer,
     slot: usize,
@@ -218,7 +230,7 @@ fn turn_slot<W: TimedWire + Drop>(
 }
 
 /// The wire of each line of a slot is told the time, where something is due.
-fn tell_slot<W: TimedWire + Drop>(places: &mut [Place<W>], slot: usize, now: u64)
+fn tell_slot<W: LineWire + Drop>(places: &mut [Place<W>], slot: usize, now: u64)
     requires { slot < most_slots }
     ensures { EachGoes (λ i. []) places.old places.new }
 {
@@ -232,7 +244,7 @@ fn tell_slot<W: TimedWire + Drop>(places: &mut [Place<W>], slot: usize, now: u64
 }
 
 /// A ring of line i, where there is one.
-fn ring_one<W: TimedWire + Drop>(
+fn ring_one<W: LineWire + Drop>(
     places: &mut [Place<W>],
     i: usize,
     now: u64,
@@ -247,7 +259,7 @@ fn ring_one<W: TimedWire + Drop>(
 }
 
 /// Line i is woken, where there is one.
-fn wake_one<W: TimedWire + Drop>(places: &mut [Place<W>], i: usize)
+fn wake_one<W: LineWire + Drop>(places: &mut [Place<W>], i: usize)
     ensures { EachGoes (λ line. if nat_eq line i then Wakes ∷ [] else []) places.old places.new }
 {
     if i < places.len() {
@@ -255,19 +267,66 @@ fn wake_one<W: TimedWire + Drop>(places: &mut [Place<W>], i: usize)
     }
 }
 
-/// The end of a turn of line i, where there is one, whose page goes to this keeper.
-fn settle_one<K: Keeper<PageToKeep>, W: TimedWire + Drop>(
+/// The end of a slot's turn.
+fn settle_places<K: Keeper<PageToKeep>, W: TimedWire + Drop>(
     places: &mut [Place<HoldingWire<W>>],
     alloc: Global,
-    i: usize,
+    slot: usize,
     keeper: &mut K,
-) -> Result<(), KeepFault>
-    ensures { EachGoes (λ line. []) places.old places.new }
+) -> SlotEnd
+    requires { slot < most_slots }
+    ensures went { EachGoes (λ i. []) places.old places.new }
+    ensures pages { ArePagesOf slot places.old result.pages.items }
+    ensures kept { OnOk result.answer ((before : List ToKeep) → K.keeps keeper.old before → K.keeps keeper.new (before ++ result.pages.items)) }
+    ensures settled { EndsSlot slot (is_kept_in result) places.old places.new }
 {
-    if i >= places.len() {
-        return Ok(());
+    let pages = hand_over_slot(places, alloc, slot);
+    let answer = keep(keeper, pages.as_slice());
+    end_slot(places, pages.as_slice(), slot, answer.is_ok());
+    SlotEnd { pages, answer }
+}
+
+/// The pages that the lines of a slot confirmed in its turn, one behind the other. The lines that confirmed none, and those whose
+/// pages memory was refused for, end their turns.
+fn hand_over_slot<W: TimedWire + Drop>(
+    places: &mut [Place<HoldingWire<W>>],
+    alloc: Global,
+    slot: usize,
+) -> Vec<PageToKeep>
+    requires { slot < most_slots }
+    ensures went { EachGoes (λ i. []) places.old places.new }
+    ensures pages { ArePagesOf slot places.old result.items }
+    ensures hands { HandsOverSlot slot result.items places.old places.new }
+{
+    let mut pages = Vec::new(alloc);
+    let rounds = places.len() / SLOTS + 1;
+    for round in 0..rounds {
+        let i = round * SLOTS + slot;
+        if i < places.len() {
+            places[i].hand_over(alloc, i, &mut pages);
+        }
     }
-    places[i].settle(alloc, keeper)
+    pages
+}
+
+/// The lines of a slot that wait for these pages end their turns.
+fn end_slot<W: TimedWire + Drop>(
+    places: &mut [Place<HoldingWire<W>>],
+    pages: &[PageToKeep],
+    slot: usize,
+    is_kept: bool,
+)
+    requires { slot < most_slots }
+    ensures went { EachGoes (λ i. []) places.old places.new }
+    ensures ends { EachComes (λ i. EndsWhere (nat_eq (slot_of i) slot && has_page pages.now i) is_kept) places.old places.new }
+{
+    let rounds = places.len() / SLOTS + 1;
+    for round in 0..rounds {
+        let i = round * SLOTS + slot;
+        if i < places.len() && has_page(pages, i) {
+            places[i].end_turn(is_kept);
+        }
+    }
 }
 
 /// The end of a turn of line i, where there is one, and pages are not kept.

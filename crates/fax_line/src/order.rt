@@ -6,7 +6,7 @@ ghost use Rattle.fax_line.specs.Words.{Answers, Asks, Word};
 
 use crate::lines::Lines;
 use fax_gateway::RingFault;
-use fax_repeat::TimedWire;
+use fax_hold::LineWire;
 
 /// What is to be done next, and when.
 #[derive(Clone, Copy, PartialEq, Eq, Debug)]
@@ -22,7 +22,7 @@ pub enum Order {
 /// What says what is to be done next: a clock, and those who give orders. It sees the lines, and may report of them. Lines do
 /// not ask their wires whether something came while nothing is due on them: a pace that is not told of it wakes each of them
 /// before the turn of its slot.
-pub trait Pace<W: TimedWire + Drop> {
+pub trait Pace<W: LineWire + Drop> {
     /// Of one that tells it: what it answered to `next`, and what it was told of rings, the newest first.
     ghost words: { Self → Option (List Word) };
 

@@ -4,11 +4,12 @@ ghost use Rattle.fax_timers.specs.Moments.{is_due};
 ghost use Rattle.fax_gateway.specs.Restored.{RestoredCall};
 ghost use Rattle.fax_line.specs.Actions.{BeginsWith, Rings, Wakes, call_of};
 ghost use Rattle.fax_line.specs.Places.{BeginsInPlace, GoesInPlace, is_at_rest, visit_of};
+ghost use Rattle.fax_line.specs.Settling.{EndsTurn, HandsOver};
 
 use crate::line::Line;
 use crate::settling::PageToKeep;
 use fax_gateway::{Buffer, RingFault};
-use fax_hold::{HoldingWire, KeepFault, Keeper};
+use fax_hold::{HoldingWire, LineWire};
 use fax_repeat::TimedWire;
 use std::alloc::{AllocError, Global};
 use std::marker::Model;
@@ -16,7 +17,7 @@ use std::marker::Model;
 /// A line in its slot, and when it is left at rest. What is looked at in each turn stands here, so that a line at rest costs
 /// a look at a few octets; the line itself lies elsewhere.
 #[derive(Drop)]
-pub(crate) struct Place<W: TimedWire + Drop> {
+pub(crate) struct Place<W: LineWire + Drop> {
     /// From which moment on something is due on it. `None`: nothing is until something comes.
     due: Option<u64>,
     /// Whether it was woken, and not turned since.
@@ -26,7 +27,7 @@ pub(crate) struct Place<W: TimedWire + Drop> {
     line: Box<Line<W>>,
 }
 
-impl<W: TimedWire + Drop> Model for Place<W> {
+impl<W: LineWire + Drop> Model for Place<W> {
     ghost use Rattle.fax_line.specs.Places.{IsDueOn, PlaceValue};
 
     ghost Value = { PlaceValue };
@@ -36,7 +37,7 @@ impl<W: TimedWire + Drop> Model for Place<W> {
     ghost invariant = { λ p. IsDueOn p.due p.line.value };
 }
 
-impl<W: TimedWire + Drop> Place<W> {
+impl<W: LineWire + Drop> Place<W> {
     /// The place of a line, which is turned in the first turn of its slot. It takes memory for the line.
     pub fn new(alloc: Global, line: Line<W>) -> Result<Self, AllocError>
         ensures line { IfOk result (λ place. place.line ≡ line) }
@@ -121,18 +122,32 @@ impl<W: TimedWire + Drop> Place<W> {
 }
 
 impl<W: TimedWire + Drop> Place<HoldingWire<W>> {
-    /// The end of a turn of the line, whose page goes to this keeper.
-    pub fn settle<K: Keeper<PageToKeep>>(
-        &mut self,
-        alloc: Global,
-        keeper: &mut K,
-    ) -> Result<(), KeepFault>
+    /// The page that the turn of the line confirmed joins those that are to be kept, as that of the line of this number. Where it
+    /// confirmed none, or memory was refused for it, the turn ends at once.
+    pub fn hand_over(&mut self, alloc: Global, number: usize, pages: &mut Vec<PageToKeep>)
+        ensures goes { GoesInPlace [] self.old self.new }
+        ensures turned { self.new.turned ≡ self.old.turned }
+        ensures hands { HandsOver self.old.turned number self.old self.new pages.old.items pages.new.items }
+    {
+        if !self.has_turned {
+            return;
+        }
+        if let Ok(Some(page)) = self.line.page_to_keep(alloc, number)
+            && pages.push(page).is_ok()
+        {
+            return;
+        }
+        self.end_turn(false);
+    }
+
+    /// The end of a turn of the line, whose page is kept or not, where it confirmed one.
+    pub fn end_turn(&mut self, is_kept: bool)
+        ensures ends { EndsTurn is_kept self.old.line self.new.line }
         ensures goes { GoesInPlace [] self.old self.new }
         ensures turned { self.new.turned ≡ self.old.turned }
     {
-        let answer = self.line.settle(alloc, keeper);
+        self.line.end_turn(is_kept);
         self.due = self.line.next_due();
-        answer
     }
 
     /// The end of a turn of the line, where pages are not kept.

@@ -1,4 +1,1 @@
 mod Goodbyes
-mod Naming
-mod Records
-mod Waits

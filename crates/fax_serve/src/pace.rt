@@ -7,7 +7,6 @@ use crate::answers::{
 };
 use crate::card::Card;
 use crate::clock::Stopwatch;
-use crate::keeping::Keeping;
 use crate::legs::{hang_up_answer, peer_answer, settle_legs};
 use crate::schedule::Schedule;
 use crate::sockets::{ServedLine, ServedLines};
@@ -22,8 +21,9 @@ use fax_events::{What, write_metrics};
 use fax_gateway::{Kept, RingFault, Side};
 use fax_hold::HoldingWire;
 use fax_jobs::Report;
-use fax_line::{Order, Pace, SLOTS};
+use fax_line::{Order, Pace, SLOTS, SlotEnd};
 use fax_repeat::RepeatingWire;
+use fax_shelf::Keeping;
 use fax_spool::WaitingPage;
 use std::alloc::Global;
 use std::io::{Read, Write};
@@ -143,50 +143,57 @@ impl<'a, C: Clock, I: Read + Drop, O: Write + Drop> RealPace<'a, C, I, O> {
         }
     }
 
-    /// The end of a slot's turn: of each line that had one, the page that it confirmed is put on the disk, and then what it gave
-    /// on the calling leg goes out.
+    /// The end of a slot's turn: the pages that its lines confirmed are put on the disk, all of them at once, and then what these
+    /// lines gave on the calling leg goes out. What the other lines gave does not wait for that.
     fn settle_slot(&mut self, slot: usize, lines: &mut ServedLines)
         ensures went { Went [] lines.old.lines lines.new.lines }
         ensures slot { lines.new.slot ≡ lines.old.slot }
     {
-        let rounds = lines.len() / SLOTS + 1;
-        for round in 0..rounds {
-            let i = round.saturating_mul(SLOTS).saturating_add(slot);
-            if lines.has_turned(i) {
-                self.settle_line(i, lines);
-            }
+        if self.keeping.is_some() {
+            self.keep_slot(slot, lines);
+        } else {
+            let_out_slot(slot, lines);
         }
     }
 
-    /// The same of line i.
-    fn settle_line(&mut self, i: usize, lines: &mut ServedLines)
-        ensures went { Went [] lines.old.lines lines.new.lines }
-        ensures slot { lines.new.slot ≡ lines.old.slot }
-    {
-        match kept_in(lines, i) {
-            Some(kept) if self.keeping.is_some() => self.keep(i, kept, lines),
-            Some(_) | None => lines.let_out(i),
-        }
-    }
-
-    /// The page that line i confirmed in its last turn is put on the disk, and then what it gave on the calling leg goes out.
+    /// The same where pages are kept on a disk. Those that were not kept are told.
     #[tactic(auto, using(fax_line::proofs::Running::went_none))]
-    fn keep(&mut self, i: usize, kept: Kept, lines: &mut ServedLines)
+    fn keep_slot(&mut self, slot: usize, lines: &mut ServedLines)
         ensures went { Went [] lines.old.lines lines.new.lines }
         ensures slot { lines.new.slot ≡ lines.old.slot }
     {
         let Some(keeping) = &mut self.keeping else {
             return;
         };
-        let before = self.clock.micros().unwrap_or(0);
-        keeping.turn_to(i, tag_of(self.cards.as_slice(), i, kept.call));
-        let answer = lines.settle(i, keeping);
-        keeping.note(kept.call);
-        let behind = self.clock.micros().unwrap_or(0);
-        self.teller.count_put(behind.saturating_sub(before));
-        if answer.is_err()
-            && let Some(card) = self.cards.get(i)
-        {
+        let confirms = set_tags(keeping, self.cards.as_slice(), slot, lines);
+        let before = micros_if(confirms, &self.clock);
+        let end = lines.settle_slot(keeping);
+        if confirms {
+            let behind = self.clock.micros().unwrap_or(0);
+            self.teller.count_put(behind.saturating_sub(before));
+            self.tell_lost(slot, &end, lines);
+        }
+    }
+
+    /// Tells the pages that lines of a slot confirmed in its turn and that were not kept.
+    fn tell_lost(&mut self, slot: usize, end: &SlotEnd, lines: &ServedLines) {
+        let rounds = lines.len() / SLOTS + 1;
+        for round in 0..rounds {
+            let i = round.saturating_mul(SLOTS).saturating_add(slot);
+            if let Some(kept) = kept_in(lines, i)
+                && !end.is_kept(i)
+            {
+                self.tell_lost_page(i, kept, end.has_page(i));
+            }
+        }
+    }
+
+    /// Tells that a page of line i was not kept. One that was not handed to the spool waits all the same.
+    fn tell_lost_page(&mut self, i: usize, kept: Kept, was_handed: bool) {
+        if !was_handed && let Some(keeping) = &mut self.keeping {
+            keeping.note(i, kept.call);
+        }
+        if let Some(card) = self.cards.get(i) {
             self.teller
                 .tell_not_kept(card.name(), kept.call, card.tag(kept.call), self.now);
         }
@@ -556,11 +563,56 @@ fn moment_of(now: u64, late: u64) -> u64
     }
 }
 
-/// The page that line i confirmed in its last turn.
+/// The page that line i confirmed in the last turn of its slot.
 fn kept_in(lines: &ServedLines, i: usize) -> Option<Kept> {
     match lines.line(i) {
-        Some(line) => line.turned().kept,
-        None => None,
+        Some(line) if lines.has_turned(i) => line.turned().kept,
+        Some(_) | None => None,
+    }
+}
+
+/// How many microseconds passed, where that is wanted and the clock tells it; else 0.
+fn micros_if<C: Clock>(is_wanted: bool, clock: &Stopwatch<'_, C>) -> u64 {
+    if is_wanted {
+        clock.micros().unwrap_or(0)
+    } else {
+        0
+    }
+}
+
+/// What each line of a slot that had a turn gave on the calling leg goes out.
+fn let_out_slot(slot: usize, lines: &mut ServedLines)
+    ensures went { Went [] lines.old.lines lines.new.lines }
+    ensures slot { lines.new.slot ≡ lines.old.slot }
+{
+    let rounds = lines.len() / SLOTS + 1;
+    for round in 0..rounds {
+        let i = round.saturating_mul(SLOTS).saturating_add(slot);
+        if lines.has_turned(i) {
+            lines.let_out(i);
+        }
+    }
+}
+
+/// The tags of the calls in which lines of a slot confirmed pages in its last turn are noted. It answers whether one did.
+fn set_tags(keeping: &mut Keeping, cards: &[Card], slot: usize, lines: &ServedLines) -> bool {
+    keeping.begin_slot();
+    let mut confirms = false;
+    let rounds = lines.len() / SLOTS + 1;
+    for round in 0..rounds {
+        let i = round.saturating_mul(SLOTS).saturating_add(slot);
+        if let Some(kept) = kept_in(lines, i) {
+            confirms = true;
+            set_tag(keeping, i, tag_of(cards, i, kept.call));
+        }
+    }
+    confirms
+}
+
+/// The tag of the call of line i is noted, where it has one.
+fn set_tag(keeping: &mut Keeping, i: usize, tag: Option<&str>) {
+    if let Some(tag) = tag {
+        keeping.set_tag(i, tag);
     }
 }
 

@@ -7,8 +7,6 @@ ghost use Rattle.fax_line.specs.Deeds.{AreBegun, AreNew};
 
 use crate::fault::ServeFault;
 use crate::leg_socket::LegSocket;
-use crate::restored::{Restored, restore_line};
-use crate::shelf::Shelf;
 use crate::udp_wire::UdpWire;
 use fax_config::{LegConfig, LineConfig, Repeat};
 use fax_control::Leg;
@@ -17,6 +15,7 @@ use fax_hold::HoldingWire;
 use fax_line::{Line, Lines};
 use fax_pagestore::PackedRows;
 use fax_repeat::{RepeatPolicy, RepeatingWire};
+use fax_shelf::{Restored, Shelf, restore_line};
 use fax_spool::WaitingPage;
 use std::alloc::Global;
 use std::io;

@@ -104,7 +104,7 @@ impl<I: Read + Drop, O: Write + Drop> Teller<I, O> {
         self.tell(line, at, What::NotKept(call, tag));
     }
 
-    /// A page was handed to the spool, which took so many microseconds.
+    /// The pages of a slot's turn were handed to the spool at once, which took so many microseconds.
     pub(crate) fn count_put(&mut self, micros: u64) {
         self.counters.puts = self.counters.puts.saturating_add(1);
         self.counters.put_micros = self.counters.put_micros.saturating_add(micros);

@@ -1,8 +1,0 @@
-use Rattle.std.proofs.Common.{◌<◌, List}
-use Rattle.fax_spool.specs.Spools.{epoch_now, epoch_of}
-use Rattle.fax_spool.specs.declared.kept_record.KeptRecord.{KeptRecord}
-use Rattle.fax_serve.proofs.Waits.{wait_changed}
-use Rattle.fax_serve.proofs.keeping.change.Goals as goal
-
-pub returns : goal.returns
-returns c = wait_changed (λ (news : List KeptRecord). epoch_of news < epoch_now c.change.new.self) c.args.spool.now c.change.new.self c.in-Ok.was (epoch_now c.change.new.self) c.in-Ok.ensures.changed

@@ -1,0 +1,127 @@
+-- What a job's end names, of pages that are in the order in which they came.
+use Rattle.std.proofs.Common.{◌≡◌, ◌∙◌, ℕ, zero, suc, ◌+◌, ◌<◌, ◌≤◌, ◌⊎◌, inl, inr, Bool, true, false, not, cond, List, [], ◌∷◌, ◌++◌, length, take, drop, count_by, Option, Some, None, slice_get, refl, sym, ap, subst, ◌-◌, arith, nat_eq, nat_le, nat_lt, bytes_eq}
+use Rattle.std.specs.List.{filter}
+use Rattle.std.proofs.lemmas.Bool.Decides.{nat_tests}
+use Rattle.std.proofs.lemmas.Slice.Eq.{bytes_eq-Decides}
+use Rattle.fax_spool.specs.RecordOctets.{EndedValue}
+use Rattle.fax_spool.specs.Waits.{PageName, ends}
+use Rattle.fax_shelf.specs.declared.shelf.Waiting.{Waiting}
+use Rattle.fax_shelf.specs.declared.shelf.Ended.{Ended}
+use Rattle.fax_shelf.specs.Shelves.{AreBehind, AreInOrder, IsBehind, IsEndOf, NamesFirst, left_by, name_in}
+
+-- ---- one page
+
+same_line : (line : List ℕ) → bytes_eq line line ≡ true
+same_line line = (bytes_eq-Decides line line).1 refl
+
+had : (life call first pages number : ℕ) (e : EndedValue) (line : List ℕ) → e.life ≡ life → e.call ≡ call → e.line ≡ line → e.first ≡ first → e.pages ≡ pages → first ≤ number → number < first + pages
+    → ends e (record { life = life; call = call; number = number; line = line }) ≡ true
+had life call first pages number e line a b c d f low high = let same = same_line line in rw (a, b, c, d, f) (grind (arith, nat_tests))
+
+had_not : (e : EndedValue) (page : PageName) → (e.life ≡ page.life → e.call ≡ page.call → e.first + e.pages ≤ page.number) → ends e page ≡ false
+had_not e page h = grind (arith, nat_tests)
+
+-- a page behind the first one of a job, up to its last one
+own : (e : EndedValue) (line : List ℕ) (first page last : Waiting) → IsBehind page first → (page ≡ last) ⊎ IsBehind last page → first.life ≡ last.life → first.call ≡ last.call
+    → e.life ≡ first.life → e.call ≡ first.call → e.line ≡ line → e.first ≡ first.number → e.first + e.pages ≡ last.number + 1 → ends e (name_in line page) ≡ true
+own e line first page last behind (inl is) life call a b c d end =
+    let high : page.number ≡ last.number = ap (λ (w : Waiting). w.number) is in
+    let l : page.life ≡ last.life = ap (λ (w : Waiting). w.life) is in
+    let k : page.call ≡ last.call = ap (λ (w : Waiting). w.call) is in
+    let low : first.number < page.number = grind arith in
+    had page.life page.call e.first e.pages page.number e line (a ∙ life ∙ sym l) (b ∙ call ∙ sym k) c refl refl (omega arith) (omega arith)
+own e line first page last behind (inr before) life call a b c d end =
+    let l : page.life ≡ first.life = grind arith in
+    let k : page.call ≡ first.call = grind arith in
+    let low : first.number < page.number = grind arith in
+    let high : page.number < last.number = grind arith in
+    had page.life page.call e.first e.pages page.number e line (a ∙ sym l) (b ∙ sym k) c refl refl (omega arith) (omega arith)
+
+-- ---- many
+
+behind_at : (pages : List Waiting) (page last : Waiting) (n : ℕ) → AreBehind pages page → slice_get pages n ≡ Some last → IsBehind last page
+behind_at [] page last n are at = cc
+behind_at (other ∷ others) page last zero are at = let same : other ≡ last = cc in subst (λ (w : Waiting). IsBehind w page) same are.0
+behind_at (other ∷ others) page last (suc n) are at = behind_at others page last n are.1 at
+
+-- where each came behind the last page of the job, none of them is named
+left : (e : EndedValue) (line : List ℕ) (last : Waiting) (pages : List Waiting) → AreBehind pages last → e.life ≡ last.life → e.call ≡ last.call → e.first + e.pages ≡ last.number + 1 → left_by e line pages ≡ pages
+left e line last [] are life call end = refl
+left e line last (page ∷ pages) are life call end =
+    let after : IsBehind page last = are.0 in
+    let no : ends e (name_in line page) ≡ false = had_not e (name_in line page) (λ l k. grind arith) in
+    subst (λ (b : Bool). cond (not b) (page ∷ left_by e line pages) (left_by e line pages) ≡ page ∷ pages) (sym no) (ap (λ (l : List Waiting). page ∷ l) (left e line last pages are.1 life call end))
+
+-- those from behind the first one up to the last one are named, and none behind that
+leaves : (e : EndedValue) (line : List ℕ) (first last : Waiting) (n : ℕ) (pages : List Waiting) → AreBehind pages first → AreInOrder pages → slice_get pages n ≡ Some last
+    → first.life ≡ last.life → first.call ≡ last.call → e.life ≡ first.life → e.call ≡ first.call → e.line ≡ line → e.first ≡ first.number → e.first + e.pages ≡ last.number + 1
+    → left_by e line pages ≡ drop (suc n) pages
+leaves e line first last n [] are order at life call a b c d end = cc
+leaves e line first last zero (page ∷ pages) are order at life call a b c d end =
+    let same : page ≡ last = cc in
+    let yes : ends e (name_in line page) ≡ true = own e line first page last are.0 (inl same) life call a b c d end in
+    subst (λ (t : Bool). cond (not t) (page ∷ left_by e line pages) (left_by e line pages) ≡ pages) (sym yes)
+    (left e line last pages (subst (λ (w : Waiting). AreBehind pages w) same order.0) (a ∙ life) (b ∙ call) end)
+leaves e line first last (suc n) (page ∷ pages) are order at life call a b c d end =
+    let yes : ends e (name_in line page) ≡ true = own e line first page last are.0 (inr (behind_at pages page last n order.0 at)) life call a b c d end in
+    subst (λ (t : Bool). cond (not t) (page ∷ left_by e line pages) (left_by e line pages) ≡ drop (suc n) pages) (sym yes)
+    (leaves e line first last n pages are.1 order.1 at life call a b c d end)
+
+there : (pages : List Waiting) (n : ℕ) (page : Waiting) → slice_get pages n ≡ Some page → suc n ≤ length pages
+there [] n page at = cc
+there (other ∷ pages) zero page at = omega arith
+there (other ∷ pages) (suc n) page at = let low = there pages n page at in omega arith
+
+-- the first page of the job, and those up to its last one
+all_leave : (e : EndedValue) (line : List ℕ) (waits : List Waiting) (first last : Waiting) (n : ℕ) → AreInOrder waits → slice_get waits 0 ≡ Some first → slice_get waits n ≡ Some last
+    → first.life ≡ last.life → first.call ≡ last.call → e.life ≡ first.life → e.call ≡ first.call → e.line ≡ line → e.first ≡ first.number → e.first + e.pages ≡ last.number + 1
+    → first.number ≤ last.number → left_by e line waits ≡ drop (suc n) waits
+all_leave e line [] first last n order begins at life call a b c d end low = cc
+all_leave e line (page ∷ pages) first last zero order begins at life call a b c d end low =
+    let is : page ≡ first = cc in
+    let same : first ≡ last = cc in
+    let l : page.life ≡ first.life = ap (λ (w : Waiting). w.life) is in
+    let k : page.call ≡ first.call = ap (λ (w : Waiting). w.call) is in
+    let m : page.number ≡ first.number = ap (λ (w : Waiting). w.number) is in
+    let yes : ends e (name_in line page) ≡ true = had page.life page.call e.first e.pages page.number e line (a ∙ sym l) (b ∙ sym k) c refl refl (omega arith) (omega arith) in
+    subst (λ (t : Bool). cond (not t) (page ∷ left_by e line pages) (left_by e line pages) ≡ pages) (sym yes)
+    (left e line last pages (subst (λ (w : Waiting). AreBehind pages w) (is ∙ same) order.0) (a ∙ life) (b ∙ call) end)
+all_leave e line (page ∷ pages) first last (suc n) order begins at life call a b c d end low =
+    let is : page ≡ first = cc in
+    let l : page.life ≡ first.life = ap (λ (w : Waiting). w.life) is in
+    let k : page.call ≡ first.call = ap (λ (w : Waiting). w.call) is in
+    let m : page.number ≡ first.number = ap (λ (w : Waiting). w.number) is in
+    let yes : ends e (name_in line page) ≡ true = had page.life page.call e.first e.pages page.number e line (a ∙ sym l) (b ∙ sym k) c refl refl (omega arith) (omega arith) in
+    subst (λ (t : Bool). cond (not t) (page ∷ left_by e line pages) (left_by e line pages) ≡ drop (suc n) pages) (sym yes)
+    (leaves e line first last n pages (subst (λ (w : Waiting). AreBehind pages w) is order.0) order.1 at life call a b c d end)
+
+pub names_first : (waits : List Waiting) (first last : Waiting) (n : ℕ) (ended : Ended) → AreInOrder waits → slice_get waits 0 ≡ Some first → slice_get waits n ≡ Some last
+    → first.life ≡ last.life → first.call ≡ last.call → ended.life ≡ first.life → ended.call ≡ first.call → ended.first ≡ first.number → first.number ≤ last.number → ended.first + ended.pages ≡ last.number + 1
+    → ended.kept ≡ count_by (λ page. page.is_kept) (take (suc n) waits) → NamesFirst (suc n) ended waits
+names_first waits first last n ended order begins at life call a b d low end count = record {
+  kept = count;
+  as_many = there waits n last at;
+  leaves = λ line e is. all_leave e line waits first last n order begins at life call (is.life ∙ a) (is.call ∙ b) is.line_is (is.first ∙ d) (let f : e.first ≡ ended.first = is.first in let p : e.pages ≡ ended.pages = is.pages in omega arith) low;
+}
+
+-- ---- the order
+
+behind_too : (page other last : Waiting) → IsBehind page last → IsBehind last other → IsBehind page other
+behind_too page other last after before = grind arith
+
+behind_more : (pages : List Waiting) (other page : Waiting) → AreBehind pages other → IsBehind page other → AreBehind (pages ++ page ∷ []) other
+behind_more [] other page are is = (is, tt)
+behind_more (p ∷ pages) other page are is = (are.0, behind_more pages other page are.1 is)
+
+pub in_order_more : (pages : List Waiting) (last page : Waiting) (n : ℕ) → n ≡ length pages - 1 → slice_get pages n ≡ Some last → IsBehind page last → AreInOrder pages → AreInOrder (pages ++ page ∷ [])
+in_order_more [] last page n end at is order = cc
+in_order_more (p ∷ []) last page zero end at is order = let same : p ≡ last = cc in ((subst (λ (w : Waiting). IsBehind page w) (sym same) is, tt), order)
+in_order_more (p ∷ []) last page (suc n) end at is order = cc
+in_order_more (p ∷ q ∷ pages) last page zero end at is order = absurd (omega arith)
+in_order_more (p ∷ q ∷ pages) last page (suc n) end at is order =
+    (behind_more (q ∷ pages) p page order.0 (behind_too page p last is (behind_at (q ∷ pages) p last n order.0 at)), in_order_more (q ∷ pages) last page n (omega arith) at is order.1)
+
+pub in_order_behind : (n : ℕ) (pages : List Waiting) → AreInOrder pages → AreInOrder (drop n pages)
+in_order_behind zero pages order = order
+in_order_behind (suc n) [] order = order
+in_order_behind (suc n) (p ∷ pages) order = in_order_behind n pages order.1

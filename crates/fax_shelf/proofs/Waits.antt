@@ -1,0 +1,97 @@
+-- What waits on a disk, behind one more record or fewer.
+use Rattle.std.proofs.Common.{◌≡◌, ◌∙◌, ℕ, ◌⊎◌, inl, inr, Bool, true, false, not, cond, List, [], ◌∷◌, ◌++◌, map, drop, Result, Ok, Err, OnOk, IfOk, refl, sym, ap, subst, append_assoc}
+use Rattle.std.specs.Bool.{MatchBool}
+use Rattle.fax_spool.specs.RecordOctets.{EndedValue, PageValue}
+use Rattle.fax_spool.specs.Spools.{Keeps, NoneIsLeft}
+use Rattle.fax_spool.specs.Waits.{PageName, SharesWhatWaits, after, ends, left_behind, name_of, waiting, waiting_behind, without}
+use Rattle.fax_spool.specs.declared.kept_record.KeptRecord.{KeptRecord}
+use Rattle.fax_spool.specs.declared.kept_record.KeptRecord.TheVariants.{Ended, Epoch}
+use Rattle.fax_spool.specs.declared.spool.Spool.{Spool}
+use Rattle.fax_shelf.specs.declared.shelf.Waiting.{Waiting}
+use Rattle.fax_shelf.specs.declared.shelf.Ended as shelf
+use Rattle.fax_shelf.specs.Shelves.{AreAmong, IsAmong, IsEndOf, NamesFirst, NoneIsForgotten, ShelfValue, left_by, name_in}
+use Rattle.fax_shelf.specs.Jobs.{EndsJob, PagesWait}
+
+-- ---- records
+
+one_more : (pages : List PageValue) (records : List KeptRecord) (r : KeptRecord) → waiting_behind pages (records ++ r ∷ []) ≡ after (waiting_behind pages records) r
+one_more pages [] r = refl
+one_more pages (q ∷ records) r = one_more (after pages q) records r
+
+pub wait_ended :
+    {D : Type 0} {seen : D → List ℕ} {may_leave : D → List ℕ → Type 0} {is_usable : D → Bool} (old new : Spool D) (ended : EndedValue)
+    → ((olds news : List KeptRecord) → Keeps seen may_leave is_usable old olds news → Keeps seen may_leave is_usable new olds (news ++ Ended ended ∷ []))
+    → (waits : List PageValue) → PagesWait seen may_leave is_usable old waits → PagesWait seen may_leave is_usable new (without ended waits)
+wait_ended old new ended put waits was = record {
+  olds = was.olds;
+  news = was.news ++ Ended ended ∷ [];
+  kept = put was.olds was.news was.kept;
+  wait = ap waiting (sym (append_assoc was.olds was.news (Ended ended ∷ []))) ∙ one_more [] (was.olds ++ was.news) (Ended ended) ∙ ap (λ (l : List PageValue). without ended l) was.wait;
+}
+
+pub wait_cleared :
+    {D : Type 0} {seen : D → List ℕ} {may_leave : D → List ℕ → Type 0} {is_usable : D → Bool} (old new : Spool D) (cleared : Bool) → SharesWhatWaits
+    → ((olds news : List KeptRecord) → Keeps seen may_leave is_usable old olds news
+    → MatchBool cleared (NoneIsLeft olds news × Keeps seen may_leave is_usable new [] news) (Keeps seen may_leave is_usable new olds news))
+    → (waits : List PageValue) → PagesWait seen may_leave is_usable old waits → PagesWait seen may_leave is_usable new waits
+wait_cleared old new true shares cleared waits was =
+    let is = cleared was.olds was.news was.kept in record {
+      olds = [];
+      news = was.news;
+      kept = is.1;
+      wait = ap (λ (l : List PageValue). l ++ waiting was.news) (sym is.0) ∙ sym (shares was.olds was.news) ∙ was.wait;
+    }
+wait_cleared old new false shares cleared waits was = record { olds = was.olds; news = was.news; kept = cleared was.olds was.news was.kept; wait = was.wait }
+
+pub wait_changed :
+    {D : Type 0} {seen : D → List ℕ} {may_leave : D → List ℕ → Type 0} {is_usable : D → Bool} (Low : List KeptRecord → Type 0) (old new : Spool D) (changed : Bool) (number : ℕ)
+    → ((olds news : List KeptRecord) → Keeps seen may_leave is_usable old olds news
+    → MatchBool changed ((olds ≡ []) × Low news × Keeps seen may_leave is_usable new news (Epoch number ∷ [])) (Keeps seen may_leave is_usable new olds news))
+    → (waits : List PageValue) → PagesWait seen may_leave is_usable old waits → PagesWait seen may_leave is_usable new waits
+wait_changed Low old new true number changed waits was =
+    let is = changed was.olds was.news was.kept in record {
+      olds = was.news;
+      news = Epoch number ∷ [];
+      kept = is.2;
+      wait = one_more [] was.news (Epoch number) ∙ ap (λ (l : List KeptRecord). waiting (l ++ was.news)) (sym is.0) ∙ was.wait;
+    }
+wait_changed Low old new false number changed waits was = record { olds = was.olds; news = was.news; kept = changed was.olds was.news was.kept; wait = was.wait }
+
+-- ---- a job that ended
+
+pub job_ended :
+    {D : Type 0} {seen : D → List ℕ} {may_leave : D → List ℕ → Type 0} {is_usable : D → Bool} (pages : ℕ) (old new : ShelfValue) (before behind : Spool D) (ended : shelf.Ended) (kept : EndedValue)
+    → IsEndOf ended old.line kept → new.line ≡ old.line → NamesFirst pages ended old.waits → new.waits ≡ drop pages old.waits
+    → ((olds news : List KeptRecord) → Keeps seen may_leave is_usable before olds news → Keeps seen may_leave is_usable behind olds (news ++ Ended kept ∷ []))
+    → EndsJob seen may_leave is_usable pages old new before behind
+job_ended pages old new before behind ended kept is line names left put = record {
+  ended = kept;
+  line_is = line;
+  named = is.line_is;
+  first = left;
+  leaves = names.leaves old.line kept is ∙ sym left;
+  wait = wait_ended before behind kept put;
+}
+
+-- ---- the other pages of the shelf
+
+stays : (ended : EndedValue) (name : PageName) (waits : List PageValue) → ends ended name ≡ false → IsAmong name (map name_of waits) → IsAmong name (map name_of (without ended waits))
+stays ended name [] not_ended among = among
+stays ended name (page ∷ waits) not_ended (inl same) =
+    let left : ends ended (name_of page) ≡ false = ap (λ (n : PageName). ends ended n) same ∙ not_ended in
+    subst (λ (b : Bool). IsAmong name (map name_of (cond (not b) (page ∷ without ended waits) (without ended waits)))) (sym left) (inl same)
+stays ended name (page ∷ waits) not_ended (inr among) =
+    elim (ends ended (name_of page)) as (λ b. IsAmong name (map name_of (cond (not b) (page ∷ without ended waits) (without ended waits)))) [
+      | true ↦ stays ended name waits not_ended among
+      | false ↦ inr (stays ended name waits not_ended among)
+    ]
+
+stay : (ended : EndedValue) (line : List ℕ) (page : Waiting) (pages : List Waiting) (waits : List PageValue) (b : Bool) → ends ended (name_in line page) ≡ b
+    → (page.is_kept ≡ true → IsAmong (name_in line page) (map name_of waits)) → AreAmong line (left_by ended line pages) (map name_of (without ended waits))
+    → AreAmong line (cond (not b) (page ∷ left_by ended line pages) (left_by ended line pages)) (map name_of (without ended waits))
+stay ended line page pages waits true is among more = more
+stay ended line page pages waits false is among more = (λ kept. stays ended (name_in line page) waits is (among kept), more)
+
+pub none_is_forgotten : NoneIsForgotten
+none_is_forgotten ended line [] waits are = tt
+none_is_forgotten ended line (page ∷ pages) waits are = stay ended line page pages waits (ends ended (name_in line page)) refl are.0 (none_is_forgotten ended line pages waits are.1)

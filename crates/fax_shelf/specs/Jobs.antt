@@ -1,0 +1,33 @@
+-- The pages that wait on a disk, and what the end of a job makes of them. (This project's profile.)
+use Rattle.std.specs.Prelude.{◌≡◌, ℕ, Bool, List, ◌++◌, drop, Option, Some, slice_get}
+use Rattle.fax_spool.specs.RecordOctets.{EndedValue, PageValue}
+use Rattle.fax_spool.specs.Spools.{Keeps}
+use Rattle.fax_spool.specs.Waits.{waiting, without}
+use Rattle.fax_spool.specs.declared.kept_record.KeptRecord.{KeptRecord}
+use Rattle.fax_spool.specs.declared.spool.Spool.{Spool}
+use Rattle.fax_shelf.specs.Shelves.{ShelfValue, left_by}
+
+-- THESE PAGES WAIT ON THE DISK, in the order in which they were put, whatever crash follows.
+pub record PagesWait {D : Type 0} (seen : D → List ℕ) (may_leave : D → List ℕ → Type 0) (is_usable : D → Bool) (spool : Spool D) (pages : List PageValue) : Type 0 where
+  pub olds : List KeptRecord
+  pub news : List KeptRecord
+  pub kept : Keeps seen may_leave is_usable spool olds news
+  pub wait : waiting (olds ++ news) ≡ pages
+
+-- A JOB OF SO MANY PAGES ENDED: they are the first of its line's shelf, and leave it; and the record of its end is on the disk,
+-- which names no page that stays on the shelf.
+pub record EndsJob {D : Type 0} (seen : D → List ℕ) (may_leave : D → List ℕ → Type 0) (is_usable : D → Bool) (pages : ℕ) (old new : ShelfValue) (before after : Spool D) : Type 0 where
+  pub ended : EndedValue
+  pub line_is : new.line ≡ old.line
+  pub named : ended.line ≡ old.line
+  pub first : new.waits ≡ drop pages old.waits
+  pub leaves : left_by ended old.line old.waits ≡ new.waits
+  pub wait : (waits : List PageValue) → PagesWait seen may_leave is_usable before waits → PagesWait seen may_leave is_usable after (without ended waits)
+
+-- the same of the line at a place among the others
+pub record EndsJobAt {D : Type 0} (seen : D → List ℕ) (may_leave : D → List ℕ → Type 0) (is_usable : D → Bool) (pages place : ℕ) (olds news : List ShelfValue) (before after : Spool D) : Type 0 where
+  pub old : ShelfValue
+  pub new : ShelfValue
+  pub was : slice_get olds place ≡ Some old
+  pub is : slice_get news place ≡ Some new
+  pub ends : EndsJob seen may_leave is_usable pages old new before after

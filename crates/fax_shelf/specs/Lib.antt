@@ -1,0 +1,3 @@
+pub mod Jobs
+pub mod Keeping
+pub mod Shelves

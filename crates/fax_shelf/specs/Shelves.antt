@@ -1,0 +1,66 @@
+-- What a server knows of the pages of a line that wait. Lists have the oldest first. (This project's profile.)
+use Rattle.std.specs.Prelude.{◌≡◌, ℕ, ◌<◌, ◌≤◌, ◌⊎◌, Bool, true, not, List, [], ◌∷◌, length, map, take, drop, count_by}
+use Rattle.std.specs.List.{filter}
+use Rattle.fax_spool.specs.RecordOctets.{EndedValue, PageValue}
+use Rattle.fax_spool.specs.Waits.{PageName, ends, name_of, without}
+use Rattle.fax_shelf.specs.declared.shelf.Waiting.{Waiting}
+use Rattle.fax_shelf.specs.declared.shelf.Ended.{Ended}
+
+-- the name of the line, its pages that wait, and whether these are all of them, in the order in which they came
+pub record ShelfValue : Type 0 where
+  pub line : List ℕ
+  pub waits : List Waiting
+  pub is_whole : Bool
+
+-- which page of all it is
+abbrev pub name_in : List ℕ → Waiting → PageName
+name_in line page = record { life = page.life; call = page.call; number = page.number; line = line }
+
+-- A page came behind another: in a later life, in a later call of one life, or as a later page of one call.
+abbrev pub IsBehind : Waiting → Waiting → Type 0
+IsBehind page other = (other.life < page.life) ⊎ ((other.life ≡ page.life) × ((other.call < page.call) ⊎ ((other.call ≡ page.call) × (other.number < page.number))))
+
+-- each of these came behind that one
+abbrev pub AreBehind : List Waiting → Waiting → Type 0
+AreBehind [] page = Unit {0}
+AreBehind (other ∷ others) page = IsBehind other page × AreBehind others page
+
+-- they are in the order in which they came
+abbrev pub AreInOrder : List Waiting → Type 0
+AreInOrder [] = Unit {0}
+AreInOrder (page ∷ pages) = AreBehind pages page × AreInOrder pages
+
+-- the record of the end of these pages
+pub record IsEndOf (ended : Ended) (line : List ℕ) (kept : EndedValue) : Type 0 where
+  pub life : kept.life ≡ ended.life
+  pub call : kept.call ≡ ended.call
+  pub first : kept.first ≡ ended.first
+  pub pages : kept.pages ≡ ended.pages
+  pub line_is : kept.line ≡ line
+
+-- of these pages, those that the job that ended had not
+abbrev pub left_by : EndedValue → List ℕ → List Waiting → List Waiting
+left_by ended line pages = filter (λ page. not (ends ended (name_in line page))) pages
+
+-- THE RECORD OF A JOB'S END NAMES ITS OWN PAGES: of those that waited, it leaves just those behind the job's, which are the first.
+pub record NamesFirst (pages : ℕ) (ended : Ended) (waits : List Waiting) : Type 0 where
+  pub as_many : pages ≤ length waits
+  pub kept : ended.kept ≡ count_by (λ page. page.is_kept) (take pages waits)
+  pub leaves : (line : List ℕ) (kept : EndedValue) → IsEndOf ended line kept → left_by kept line waits ≡ drop pages waits
+
+-- ---- what of it is on the disk
+
+abbrev pub IsAmong : PageName → List PageName → Type 0
+IsAmong name [] = ⊥
+IsAmong name (other ∷ names) = (other ≡ name) ⊎ IsAmong name names
+
+-- each of these pages that is said to be on the disk is one of those that wait there
+abbrev pub AreAmong : List ℕ → List Waiting → List PageName → Type 0
+AreAmong line [] names = Unit {0}
+AreAmong line (page ∷ pages) names = (page.is_kept ≡ true → IsAmong (name_in line page) names) × AreAmong line pages names
+
+-- THE END OF A JOB FORGETS NO OTHER PAGE: each page that stays on the shelf waits on the disk as it did.
+abbrev pub NoneIsForgotten : Type 0
+NoneIsForgotten =
+    (ended : EndedValue) (line : List ℕ) (pages : List Waiting) (waits : List PageValue) → AreAmong line pages (map name_of waits)
+    → AreAmong line (left_by ended line pages) (map name_of (without ended waits))

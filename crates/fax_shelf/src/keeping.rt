@@ -1,0 +1,276 @@
+//! The pages of a server that are kept on a disk.
+ghost use Rattle.std.specs.Prelude.{◌≡◌, List, OnOk};
+ghost use Rattle.fax_spool.specs.RecordOctets.{PageValue as SpoolPage};
+ghost use Rattle.fax_shelf.specs.Jobs.{EndsJob, EndsJobAt, PagesWait};
+
+use crate::putting::{CallTag, Names, put_pages};
+use crate::shelf::{Shelf, Waiting};
+use fax_hold::{KeepFault, Keeper};
+use fax_jobs::Report;
+use fax_keep::KeptFile;
+use fax_line::PageToKeep;
+use fax_spool::laws::files_share_what_waits;
+use fax_spool::{EndedRecord, Spool};
+use sqlite_disk::Disk;
+use std::alloc::Global;
+
+/// Where so many octets were put into a file, the other one is taken into use once it is empty.
+const MOST_OCTETS: usize = 16 * 1024 * 1024;
+
+/// What the record of a page has beside its text and its names, in octets, at most.
+const RECORD_OCTETS: usize = 64;
+
+/// A spool, and what is known of the pages in it.
+#[derive(Drop)]
+pub struct Keeping {
+    alloc: Global,
+    spool: Spool<KeptFile>,
+    /// The number of this life.
+    life: u32,
+    /// Of each line, in the order of the configuration.
+    shelves: Vec<Shelf>,
+    /// The tags of the calls whose pages are kept next.
+    tags: Vec<CallTag>,
+    /// How many octets were put since a file was taken into use, at least.
+    octets: usize,
+    /// How many pages wait on the disk.
+    kept: u64,
+}
+
+impl Keeping {
+    /// A life begins over this spool, in which these pages wait.
+    pub fn new(alloc: Global, spool: Spool<KeptFile>, shelves: Vec<Shelf>) -> Self {
+        let life = spool.epoch();
+        let mut kept: u64 = 0;
+        for shelf in shelves.iter() {
+            kept = kept.saturating_add(shelf.kept());
+        }
+        Keeping {
+            alloc,
+            spool,
+            life,
+            shelves,
+            tags: Vec::new(alloc),
+            octets: MOST_OCTETS,
+            kept,
+        }
+    }
+
+    /// What is known of the lines' pages.
+    pub fn shelves(&self) -> &[Shelf] {
+        self.shelves.as_slice()
+    }
+
+    /// How many pages wait on the disk.
+    pub fn kept(&self) -> u64 {
+        self.kept
+    }
+
+    /// Whether the job of line i that is first in turn was confirmed in an earlier life.
+    pub fn is_restored(&self, i: usize) -> bool {
+        match self.shelves.get(i) {
+            Some(shelf) => shelf.is_restored(self.life),
+            None => false,
+        }
+    }
+
+    /// The tag of the job of line i that is first in turn, where that was confirmed in an earlier life.
+    pub fn restored_tag(&self, i: usize) -> Option<&str> {
+        match self.shelves.get(i) {
+            Some(shelf) => shelf.restored_tag(),
+            None => None,
+        }
+    }
+
+    /// The pages of another turn of a slot are kept next.
+    pub fn begin_slot(&mut self) {
+        self.tags.clear();
+    }
+
+    /// One of them came in a call of line i that has this tag. Without memory for that the page is kept without one.
+    pub fn set_tag(&mut self, i: usize, tag: &str) {
+        if let Ok(tag) = tag.as_bytes().to_vec(self.alloc) {
+            let _ = self.tags.push(CallTag { line: i, tag });
+        }
+    }
+
+    /// A page of line i that was confirmed in this call was not handed over, as for want of memory: it waits, and is not on the disk.
+    pub fn note(&mut self, i: usize, call: u32) {
+        let number = self.next_number(i, call);
+        self.wait(i, call, number, false);
+    }
+
+    /// Which page of this call of line i the next one is, from 1 on.
+    fn next_number(&mut self, i: usize, call: u32) -> u32
+        ensures { self.new.spool ≡ self.old.spool }
+    {
+        match self.shelves.get_mut(i) {
+            Some(shelf) => shelf.number(call),
+            None => 0,
+        }
+    }
+
+    /// A page of line i waits, which is on the disk or not.
+    fn wait(&mut self, i: usize, call: u32, number: u32, is_kept: bool)
+        ensures { self.new.spool ≡ self.old.spool }
+    {
+        let life = self.life;
+        if let Some(shelf) = self.shelves.get_mut(i) {
+            shelf.add(Waiting {
+                life,
+                call,
+                number,
+                is_kept,
+            });
+        }
+    }
+
+    /// Which pages of their calls these are, from 1 on: of the first of them, where memory is refused for more.
+    fn numbers_of(&mut self, pages: &[PageToKeep]) -> Vec<u32>
+        ensures { self.new.spool ≡ self.old.spool }
+    {
+        let mut numbers = Vec::new(self.alloc);
+        for page in pages {
+            if numbers.reserve(1).is_err() {
+                return numbers;
+            }
+            let number = self.next_number(page.line, page.kept.call);
+            numbers.push_reserved(number);
+        }
+        numbers
+    }
+
+    /// A page that was put waits; where it is not on the disk, it waits all the same.
+    fn add(&mut self, page: &PageToKeep, number: u32, is_kept: bool)
+        ensures { self.new.spool ≡ self.old.spool }
+    {
+        self.wait(page.line, page.kept.call, number, is_kept);
+        if is_kept {
+            self.kept = self.kept.saturating_add(1);
+            let octets = page.text.as_slice().len().saturating_add(RECORD_OCTETS);
+            self.octets = self.octets.saturating_add(octets);
+        }
+    }
+
+    /// The same of all that were put at once, with their numbers.
+    fn add_all(&mut self, pages: &[PageToKeep], numbers: &[u32], is_kept: bool)
+        ensures { self.new.spool ≡ self.old.spool }
+    {
+        for (k, page) in pages.iter().enumerate() {
+            let number = match numbers.get(k) {
+                Some(number) => *number,
+                None => self.next_number(page.line, page.kept.call),
+            };
+            self.add(page, number, is_kept);
+        }
+    }
+
+    /// The job of line i that was first in turn ended: its pages wait no more. An `Err`: that was not noted, since none of them is on
+    /// the disk, or it could not be, so that they are restored at the next start, and sent again; or the disk failed behind it, and
+    /// the spool refuses the pages from then on.
+    pub fn end(&mut self, i: usize, report: Report) -> Result<(), KeepFault>
+        ensures { OnOk result (EndsJobAt ⟦<KeptFile as Disk>⟧.seen ⟦<KeptFile as Disk>⟧.may_leave ⟦<KeptFile as Disk>⟧.is_usable report.pages i self.old.shelves.items self.new.shelves.items self.old.spool self.new.spool) }
+    {
+        if i >= self.shelves.len() {
+            return Err(KeepFault);
+        }
+        let kept = put_end(self.alloc, &mut self.spool, &mut self.shelves[i], report)?;
+        self.kept = self.kept.saturating_sub(kept);
+        self.octets = change_files(self.alloc, &mut self.spool, self.octets)?;
+        Ok(())
+    }
+}
+
+/// The job of so many pages that is first in turn on a shelf ended: puts its record into a spool. It answers how many of its pages
+/// were on the disk; where none was, there is no record, and an `Err`.
+fn put_end(
+    alloc: Global,
+    spool: &mut Spool<KeptFile>,
+    shelf: &mut Shelf,
+    report: Report,
+) -> Result<u64, KeepFault>
+    ensures { OnOk result (EndsJob ⟦<KeptFile as Disk>⟧.seen ⟦<KeptFile as Disk>⟧.may_leave ⟦<KeptFile as Disk>⟧.is_usable report.pages shelf.old shelf.new spool.old spool.new) }
+{
+    let Some(ended) = shelf.end(report.pages) else {
+        return Err(KeepFault);
+    };
+    let line = shelf.line().as_bytes();
+    if ended.kept == 0 || line.len() > 255 {
+        return Err(KeepFault);
+    }
+    let record = EndedRecord {
+        life: ended.life,
+        call: ended.call,
+        first: ended.first,
+        pages: ended.pages,
+        delivered: report.delivered,
+        format: report.format,
+        outcome: report.outcome,
+        line,
+    };
+    let Ok(()) = spool.end(alloc, &record) else {
+        return Err(KeepFault);
+    };
+    Ok(ended.kept)
+}
+
+/// The older file is cleared where nothing in it waits; and where so many octets were put into the newer one that they are enough,
+/// the other is taken into use. It answers how many count from then on.
+fn change_files(
+    alloc: Global,
+    spool: &mut Spool<KeptFile>,
+    octets: usize,
+) -> Result<usize, KeepFault>
+    ensures { OnOk result ((waits : List SpoolPage) → PagesWait ⟦<KeptFile as Disk>⟧.seen ⟦<KeptFile as Disk>⟧.may_leave ⟦<KeptFile as Disk>⟧.is_usable spool.old waits
+        → PagesWait ⟦<KeptFile as Disk>⟧.seen ⟦<KeptFile as Disk>⟧.may_leave ⟦<KeptFile as Disk>⟧.is_usable spool.new waits) }
+{
+    clear_older(spool)?;
+    if octets < MOST_OCTETS {
+        return Ok(octets);
+    }
+    let was = change(alloc, spool)?;
+    Ok(if was { 0 } else { octets })
+}
+
+/// The older file is cleared where nothing in it waits.
+fn clear_older(spool: &mut Spool<KeptFile>) -> Result<bool, KeepFault>
+    ensures { OnOk result ((waits : List SpoolPage) → PagesWait ⟦<KeptFile as Disk>⟧.seen ⟦<KeptFile as Disk>⟧.may_leave ⟦<KeptFile as Disk>⟧.is_usable spool.old waits
+        → PagesWait ⟦<KeptFile as Disk>⟧.seen ⟦<KeptFile as Disk>⟧.may_leave ⟦<KeptFile as Disk>⟧.is_usable spool.new waits) }
+{
+    files_share_what_waits();
+    let Ok(was) = spool.clear() else {
+        return Err(KeepFault);
+    };
+    Ok(was)
+}
+
+/// The other file is taken into use where it is empty.
+fn change(alloc: Global, spool: &mut Spool<KeptFile>) -> Result<bool, KeepFault>
+    ensures { OnOk result ((waits : List SpoolPage) → PagesWait ⟦<KeptFile as Disk>⟧.seen ⟦<KeptFile as Disk>⟧.may_leave ⟦<KeptFile as Disk>⟧.is_usable spool.old waits
+        → PagesWait ⟦<KeptFile as Disk>⟧.seen ⟦<KeptFile as Disk>⟧.may_leave ⟦<KeptFile as Disk>⟧.is_usable spool.new waits) }
+{
+    let Ok(was) = spool.change(alloc) else {
+        return Err(KeepFault);
+    };
+    Ok(was)
+}
+
+/// What it keeps are records of its spool.
+impl Keeper<PageToKeep> for Keeping {
+    ghost use Rattle.fax_shelf.specs.Keeping.{KeepsPages};
+
+    ghost keeps = { λ keeping pages. KeepsPages ⟦<KeptFile as Disk>⟧.seen ⟦<KeptFile as Disk>⟧.may_leave ⟦<KeptFile as Disk>⟧.is_usable keeping.spool pages };
+
+    fn keep_all(&mut self, pages: &[PageToKeep]) -> Result<(), KeepFault> {
+        let numbers = self.numbers_of(pages);
+        let names = Names {
+            life: self.life,
+            numbers: numbers.as_slice(),
+            shelves: self.shelves.as_slice(),
+            tags: self.tags.as_slice(),
+        };
+        let answer = put_pages(self.alloc, &mut self.spool, pages, &names);
+        self.add_all(pages, numbers.as_slice(), answer.is_ok());
+        answer
+    }
+}

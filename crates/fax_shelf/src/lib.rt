@@ -1,0 +1,13 @@
+//! The pages of a line that wait, on a shelf and on a disk: which ones they are, what the end of a job makes of them, and what a
+//! line is restored with behind a crash.
+#![tactic(auto)]
+
+mod keeping;
+pub mod laws;
+mod putting;
+mod restored;
+mod shelf;
+
+pub use keeping::Keeping;
+pub use restored::{Restored, restore_line};
+pub use shelf::{Ended, Shelf, Waiting};

@@ -1,0 +1,118 @@
+//! The pages that the lines of a slot confirmed are put on the disk, all of them at once.
+ghost use Rattle.std.specs.Prelude.{List, ◌++◌, IfOk, OnOk, map};
+ghost use Rattle.fax_line.specs.declared.settling.PageToKeep.{PageToKeep as ToKeep};
+ghost use Rattle.fax_spool.specs.KeptRecords.{kept_of};
+ghost use Rattle.fax_shelf.specs.Keeping.{AreRecordsOf, IsRecordOf, KeepsPages};
+
+use crate::shelf::Shelf;
+use fax_hold::KeepFault;
+use fax_keep::KeptFile;
+use fax_line::PageToKeep;
+use fax_spool::{PageRecord, Spool};
+use sqlite_disk::Disk;
+use std::alloc::Global;
+
+/// The tag of the call of a line.
+#[derive(Drop)]
+pub(crate) struct CallTag {
+    pub line: usize,
+    pub tag: Vec<u8>,
+}
+
+/// What the records of pages say beside the pages.
+#[derive(Clone, Copy)]
+pub(crate) struct Names<'a> {
+    /// The number of this life.
+    pub life: u32,
+    /// Of each page, which one of its call it is.
+    pub numbers: &'a [u32],
+    /// Of each line, with its name.
+    pub shelves: &'a [Shelf],
+    /// Of the lines whose calls have one.
+    pub tags: &'a [CallTag],
+}
+
+/// Puts the records of pages into a spool, with one write and its syncs.
+pub(crate) fn put_pages(
+    alloc: Global,
+    spool: &mut Spool<KeptFile>,
+    pages: &[PageToKeep],
+    names: &Names<'_>,
+) -> Result<(), KeepFault>
+    ensures { OnOk result ((before : List ToKeep) → KeepsPages ⟦<KeptFile as Disk>⟧.seen ⟦<KeptFile as Disk>⟧.may_leave ⟦<KeptFile as Disk>⟧.is_usable spool.old before
+        → KeepsPages ⟦<KeptFile as Disk>⟧.seen ⟦<KeptFile as Disk>⟧.may_leave ⟦<KeptFile as Disk>⟧.is_usable spool.new (before ++ pages.now)) }
+{
+    let records = match records_of(alloc, pages, names) {
+        Ok(records) => records,
+        Err(fault) => return Err(fault),
+    };
+    match spool.put_all(alloc, records.as_slice()) {
+        Ok(()) => Ok(()),
+        Err(_) => Err(KeepFault),
+    }
+}
+
+/// The records of pages. An `Err`: a page has no number or its line no shelf, or memory was refused.
+fn records_of<'a>(
+    alloc: Global,
+    pages: &'a [PageToKeep],
+    names: &Names<'a>,
+) -> Result<Vec<PageRecord<'a>>, KeepFault>
+    ensures { IfOk result (λ records. AreRecordsOf pages.now (map kept_of records.items)) }
+{
+    let mut records = Vec::new(alloc);
+    for (k, page) in pages.iter().enumerate() {
+        let Some(number) = names.numbers.get(k) else {
+            return Err(KeepFault);
+        };
+        let Some(line) = line_of(names.shelves, page.line) else {
+            return Err(KeepFault);
+        };
+        let tag = tag_of(names.tags, page.line);
+        let record = record_of(names.life, *number, page, line, tag);
+        let Ok(()) = records.push(record) else {
+            return Err(KeepFault);
+        };
+    }
+    Ok(records)
+}
+
+/// The record of a page, with the names of its line and of its call.
+fn record_of<'a>(
+    life: u32,
+    number: u32,
+    page: &'a PageToKeep,
+    line: &'a [u8],
+    tag: &'a [u8],
+) -> PageRecord<'a>
+    ensures { IsRecordOf page.now (kept_of result) }
+{
+    PageRecord {
+        life,
+        call: page.kept.call,
+        number,
+        format: page.kept.format,
+        closes: page.kept.closes,
+        line,
+        tag,
+        text: page.text.as_slice(),
+    }
+}
+
+/// The name of line i.
+fn line_of(shelves: &[Shelf], i: usize) -> Option<&[u8]> {
+    match shelves.get(i) {
+        Some(shelf) => Some(shelf.line().as_bytes()),
+        None => None,
+    }
+}
+
+/// The tag of the call of line i: no octets where it has none.
+fn tag_of(tags: &[CallTag], i: usize) -> &[u8] {
+    for it in tags {
+        if it.line == i {
+            return it.tag.as_slice();
+        }
+    }
+    &[]
+}

@@ -1,0 +1,254 @@
+//! The pages of a line that wait, as a spool knows them.
+ghost use Rattle.std.specs.Prelude.{◌≡◌, ◌↔◌, [], ◌∷◌, ◌++◌, take, drop, count_by, true, IsTrue, IfOk, IfSome, OnOk};
+ghost use Rattle.fax_shelf.specs.Shelves.{AreInOrder, IsBehind, NamesFirst};
+
+use fax_bits::NoMemory;
+use std::alloc::{AllocError, Global};
+use std::marker::Model;
+
+/// A page that waits: in which life and call it was confirmed, and as which page of the call.
+#[derive(Clone, Copy, PartialEq, Eq, Debug)]
+pub struct Waiting {
+    pub life: u32,
+    pub call: u32,
+    /// From 1 on.
+    pub number: u32,
+    /// Whether it is on the disk.
+    pub is_kept: bool,
+}
+
+/// The pages of a job that ended.
+#[derive(Clone, Copy, PartialEq, Eq, Debug)]
+pub struct Ended {
+    pub life: u32,
+    pub call: u32,
+    /// The number of its first page.
+    pub first: u32,
+    /// How many numbers there are from that one on to the number of its last page, with both.
+    pub pages: u32,
+    /// How many of its pages are on the disk.
+    pub kept: u64,
+}
+
+/// The tag of a restored call.
+#[derive(Drop)]
+struct RestoredTag {
+    life: u32,
+    call: u32,
+    tag: String,
+}
+
+/// The pages of a line that wait, in the order of their jobs.
+#[derive(Drop)]
+pub struct Shelf {
+    line: String,
+    waits: Vec<Waiting>,
+    tags: Vec<RestoredTag>,
+    /// The pages that mean none, by their calls and numbers.
+    aside: Vec<(u32, u32)>,
+    /// The call in which the newest page was confirmed in this life, and which page of it that is.
+    call: Option<u32>,
+    number: u32,
+    /// Whether each page was noted, and came behind those before it.
+    is_whole: bool,
+}
+
+impl Model for Shelf {
+    ghost use Rattle.std.specs.Prelude.{◌≡◌, true};
+    ghost use Rattle.std.specs.String.{string_bytes};
+    ghost use Rattle.fax_shelf.specs.Shelves.{AreInOrder, ShelfValue};
+
+    ghost Value = { ShelfValue };
+
+    ghost view = { λ s. record { line = string_bytes s.line; waits = s.waits.items; is_whole = s.is_whole } };
+
+    ghost invariant = { λ s. s.is_whole ≡ true → AreInOrder s.waits.items };
+}
+
+impl Shelf {
+    /// None of the line of this name waits.
+    pub fn new(alloc: Global, line: &str) -> Result<Self, NoMemory>
+        ensures { IfOk result (λ shelf. shelf ≡ record { line = line.now; waits = []; is_whole = true }) }
+    {
+        Ok(Shelf {
+            line: String::from_str(alloc, line)?,
+            waits: Vec::new(alloc),
+            tags: Vec::new(alloc),
+            aside: Vec::new(alloc),
+            call: None,
+            number: 0,
+            is_whole: true,
+        })
+    }
+
+    /// The name of the line.
+    pub fn line(&self) -> &str
+        ensures { result.now ≡ self.now.line }
+    {
+        self.line.as_str()
+    }
+
+    /// Its pages that wait.
+    pub fn waits(&self) -> &[Waiting]
+        ensures { result.now ≡ self.now.waits }
+    {
+        self.waits.as_slice()
+    }
+
+    /// The pages of earlier lives that mean none.
+    pub fn aside(&self) -> &[(u32, u32)] {
+        self.aside.as_slice()
+    }
+
+    /// How many pages that are on the disk wait.
+    pub fn kept(&self) -> u64 {
+        self.waits.iter().filter(|page| page.is_kept).count() as u64
+    }
+
+    /// Whether the job that is first in turn was confirmed in a life before this one.
+    pub fn is_restored(&self, life: u32) -> bool {
+        match self.waits.first() {
+            Some(page) => page.life != life,
+            None => false,
+        }
+    }
+
+    /// The tag of the job that is first in turn, where that was confirmed in an earlier life.
+    pub fn restored_tag(&self) -> Option<&str> {
+        let first = self.waits.first()?;
+        for tagged in self.tags.iter() {
+            if tagged.life == first.life && tagged.call == first.call {
+                return Some(tagged.tag.as_str());
+            }
+        }
+        None
+    }
+
+    /// A page is confirmed in this call of this life: which page of the call it is, from 1 on.
+    pub fn number(&mut self, call: u32) -> u32
+        ensures { self.new ≡ self.old }
+    {
+        if self.call == Some(call) {
+            self.number = self.number.saturating_add(1);
+        } else {
+            self.call = Some(call);
+            self.number = 1;
+        }
+        self.number
+    }
+
+    /// A page of an earlier life means none.
+    pub fn set_aside(&mut self, call: u32, number: u32) -> Result<(), NoMemory>
+        ensures { self.new ≡ self.old }
+    {
+        Ok(self.aside.push((call, number))?)
+    }
+
+    /// A call of an earlier life had this tag.
+    pub fn set_tag(
+        &mut self,
+        alloc: Global,
+        life: u32,
+        call: u32,
+        tag: &str,
+    ) -> Result<(), NoMemory>
+        ensures { self.new ≡ self.old }
+    {
+        let tag = String::from_str(alloc, tag)?;
+        Ok(self.tags.push(RestoredTag { life, call, tag })?)
+    }
+
+    /// One more page waits, behind the others. Without memory it is not noted, and from then on no job of the line is told to
+    /// have ended: its pages are restored at the next start, and sent again.
+    pub fn add(&mut self, page: Waiting)
+        ensures line { self.new.line ≡ self.old.line }
+    {
+        if self.push(page).is_err() {
+            self.is_whole = false;
+        }
+    }
+
+    /// The same, where an `Err` tells that it is not noted.
+    pub fn push(&mut self, page: Waiting) -> Result<(), AllocError>
+        ensures line { self.new.line ≡ self.old.line }
+        ensures waits { OnOk result (self.new.waits ≡ self.old.waits ++ page ∷ []) }
+    {
+        let is_behind = comes_behind(&page, self.waits.as_slice());
+        self.waits.push(page)?;
+        if !is_behind {
+            self.is_whole = false;
+        }
+        Ok(())
+    }
+
+    /// The job that is first in turn ended: so many pages wait no more. `None`: which ones they are is not known, and from then on
+    /// that is so of each job of the line.
+    pub fn end(&mut self, pages: u32) -> Option<Ended>
+        ensures line { self.new.line ≡ self.old.line }
+        ensures names { IfSome result (λ ended. NamesFirst pages ended self.old.waits) }
+        ensures left { IfSome result (λ _. self.new.waits ≡ drop pages self.old.waits) }
+    {
+        if !self.is_whole {
+            return None;
+        }
+        let Some(ended) = first_job(self.waits.as_slice(), pages) else {
+            self.is_whole = false;
+            return None;
+        };
+        let _ = self.waits.drain(..pages as usize);
+        Some(ended)
+    }
+}
+
+/// Whether a page came behind these.
+fn comes_behind(page: &Waiting, waits: &[Waiting]) -> bool
+    ensures { result ≡ true → AreInOrder waits.now → AreInOrder (waits.now ++ page.now ∷ []) }
+{
+    match waits.last() {
+        Some(last) => is_behind(page, last),
+        None => true,
+    }
+}
+
+/// Whether a page came behind another.
+fn is_behind(page: &Waiting, other: &Waiting) -> bool
+    ensures { IsTrue result ↔ IsBehind page.now other.now }
+{
+    if other.life != page.life {
+        return other.life < page.life;
+    }
+    if other.call != page.call {
+        return other.call < page.call;
+    }
+    other.number < page.number
+}
+
+/// The job of so many pages that is first in turn. `None`: so many do not wait, or they did not come in one call.
+fn first_job(waits: &[Waiting], pages: u32) -> Option<Ended>
+    requires { AreInOrder waits.now }
+    ensures { IfSome result (λ ended. NamesFirst pages ended waits.now) }
+{
+    let first = waits.first()?;
+    let last = waits.get((pages as usize).checked_sub(1)?)?;
+    if first.life != last.life || first.call != last.call {
+        return None;
+    }
+    Some(Ended {
+        life: first.life,
+        call: first.call,
+        first: first.number,
+        pages: last.number.checked_sub(first.number)?.checked_add(1)?,
+        kept: count_kept(waits, pages),
+    })
+}
+
+/// How many of the first pages are on the disk, of so many.
+fn count_kept(waits: &[Waiting], pages: u32) -> u64
+    ensures { result ≡ count_by (λ page. page.is_kept) (take pages waits.now) }
+{
+    waits
+        .iter()
+        .take(pages as usize)
+        .filter(|page| page.is_kept)
+        .count() as u64
+}
