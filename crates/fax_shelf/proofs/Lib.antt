@@ -1,3 +1,4 @@
+pub mod Calls
 mod Naming
 mod Records
 mod Waits

@@ -1,3 +1,4 @@
 pub mod Jobs
 pub mod Keeping
+pub mod Restorations
 pub mod Shelves
