@@ -2,4 +2,5 @@ pub mod Counts
 pub mod Endings
 pub mod HangUps
 pub mod Legs
+pub mod Openings
 pub mod Runs

@@ -4,6 +4,7 @@ ghost use Rattle.fax_gateway.specs.Setups.{AreAllowed};
 ghost use Rattle.fax_gateway.specs.Restored.{call_shown};
 ghost use Rattle.fax_line.specs.Actions.{BeginsWith};
 ghost use Rattle.fax_line.specs.Deeds.{AreBegun, AreNew};
+ghost use Rattle.fax_serve.specs.Openings.{AddsRestored};
 
 use crate::fault::ServeFault;
 use crate::leg_socket::LegSocket;
@@ -82,6 +83,7 @@ fn add_line<N: Net>(
     shelves: &mut Vec<Shelf>,
 ) -> Result<(), ServeFault>
     ensures begun { OnOk result (AreBegun lines.old.lines → AreBegun lines.new.lines) }
+    ensures restored { OnOk result (AddsRestored pages.now config.now lines.old.lines lines.new.lines) }
     ensures new { OnOk result (pages.now ≡ [] → AreNew lines.old.lines → AreNew lines.new.lines) }
     ensures slot { OnOk result (lines.new.slot ≡ lines.old.slot) }
     ensures one_more { OnOk result (length lines.new.lines ≡ length lines.old.lines + 1) }

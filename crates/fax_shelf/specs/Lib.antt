@@ -1,3 +1,5 @@
 pub mod Jobs
 pub mod Keeping
+pub mod Lives
+pub mod Restorations
 pub mod Shelves

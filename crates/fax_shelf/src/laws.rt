@@ -1,7 +1,34 @@
 //! Laws of the definitions: functions that do nothing, each of whose contracts is a theorem.
+ghost use Rattle.fax_shelf.specs.Lives.{OwedIsRestored, OwedStays, PutFirst, WaitsAreOwed};
 ghost use Rattle.fax_shelf.specs.Shelves.{NoneIsForgotten};
+
+use fax_pagestore::laws::pages_are_unique;
 
 /// The record of a job's end names no page but its own: each page that stays on the shelf waits on the disk as it did.
 pub fn ended_jobs_forget_no_other_page()
     ensures { NoneIsForgotten }
+{}
+
+/// Behind any deeds and crashes, what waits on the disk of a line's pages is what is owed.
+pub fn what_waits_is_owed()
+    ensures { WaitsAreOwed }
+{
+    pages_are_unique();
+}
+
+/// A life begins with what is owed, in the calls that it came in.
+pub fn what_is_owed_is_restored()
+    ensures { OwedIsRestored }
+{
+    pages_are_unique();
+}
+
+/// Only the end of a job takes a page from what is owed.
+pub fn what_is_owed_stays()
+    ensures { OwedStays }
+{}
+
+/// Nothing that may confirm a page goes out where it was not put; and one that was put is owed.
+pub fn pages_are_put_first()
+    ensures { PutFirst }
 {}

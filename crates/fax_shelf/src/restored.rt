@@ -1,5 +1,8 @@
 //! What a line is restored with behind a crash.
-ghost use Rattle.std.specs.Prelude.{◌≡◌, [], IfOk};
+ghost use Rattle.std.specs.Prelude.{◌≡◌, ℕ, List, [], ◌∷◌, ◌++◌, map, bytes_eq, IfOk, OnOk};
+ghost use Rattle.fax_spool.specs.RecordOctets.{PageValue as SpoolPage};
+ghost use Rattle.fax_gateway.specs.Restored.{call_shown, confirmation_shown};
+ghost use Rattle.fax_shelf.specs.Restorations.{AreIn, ReadPage, Restores, begins, begun, onto_last};
 
 use crate::shelf::{Shelf, Waiting};
 use fax_answer::Confirmed;
@@ -20,7 +23,7 @@ pub struct Restored {
 impl Restored {
     /// Nothing waits.
     fn new(alloc: Global, line: &str) -> Result<Self, NoMemory>
-        ensures { IfOk result (λ restored. restored.calls.items ≡ []) }
+        ensures { IfOk result (λ restored. Restores line.now [] restored) }
     {
         let shelf = Shelf::new(alloc, line)?;
         Ok(Restored {
@@ -29,26 +32,41 @@ impl Restored {
         })
     }
 
-    /// One more page waits.
+    /// One more page waits, of some line. Where it is one of this line, it is restored; it is set aside where its text means none,
+    /// and its record left as it is.
+    fn take(&mut self, alloc: Global, line: &str, waits: &WaitingPage) -> Result<(), NoMemory>
+        ensures { OnOk result ((pages : List SpoolPage) → Restores line.now pages self.old → Restores line.now (pages ++ waits.now ∷ []) self.new) }
+    {
+        if !is_of_line(waits, line) {
+            return Ok(());
+        }
+        let fault = match read_waiting_page(alloc, waits) {
+            Ok(page) => return self.add(alloc, waits, page),
+            Err(fault) => fault,
+        };
+        match fault {
+            PageFault::NoMemory => Err(NoMemory),
+            _ => self.shelf.set_aside(waits.call, waits.number),
+        }
+    }
+
+    /// One more page of the line waits.
     fn add(
         &mut self,
         alloc: Global,
         waits: &WaitingPage,
         page: Page<PackedRows>,
-    ) -> Result<(), NoMemory> {
-        let begins = match self.shelf.waits().last() {
-            Some(last) => last.life != waits.life || last.call != waits.call,
-            None => true,
-        };
-        if begins {
+    ) -> Result<(), NoMemory>
+        ensures { OnOk result ((name : List ℕ) (read : List ReadPage) → AreIn name read self.old → AreIn name (read ++ record { waits = waits.now; page = page } ∷ []) self.new) }
+    {
+        if begins_call(self.shelf.waits(), waits) {
             self.begin_call(alloc, waits)?;
         }
-        if let Some(call) = self.calls.last_mut() {
-            call.confirmed.push(Confirmed {
-                page,
-                closes: waits.closes,
-            })?;
-        }
+        let confirmed = Confirmed {
+            page,
+            closes: waits.closes,
+        };
+        confirm(&mut self.calls, confirmed)?;
         self.shelf.push(Waiting {
             life: waits.life,
             call: waits.call,
@@ -59,44 +77,80 @@ impl Restored {
     }
 
     /// The next page is the first of its call.
-    fn begin_call(&mut self, alloc: Global, waits: &WaitingPage) -> Result<(), NoMemory> {
-        self.calls.push(RestoredCall {
-            number: waits.call,
-            confirmed: Vec::new(alloc),
-        })?;
-        let Ok(tag) = std::str::from_utf8(waits.tag.as_slice()) else {
-            return Ok(());
-        };
-        if tag.is_empty() {
-            return Ok(());
-        }
-        self.shelf.set_tag(alloc, waits.life, waits.call, tag)
+    fn begin_call(&mut self, alloc: Global, waits: &WaitingPage) -> Result<(), NoMemory>
+        ensures calls { OnOk result (map call_shown self.new.calls.items ≡ map call_shown self.old.calls.items ++ begun waits.now ∷ []) }
+        ensures shelf { self.new.shelf ≡ self.old.shelf }
+    {
+        push_call(alloc, &mut self.calls, waits)?;
+        set_tag(alloc, &mut self.shelf, waits)
     }
+}
+
+/// A call with no page so far goes behind the others: the one that a page came in.
+fn push_call(
+    alloc: Global,
+    calls: &mut Vec<RestoredCall<PackedRows>>,
+    page: &WaitingPage,
+) -> Result<(), NoMemory>
+    ensures { OnOk result (map call_shown calls.new.items ≡ map call_shown calls.old.items ++ begun page.now ∷ []) }
+{
+    calls.push(RestoredCall {
+        number: page.call,
+        confirmed: Vec::new(alloc),
+    })?;
+    Ok(())
+}
+
+/// Keeps the tag of the call that a page came in, where it has one.
+fn set_tag(alloc: Global, shelf: &mut Shelf, page: &WaitingPage) -> Result<(), NoMemory>
+    ensures { shelf.new ≡ shelf.old }
+{
+    match std::str::from_utf8(page.tag.as_slice()) {
+        Ok(tag) if !tag.is_empty() => shelf.set_tag(alloc, page.life, page.call, tag),
+        _ => Ok(()),
+    }
+}
+
+/// Whether a page that waits is one of the line of this name.
+fn is_of_line(waits: &WaitingPage, line: &str) -> bool
+    ensures { result ≡ bytes_eq waits.now.line line.now }
+{
+    waits.line.as_slice() == line.as_bytes()
+}
+
+/// Whether a page is the first of its call, where these wait before it.
+fn begins_call(before: &[Waiting], page: &WaitingPage) -> bool
+    ensures { result ≡ begins before.now page.now }
+{
+    match before.last() {
+        Some(last) => last.life != page.life || last.call != page.call,
+        None => true,
+    }
+}
+
+/// One more page of the call that began last.
+fn confirm(
+    calls: &mut Vec<RestoredCall<PackedRows>>,
+    confirmed: Confirmed<PackedRows>,
+) -> Result<(), NoMemory>
+    ensures { OnOk result (map call_shown calls.new.items ≡ onto_last (confirmation_shown confirmed) (map call_shown calls.old.items)) }
+{
+    let Some(mut call) = calls.pop() else {
+        return Ok(());
+    };
+    call.confirmed.push(confirmed)?;
+    calls.push(call)?;
+    Ok(())
 }
 
 /// What the line of this name begins with where these pages wait: its own, the oldest first. One whose text means no page is set
 /// aside, and its record left as it is.
 pub fn restore_line(alloc: Global, line: &str, pages: &[WaitingPage]) -> Result<Restored, NoMemory>
-    ensures { pages.now ≡ [] → IfOk result (λ restored. restored.calls.items ≡ []) }
+    ensures { IfOk result (λ restored. Restores line.now pages.now restored) }
 {
-    if pages.is_empty() {
-        return Restored::new(alloc, line);
-    }
-    restore_pages(alloc, line, pages)
-}
-
-/// The same where pages wait.
-fn restore_pages(alloc: Global, line: &str, pages: &[WaitingPage]) -> Result<Restored, NoMemory> {
     let mut restored = Restored::new(alloc, line)?;
     for waits in pages {
-        if waits.line.as_slice() != line.as_bytes() {
-            continue;
-        }
-        match read_waiting_page(alloc, waits) {
-            Ok(page) => restored.add(alloc, waits, page)?,
-            Err(PageFault::NoMemory) => return Err(NoMemory),
-            Err(_) => restored.shelf.set_aside(waits.call, waits.number)?,
-        }
+        restored.take(alloc, line, waits)?;
     }
     Ok(restored)
 }

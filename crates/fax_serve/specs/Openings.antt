@@ -1,0 +1,22 @@
+-- What a line of a configuration is opened with. (This project's profile.)
+use Rattle.std.specs.Prelude.{◌≡◌, List, [], ◌∷◌, ◌++◌, map}
+use Rattle.std.specs.String.{string_bytes}
+use Rattle.fax_config.specs.declared.config.LineConfig.{LineConfig}
+use Rattle.fax_gateway.specs.Restored.{call_shown}
+use Rattle.fax_line.specs.Actions.{BeginsWith}
+use Rattle.fax_line.specs.Places.{PlaceValue}
+use Rattle.fax_spool.specs.RecordOctets as spool
+use Rattle.fax_shelf.specs.Restorations.{Restores}
+use Rattle.fax_shelf.specs.declared.restored.Restored.{Restored}
+
+-- A LINE BEGINS WITH THE CALLS OF ITS OWN of these pages: of those that have its name.
+pub record IsRestored (pages : List spool.PageValue) (config : LineConfig) (place : PlaceValue) : Type 0 where
+  pub restored : Restored
+  pub restores : Restores (string_bytes config.name) pages restored
+  pub begins : BeginsWith (map call_shown restored.calls.items) place.line
+
+-- one more line, behind the others
+pub record AddsRestored (pages : List spool.PageValue) (config : LineConfig) (olds news : List PlaceValue) : Type 0 where
+  pub place : PlaceValue
+  pub added : news ≡ olds ++ place ∷ []
+  pub is : IsRestored pages config place

@@ -1,0 +1,209 @@
+-- One more page of a line that is restored.
+use Rattle.std.proofs.Common.{◌≡◌, ◌≢◌, ◌∙◌, ℕ, zero, suc, ◌-◌, ◌⊎◌, inl, inr, Bool, true, false, not, ◌&&◌, cond, if◌then◌else◌, List, [], ◌∷◌, ◌++◌, length, map, Option, Some, None, slice_get, refl, sym, ap, subst, arith, nat_eq, bytes_eq, Vec, Global, Result, Ok, Err, OnOk}
+use Rattle.std.specs.List.{filter}
+use Rattle.std.proofs.lemmas.Bool.Decides.{nat_tests}
+use Rattle.fax_pagestore.specs.Pages.{PageValue}
+use Rattle.fax_jobs.specs.Cuts.{Confirmation}
+use Rattle.fax_answer.specs.declared.step.Confirmed.{Confirmed}
+use Rattle.fax_spool.specs.RecordOctets as spool
+use Rattle.fax_gateway.specs.Restored.{RestoredCall, call_shown, confirmation_shown}
+use Rattle.fax_gateway.specs.declared.restored.RestoredCall as shown
+use Rattle.std.proofs.lemmas.List.{append-nil, map-append}
+use Rattle.fax_shelf.specs.Shelves.{ShelfValue}
+use Rattle.fax_shelf.specs.declared.shelf.Waiting.{Waiting}
+use Rattle.fax_shelf.specs.declared.restored.Restored.{Restored}
+use Rattle.fax_shelf.specs.Restorations.{AreIn, AreRead, Means, MeansNone, ReadPage, Restores, before, before_all, begins, begun, call_with, calls_of, confirmation_of, in_one_call, onto_last, own_pages, waiting_of}
+
+-- ---- the calls
+
+abbrev pub with_begun : Bool → spool.PageValue → List RestoredCall → List RestoredCall
+with_begun true page calls = calls ++ begun page ∷ []
+with_begun false page calls = calls
+
+onto_call : (b : Bool) (c : Confirmation) (page : spool.PageValue) (first next : RestoredCall) (calls : List RestoredCall)
+    → onto_last c (with_begun b page (first ∷ next ∷ calls)) ≡ first ∷ onto_last c (with_begun b page (next ∷ calls))
+onto_call true c page first next calls = refl
+onto_call false c page first next calls = refl
+
+-- there is a call where there is a page
+some_call : (r : ReadPage) (read : List ReadPage) → (call : RestoredCall) × (calls : List RestoredCall) × (calls_of (r ∷ read) ≡ call ∷ calls)
+some_call r [] = (call_with r, [], refl)
+some_call r (next ∷ read) =
+    let there = some_call next read in
+    elim (in_one_call r.waits next.waits) as (λ b. (call : RestoredCall) × (calls : List RestoredCall) × ((if b then before_all r (calls_of (next ∷ read)) else call_with r ∷ calls_of (next ∷ read)) ≡ call ∷ calls)) [
+      | true ↦ (record { number = there.0.number; confirmed = confirmation_of r ∷ there.0.confirmed }, there.1, ap (λ (l : List RestoredCall). before_all r l) there.2)
+      | false ↦ (call_with r, calls_of (next ∷ read), refl)
+    ]
+
+joins : (b : Bool) (c : Confirmation) (page : spool.PageValue) (r : ReadPage) (call : RestoredCall) (calls : List RestoredCall)
+    → before_all r (onto_last c (with_begun b page (call ∷ calls))) ≡ onto_last c (with_begun b page (before_all r (call ∷ calls)))
+joins true c page r call [] = refl
+joins true c page r call (next ∷ calls) = refl
+joins false c page r call [] = refl
+joins false c page r call (next ∷ calls) = refl
+
+stands_before : (b t : Bool) (c : Confirmation) (page : spool.PageValue) (r : ReadPage) (call : RestoredCall) (calls : List RestoredCall)
+    → (if t then before_all r (onto_last c (with_begun b page (call ∷ calls))) else call_with r ∷ onto_last c (with_begun b page (call ∷ calls)))
+    ≡ onto_last c (with_begun b page (if t then before_all r (call ∷ calls) else call_with r ∷ call ∷ calls))
+stands_before b true c page r call calls = joins b c page r call calls
+stands_before b false c page r call calls = sym (onto_call b c page (call_with r) call calls)
+
+one_more : (x r : ReadPage) (t : Bool) → in_one_call x.waits r.waits ≡ t
+    → (if t then before_all x (call_with r ∷ []) else call_with x ∷ call_with r ∷ []) ≡ onto_last (confirmation_of r) (with_begun (not t) r.waits (call_with x ∷ []))
+one_more x r true is =
+    let same : r.waits.call ≡ x.waits.call = grind (arith, nat_tests) in
+    ap (λ (n : ℕ). record { number = n; confirmed = confirmation_of x ∷ confirmation_of r ∷ [] } ∷ []) same
+one_more x r false is = refl
+
+pub calls_more : (read : List ReadPage) (r : ReadPage) → calls_of (read ++ r ∷ []) ≡ onto_last (confirmation_of r) (with_begun (begins (map waiting_of read) r.waits) r.waits (calls_of read))
+calls_more [] r = refl
+calls_more (x ∷ []) r = one_more x r (in_one_call x.waits r.waits) refl
+calls_more (x ∷ y ∷ read) r =
+    let b = begins (map waiting_of (y ∷ read)) r.waits in
+    let t = in_one_call x.waits y.waits in
+    let some = some_call y read in
+    ap (λ (l : List RestoredCall). if t then before_all x l else call_with x ∷ l) (calls_more (y ∷ read) r ∙ ap (λ (l : List RestoredCall). onto_last (confirmation_of r) (with_begun b r.waits l)) some.2)
+    ∙ stands_before b t (confirmation_of r) r.waits x some.0 some.1
+    ∙ ap (λ (l : List RestoredCall). onto_last (confirmation_of r) (with_begun b r.waits (if t then before_all x l else call_with x ∷ l))) (sym some.2)
+
+-- ---- the pages that are read
+
+pub own_more : (line : List ℕ) (pages : List spool.PageValue) (page : spool.PageValue) → own_pages line (pages ++ page ∷ []) ≡ own_pages line pages ++ own_pages line (page ∷ [])
+own_more line [] page = refl
+own_more line (p ∷ pages) page =
+    elim (bytes_eq p.line line) as (λ b. cond b (p ∷ own_pages line (pages ++ page ∷ [])) (own_pages line (pages ++ page ∷ [])) ≡ cond b (p ∷ own_pages line pages) (own_pages line pages) ++ own_pages line (page ∷ [])) [
+      | true ↦ ap (λ (l : List spool.PageValue). p ∷ l) (own_more line pages page)
+      | false ↦ own_more line pages page
+    ]
+
+read_more : (waits : List spool.PageValue) (read : List ReadPage) (w : spool.PageValue) (page : PageValue) → AreRead waits read → Means w page → AreRead (waits ++ w ∷ []) (read ++ record { waits = w; page = page } ∷ [])
+read_more [] [] w page are means = inl (refl, means, refl)
+read_more [] (r ∷ read) w page are means = absurd (cc)
+read_more (v ∷ waits) [] w page are means = inr (are.0, read_more waits [] w page are.1 means)
+read_more (v ∷ waits) (r ∷ read) w page (inl is) means = inl (is.0, is.1, read_more waits read w page is.2 means)
+read_more (v ∷ waits) (r ∷ read) w page (inr none) means = inr (none.0, read_more waits (r ∷ read) w page none.1 means)
+
+read_aside : (waits : List spool.PageValue) (read : List ReadPage) (w : spool.PageValue) → AreRead waits read → MeansNone w → AreRead (waits ++ w ∷ []) read
+read_aside [] [] w are none = (none, refl)
+read_aside [] (r ∷ read) w are none = absurd (cc)
+read_aside (v ∷ waits) [] w are none = (are.0, read_aside waits [] w are.1 none)
+read_aside (v ∷ waits) (r ∷ read) w (inl is) none = inl (is.0, is.1, read_aside waits read w is.2 none)
+read_aside (v ∷ waits) (r ∷ read) w (inr is) none = inr (is.0, read_aside waits (r ∷ read) w is.1 none)
+
+-- ---- the last one that waits
+
+last_begins : (waits : List Waiting) (last : Waiting) (n : ℕ) (page : spool.PageValue) → n ≡ length waits - 1 → slice_get waits n ≡ Some last → begins waits page ≡ not (nat_eq last.life page.life && nat_eq last.call page.call)
+last_begins [] last n page end at = cc
+last_begins (w ∷ []) last zero page end at = let same : w ≡ last = cc in ap (λ (v : Waiting). not (nat_eq v.life page.life && nat_eq v.call page.call)) same
+last_begins (w ∷ []) last (suc n) page end at = cc
+last_begins (w ∷ v ∷ waits) last zero page end at = absurd (omega arith)
+last_begins (w ∷ v ∷ waits) last (suc n) page end at = last_begins (v ∷ waits) last n page (omega arith) at
+
+pub begins_so : (waits : List Waiting) (last : Waiting) (page : spool.PageValue) (b : Bool) → slice_get waits (length waits - 1) ≡ Some last → b ≡ not (nat_eq last.life page.life && nat_eq last.call page.call) → b ≡ begins waits page
+begins_so waits last page b at is = is ∙ sym (last_begins waits last (length waits - 1) page refl at)
+
+differ_life : (a b c d : ℕ) → a ≢ b → not (nat_eq a b) ≡ not (nat_eq a b && nat_eq c d)
+differ_life a b c d h = grind (arith, nat_tests)
+
+differ_call : (a b c d : ℕ) → a ≡ b → not (nat_eq c d) ≡ not (nat_eq a b && nat_eq c d)
+differ_call a b c d h = grind (arith, nat_tests)
+
+pub begins_in_life : (waits : List Waiting) (last : Waiting) (page : spool.PageValue) → slice_get waits (length waits - 1) ≡ Some last → last.life ≢ page.life → not (nat_eq last.life page.life) ≡ begins waits page
+begins_in_life waits last page at h = begins_so waits last page _ at (differ_life last.life page.life last.call page.call h)
+
+pub begins_in_call : (waits : List Waiting) (last : Waiting) (page : spool.PageValue) → slice_get waits (length waits - 1) ≡ Some last → last.life ≡ page.life → not (nat_eq last.call page.call) ≡ begins waits page
+begins_in_call waits last page at h = begins_so waits last page _ at (differ_call last.life page.life last.call page.call h)
+
+-- ---- what the code does
+
+onto_behind : (calls : List RestoredCall) (call : RestoredCall) (c : Confirmation) → onto_last c (calls ++ call ∷ []) ≡ calls ++ record { number = call.number; confirmed = call.confirmed ++ c ∷ [] } ∷ []
+onto_behind [] call c = refl
+onto_behind (x ∷ []) call c = refl
+onto_behind (x ∷ y ∷ calls) call c = ap (λ (l : List RestoredCall). x ∷ l) (onto_behind (y ∷ calls) call c)
+
+pub confirms : {S : Type 0} (before : List (shown.RestoredCall S)) (call more : shown.RestoredCall S) (confirmed : Confirmed S) (olds news : List (shown.RestoredCall S))
+    → olds ≡ before ++ call ∷ [] → news ≡ before ++ more ∷ [] → more.number ≡ call.number → more.confirmed.items ≡ call.confirmed.items ++ confirmed ∷ []
+    → map call_shown news ≡ onto_last (confirmation_shown confirmed) (map call_shown olds)
+confirms {S} before call more confirmed olds news was is number items =
+    let shown_more : call_shown more ≡ record { number = call.number; confirmed = map confirmation_shown call.confirmed.items ++ confirmation_shown confirmed ∷ [] } =
+    ap (λ (n : ℕ). record { number = n; confirmed = map confirmation_shown more.confirmed.items }) number
+    ∙ ap (λ (l : List Confirmation). record { number = call.number; confirmed = l }) (ap (λ (l : List (Confirmed S)). map confirmation_shown l) items ∙ map-append confirmation_shown call.confirmed.items (confirmed ∷ [])) in
+    ap (λ (l : List (shown.RestoredCall S)). map call_shown l) is
+    ∙ map-append call_shown before (more ∷ [])
+    ∙ ap (λ (r : RestoredCall). map call_shown before ++ r ∷ []) shown_more
+    ∙ sym (onto_behind (map call_shown before) (call_shown call) (confirmation_shown confirmed))
+    ∙ ap (λ (l : List RestoredCall). onto_last (confirmation_shown confirmed) l) (sym (map-append call_shown before (call ∷ [])) ∙ ap (λ (l : List (shown.RestoredCall S)). map call_shown l) (sym was))
+
+-- what stands before its confirmation: its call where it begins one
+pub is_begun : {S : Type 0} (b : Bool) (page : spool.PageValue) (olds news : List (shown.RestoredCall S)) (call : shown.RestoredCall S) → call_shown call ≡ begun page → news ≡ cond b (olds ++ call ∷ []) olds
+    → map call_shown news ≡ with_begun b page (map call_shown olds)
+is_begun {S} true page olds news call shows is =
+    ap (λ (l : List (shown.RestoredCall S)). map call_shown l) is ∙ map-append call_shown olds (call ∷ []) ∙ ap (λ (r : RestoredCall). map call_shown olds ++ r ∷ []) shows
+is_begun {S} false page olds news call shows is = ap (λ (l : List (shown.RestoredCall S)). map call_shown l) is
+
+pub in_more : (line : List ℕ) (read : List ReadPage) (r : ReadPage) (old new : Restored) (b : Bool) (between : List RestoredCall) → b ≡ begins old.shelf.waits r.waits → between ≡ with_begun b r.waits (map call_shown old.calls.items)
+    → map call_shown new.calls.items ≡ onto_last (confirmation_of r) between → new.shelf.waits ≡ old.shelf.waits ++ waiting_of r ∷ [] → new.shelf.line ≡ old.shelf.line → AreIn line read old → AreIn line (read ++ r ∷ []) new
+in_more line read r old new b between tells begun_is calls waits same are = record {
+  named = same ∙ are.named;
+  calls =
+      calls
+      ∙ ap (λ (l : List RestoredCall). onto_last (confirmation_of r) l) (begun_is ∙ ap (λ (t : Bool). with_begun t r.waits (map call_shown old.calls.items)) (tells ∙ ap (λ (l : List Waiting). begins l r.waits) are.waits) ∙ ap (λ (l : List RestoredCall). with_begun (begins (map waiting_of read) r.waits) r.waits l) are.calls)
+      ∙ sym (calls_more read r);
+  waits = waits ∙ ap (λ (l : List Waiting). l ++ waiting_of r ∷ []) are.waits ∙ sym (map-append waiting_of read (r ∷ []));
+}
+
+pub shows_begun : {S : Type 0} (call : shown.RestoredCall S) (page : spool.PageValue) → call.number ≡ page.call → call.confirmed.items ≡ [] → call_shown call ≡ begun page
+shows_begun {S} call page number none =
+    ap (λ (n : ℕ). record { number = n; confirmed = map confirmation_shown call.confirmed.items }) number
+    ∙ ap (λ (l : List (Confirmed S)). record { number = page.call; confirmed = map confirmation_shown l }) none
+
+-- ---- one more page of all that wait
+
+own_one : (line : List ℕ) (w : spool.PageValue) (b : Bool) → bytes_eq w.line line ≡ b → own_pages line (w ∷ []) ≡ cond b (w ∷ []) []
+own_one line w b is = ap (λ (t : Bool). cond t (w ∷ []) []) is
+
+pub restores_more : (line : List ℕ) (pages : List spool.PageValue) (w : spool.PageValue) (page : PageValue) (old new : Restored) → bytes_eq w.line line ≡ true → Means w page
+    → ((name : List ℕ) (read : List ReadPage) → AreIn name read old → AreIn name (read ++ record { waits = w; page = page } ∷ []) new) → Restores line pages old → Restores line (pages ++ w ∷ []) new
+restores_more line pages w page old new is means more was = record {
+  read = was.read ++ record { waits = w; page = page } ∷ [];
+  own = subst (λ (l : List spool.PageValue). AreRead l (was.read ++ record { waits = w; page = page } ∷ [])) (sym (own_more line pages w ∙ ap (λ (l : List spool.PageValue). own_pages line pages ++ l) (own_one line w true is)))
+      (read_more (own_pages line pages) was.read w page was.own means);
+  are = more line was.read was.are;
+}
+
+pub restores_aside : (line : List ℕ) (pages : List spool.PageValue) (w : spool.PageValue) (old new : Restored) → bytes_eq w.line line ≡ true → MeansNone w
+    → map call_shown new.calls.items ≡ map call_shown old.calls.items → new.shelf ≡ old.shelf → Restores line pages old → Restores line (pages ++ w ∷ []) new
+restores_aside line pages w old new is none calls shelf was = record {
+  read = was.read;
+  own = subst (λ (l : List spool.PageValue). AreRead l was.read) (sym (own_more line pages w ∙ ap (λ (l : List spool.PageValue). own_pages line pages ++ l) (own_one line w true is)))
+      (read_aside (own_pages line pages) was.read w was.own none);
+  are = record {
+    named = ap (λ (s : ShelfValue). s.line) shelf ∙ was.are.named;
+    calls = calls ∙ was.are.calls;
+    waits = ap (λ (s : ShelfValue). s.waits) shelf ∙ was.are.waits;
+  };
+}
+
+pub restores_other : (line : List ℕ) (pages : List spool.PageValue) (w : spool.PageValue) (old : Restored) → bytes_eq w.line line ≡ false → Restores line pages old → Restores line (pages ++ w ∷ []) old
+restores_other line pages w old is was = record {
+  read = was.read;
+  own = subst (λ (l : List spool.PageValue). AreRead l was.read) (sym (own_more line pages w ∙ ap (λ (l : List spool.PageValue). own_pages line pages ++ l) (own_one line w false is) ∙ append-nil (own_pages line pages))) was.own;
+  are = was.are;
+}
+
+-- ---- where an answer is an `Ok`
+
+pub taken : {E : Type 0} (answer : Result (Unit {0}) E) (line : List ℕ) (w : spool.PageValue) (page : PageValue) (old new : Restored) → bytes_eq w.line line ≡ true → Means w page
+    → OnOk answer ((name : List ℕ) (read : List ReadPage) → AreIn name read old → AreIn name (read ++ record { waits = w; page = page } ∷ []) new)
+    → OnOk answer ((pages : List spool.PageValue) → Restores line pages old → Restores line (pages ++ w ∷ []) new)
+taken (Ok u) line w page old new is means more = λ pages was. restores_more line pages w page old new is means more was
+taken (Err e) line w page old new is means more = more
+
+pub put_aside : {E : Type 0} (answer : Result (Unit {0}) E) (line : List ℕ) (w : spool.PageValue) (old new : Restored) → bytes_eq w.line line ≡ true → MeansNone w
+    → map call_shown new.calls.items ≡ map call_shown old.calls.items → new.shelf ≡ old.shelf → OnOk answer ((pages : List spool.PageValue) → Restores line pages old → Restores line (pages ++ w ∷ []) new)
+put_aside (Ok u) line w old new is none calls waits = λ pages was. restores_aside line pages w old new is none calls waits was
+put_aside (Err e) line w old new is none calls waits = tt
+
+-- where no page waits there is no call
+pub no_calls : (line : List ℕ) (pages : List spool.PageValue) (restored : Restored) → Restores line pages restored → pages ≡ [] → map call_shown restored.calls.items ≡ []
+no_calls line pages restored is none = is.are.calls ∙ ap (λ (l : List ReadPage). calls_of l) (subst (λ (l : List spool.PageValue). AreRead (own_pages line l) is.read) none is.own)

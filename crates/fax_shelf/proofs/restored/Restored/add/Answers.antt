@@ -1,0 +1,38 @@
+use Rattle.std.proofs.Common.{◌≡◌, ◌∙◌, ◌∷◌, ◌++◌, [], Bool, true, false, List, sym, ap, subst, map}
+use Rattle.fax_spool.specs.RecordOctets as spool
+use Rattle.fax_gateway.specs.Restored.{call_shown}
+use Rattle.fax_shelf.specs.declared.restored.Restored.{Restored}
+use Rattle.fax_shelf.specs.declared.shelf.Waiting.{Waiting}
+use Rattle.fax_shelf.specs.Shelves.{ShelfValue}
+use Rattle.fax_shelf.specs.Restorations.{ReadPage, begins, onto_last, waiting_of}
+use Rattle.fax_shelf.proofs.Calls.{in_more, with_begun}
+use Rattle.fax_shelf.proofs.restored.Restored.add.Goals as goal
+use Rattle.fax_shelf.proofs.restored.Restored.add.Goals.{then-begins_call+in_ok-begin_call, else-begins_call}
+
+pub returns : goal.returns
+returns c = λ name read are.
+    let page = c.args.waits.now in
+    let r : ReadPage = record { waits = page; page = c.args.page } in
+    let view = c.waits-2.view_is in
+    let inside = c.waits-2.inside in
+    let old = c.args.self.now in
+    let between = c.if-begins_call.self in
+    let begun_is : map call_shown between.calls.items ≡ with_begun c.begins_call.result page (map call_shown old.calls.items) =
+    elim c.if-begins_call.branch [
+      | then-begins_call+in_ok-begin_call w ↦
+          subst (λ (t : Bool). map call_shown between.calls.items ≡ with_begun t page (map call_shown old.calls.items)) (sym w.if-begins_call.true)
+          (ap (λ (s : Restored). map call_shown s.calls.items) w.self-is ∙ w.in_ok-begin_call.ensures.calls)
+      | else-begins_call w ↦
+          subst (λ (t : Bool). map call_shown between.calls.items ≡ with_begun t page (map call_shown old.calls.items)) (sym w.if-begins_call.false) (ap (λ (s : Restored). map call_shown s.calls.items) w.self-is)
+    ] in
+    let shelf_is : between.shelf ≡ old.shelf =
+    elim c.if-begins_call.branch [
+      | then-begins_call+in_ok-begin_call w ↦ ap (λ (s : Restored). s.shelf) w.self-is ∙ w.in_ok-begin_call.ensures.shelf
+      | else-begins_call w ↦ ap (λ (s : Restored). s.shelf) w.self-is
+    ] in
+    let seen : spool.PageValue = record { life = inside.life; call = inside.call; number = inside.number; format = inside.format; closes = inside.closes; line = inside.line.items; tag = inside.tag.items; text = inside.text.items } in
+    in_more name read r old (record { calls = c.confirm.new.calls; shelf = c.push.new.self }) c.begins_call.result (map call_shown between.calls.items)
+    (c.begins_call.ensures ∙ ap (λ (l : List Waiting). begins l page) c.waits.ensures) begun_is
+    (c.in_ok-confirm.ensures ∙ ap (λ (p : spool.PageValue). onto_last (record { page = c.args.page; closes = p.closes }) (map call_shown between.calls.items)) view)
+    (c.in_ok-push.ensures.waits ∙ ap (λ (s : ShelfValue). s.waits ++ waiting_of (record { waits = seen; page = c.args.page }) ∷ []) shelf_is ∙ ap (λ (p : spool.PageValue). old.shelf.waits ++ waiting_of (record { waits = p; page = c.args.page }) ∷ []) view)
+    (c.in_ok-push.ensures.line ∙ ap (λ (s : ShelfValue). s.line) shelf_is) are

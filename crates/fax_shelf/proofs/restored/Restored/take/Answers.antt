@@ -1,0 +1,12 @@
+use Rattle.std.proofs.Common.{◌∙◌, inl, inr, refl, sym}
+use Rattle.fax_shelf.specs.Restorations.{MeansNone}
+use Rattle.fax_shelf.proofs.Calls.{put_aside, taken}
+use Rattle.fax_shelf.proofs.restored.Restored.take.Goals as goal
+
+pub returns-in-Ok : goal.returns-in-Ok
+returns-in-Ok c = taken c.add.result c.args.line.now c.args.waits.now c.in-Ok.page c.args.self.now c.add.new.self (sym c.is_of_line.ensures ∙ c.if-not-is_of_line.false) c.in-Ok.ensures.page c.add.ensures
+
+pub returns-in_default : goal.returns-in_default
+returns-in_default c =
+    let none : MeansNone c.args.waits.now = λ page means. elim (c.in-Err.ensures.reads page means) [ inl other ↦ cc | inr same ↦ c.in_default.not-NoMemory (cc) ] in
+    put_aside c.set_aside.result c.args.line.now c.args.waits.now c.args.self.now (record { calls = c.args.self.now.calls; shelf = c.set_aside.new.self }) (sym c.is_of_line.ensures ∙ c.if-not-is_of_line.false) none refl c.set_aside.ensures

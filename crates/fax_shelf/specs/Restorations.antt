@@ -1,0 +1,90 @@
+-- What a line is restored with behind a crash: the pages of its own that wait, in the calls that they came in. Lists have the
+-- oldest first. (This project's profile.)
+use Rattle.std.specs.Prelude.{◌≡◌, ℕ, ◌⊎◌, Bool, true, not, ◌&&◌, nat_eq, bytes_eq, List, [], ◌∷◌, ◌++◌, map, if◌then◌else◌}
+use Rattle.std.specs.List.{filter}
+use Rattle.fax_runcodes.specs.declared.format.Coding.TheVariants.{Mr}
+use Rattle.fax_pagestore.specs.Pages.{PageValue}
+use Rattle.fax_pagestore.specs.PageTexts.{MeansPage}
+use Rattle.fax_jobs.specs.Cuts.{Confirmation}
+use Rattle.fax_spool.specs.RecordOctets as spool
+use Rattle.fax_gateway.specs.Restored.{RestoredCall, call_shown}
+use Rattle.fax_shelf.specs.declared.shelf.Waiting.{Waiting}
+use Rattle.fax_shelf.specs.declared.restored.Restored.{Restored}
+
+-- of the pages that wait, those of a line
+abbrev pub own_pages : List ℕ → List spool.PageValue → List spool.PageValue
+own_pages line pages = filter (λ page. bytes_eq page.line line) pages
+
+-- what the text of its record means: a page of its format, in two-dimensional coding
+abbrev pub Means : spool.PageValue → PageValue → Type 0
+Means waits page = MeansPage waits.format Mr waits.text page
+
+abbrev pub MeansNone : spool.PageValue → Type 0
+MeansNone waits = (page : PageValue) → Means waits page → ⊥
+
+-- a page that waits, and the page that its text means
+pub record ReadPage : Type 0 where
+  pub waits : spool.PageValue
+  pub page : PageValue
+
+-- Each is read, in their order; one whose text means no page is set aside.
+abbrev pub AreRead : List spool.PageValue → List ReadPage → Type 0
+AreRead [] read = read ≡ []
+AreRead (w ∷ waits) [] = MeansNone w × AreRead waits []
+AreRead (w ∷ waits) (r ∷ read) = ((r.waits ≡ w) × Means w r.page × AreRead waits read) ⊎ (MeansNone w × AreRead waits (r ∷ read))
+
+abbrev pub confirmation_of : ReadPage → Confirmation
+confirmation_of r = record { page = r.page; closes = r.waits.closes }
+
+-- Pages behind one another that came in one call of one life are of one call.
+abbrev pub in_one_call : spool.PageValue → spool.PageValue → Bool
+in_one_call page next = nat_eq page.life next.life && nat_eq page.call next.call
+
+abbrev pub call_with : ReadPage → RestoredCall
+call_with r = record { number = r.waits.call; confirmed = confirmation_of r ∷ [] }
+
+abbrev pub before_all : ReadPage → List RestoredCall → List RestoredCall
+before_all r [] = []
+before_all r (call ∷ calls) = record { number = call.number; confirmed = confirmation_of r ∷ call.confirmed } ∷ calls
+
+abbrev pub before : ReadPage → List ReadPage → List RestoredCall → List RestoredCall
+before r [] calls = call_with r ∷ calls
+before r (next ∷ read) calls = if in_one_call r.waits next.waits then before_all r calls else call_with r ∷ calls
+
+abbrev pub calls_of : List ReadPage → List RestoredCall
+calls_of [] = []
+calls_of (r ∷ read) = before r read (calls_of read)
+
+-- what is known of a page that waits on the disk
+abbrev pub waiting_of : ReadPage → Waiting
+waiting_of r = record { life = r.waits.life; call = r.waits.call; number = r.waits.number; is_kept = true }
+
+-- these pages are in the calls, and on the shelf of the line, and no others
+pub record AreIn (line : List ℕ) (read : List ReadPage) (restored : Restored) : Type 0 where
+  pub named : restored.shelf.line ≡ line
+  pub calls : map call_shown restored.calls.items ≡ calls_of read
+  pub waits : restored.shelf.waits ≡ map waiting_of read
+
+-- THE CALLS OF A LINE THAT IS RESTORED are those of its own pages that wait, and so are the pages of its shelf.
+pub record Restores (line : List ℕ) (pages : List spool.PageValue) (restored : Restored) : Type 0 where
+  pub read : List ReadPage
+  pub own : AreRead (own_pages line pages) read
+  pub are : AreIn line read restored
+
+-- ---- one more page
+
+-- the call that it begins, with no page so far
+abbrev pub begun : spool.PageValue → RestoredCall
+begun page = record { number = page.call; confirmed = [] }
+
+-- it begins a call, where these wait before it
+abbrev pub begins : List Waiting → spool.PageValue → Bool
+begins [] page = true
+begins (w ∷ []) page = not (nat_eq w.life page.life && nat_eq w.call page.call)
+begins (w ∷ v ∷ waits) page = begins (v ∷ waits) page
+
+-- it is the last of the last call
+abbrev pub onto_last : Confirmation → List RestoredCall → List RestoredCall
+onto_last c [] = []
+onto_last c (call ∷ []) = record { number = call.number; confirmed = call.confirmed ++ c ∷ [] } ∷ []
+onto_last c (call ∷ next ∷ calls) = call ∷ onto_last c (next ∷ calls)
