@@ -1,6 +1,6 @@
 //! A wire that holds back.
 use fax_gateway::{Side, Wire, WireFault};
-use fax_hold::{HoldingWire, KeepFault, Keeper, settle};
+use fax_hold::{HoldingWire, KeepFault, Keeper, end_turn, keep};
 use fax_repeat::{RepeatPolicy, RepeatingWire, TimedWire};
 use std::alloc::Global;
 use std::process::Abort;
@@ -46,11 +46,11 @@ impl Keeper<u8> for Shelf {
 
     ghost keeps = { λ shelf pages. shelf.pages.items ≡ pages };
 
-    fn keep(&mut self, page: u8) -> Result<(), KeepFault> {
-        if self.pages.len() >= self.room {
+    fn keep_all(&mut self, pages: &[u8]) -> Result<(), KeepFault> {
+        if self.pages.len().saturating_add(pages.len()) > self.room {
             return Err(KeepFault);
         }
-        match self.pages.push(page) {
+        match self.pages.extend_from_slice(pages) {
             Ok(()) => Ok(()),
             Err(_) => Err(KeepFault),
         }
@@ -74,7 +74,11 @@ fn turn(shelf: &mut Shelf, wire: &mut Held, now: u64, given: u8, page: Option<u8
     let _ = wire.send(Side::Calling, &[given]);
     let _ = wire.send(Side::Called, &[given.wrapping_add(100)]);
     let before = wire.wire().wire().sent.len();
-    let _ = settle(shelf, wire, page);
+    let is_kept = match page {
+        Some(page) => keep(shelf, &[page]).is_ok(),
+        None => keep(shelf, &[]).is_err(),
+    };
+    end_turn(wire, page.is_some(), is_kept);
     before
 }
 
