@@ -9,10 +9,11 @@ mod settling;
 
 use fax_bits::NoMemory;
 use fax_gateway::{Buffer, Kept, RingFault, Settings, Turned};
+use fax_hold::LineWire;
 use fax_jobs::{Outcome, Report};
 use fax_line::{Line, Lines, Order, Pace, SLOTS, serve};
 use fax_pagestore::Format;
-use fax_repeat::{RepeatPolicy, RepeatingWire, TimedWire};
+use fax_repeat::{RepeatPolicy, RepeatingWire};
 use fax_runcodes::Width;
 use peers::PeerWire;
 use std::alloc::Global;
@@ -171,7 +172,7 @@ struct Minute {
     rung: Vec<(usize, Option<Result<u32, RingFault>>)>,
 }
 
-impl<W: TimedWire + Drop> Pace<W> for Minute {
+impl<W: LineWire + Drop> Pace<W> for Minute {
     ghost use Rattle.std.specs.Prelude.{None};
 
     ghost words = { λ minute. None };

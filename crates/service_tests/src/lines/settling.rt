@@ -2,22 +2,21 @@
 use crate::lines::DELIVERED;
 use crate::lines::peers::PeerWire;
 use fax_bits::NoMemory;
-use fax_gateway::{Buffer, Settings};
+use fax_gateway::Settings;
 use fax_hold::{HoldingWire, KeepFault, Keeper};
-use fax_jobs::Report;
 use fax_line::{Line, Lines, PageToKeep, SLOTS};
 use fax_repeat::{RepeatPolicy, RepeatingWire};
 use std::alloc::Global;
 use std::process::Abort;
 use std::test::Fail;
 
-type HeldLine = Line<HoldingWire<RepeatingWire<PeerWire>>>;
+type HeldLines = Lines<HoldingWire<RepeatingWire<PeerWire>>>;
 
-/// Counts pages, or keeps none.
+/// Counts puts and pages, or keeps none.
 #[derive(Drop)]
 struct Counter {
+    puts: u32,
     pages: u32,
-    rows: u32,
     fails: bool,
 }
 
@@ -26,125 +25,163 @@ impl Keeper<PageToKeep> for Counter {
 
     ghost keeps = { λ counter pages. Unit {0} };
 
-    fn keep(&mut self, page: PageToKeep) -> Result<(), KeepFault> {
+    fn keep_all(&mut self, pages: &[PageToKeep]) -> Result<(), KeepFault> {
         if self.fails {
             return Err(KeepFault);
         }
-        self.pages = self.pages.saturating_add(1);
-        self.rows = self.rows.saturating_add(page.kept.rows);
+        self.puts = self.puts.saturating_add(1);
+        for page in pages {
+            self.pages = self.pages.saturating_add(page.kept.rows);
+        }
         Ok(())
     }
 }
 
-/// What a call through a line came to.
+/// What calls through the first lines of two rounds of slots came to.
 #[derive(Clone, Copy, PartialEq, Eq, Debug)]
 struct Played {
-    /// How many pages were kept.
+    puts: u32,
+    /// How many pages were kept; each has one row.
     pages: u32,
-    /// Whether each turn but for its end handed the calling machine nothing.
+    /// Whether no turn but for its end handed a calling machine anything.
     is_held: bool,
-    /// How many datagrams the calling machine was handed from the turn of the page on.
-    behind: u32,
-    report: Option<Report>,
+    /// Whether the calling machines were handed something from the turn of their pages on.
+    confirmed: (bool, bool),
+    /// Whether the pages were delivered.
+    delivered: (bool, bool),
 }
 
-/// How many datagrams the calling machine was handed.
-fn handed(line: &HeldLine) -> u32 {
-    line.wire().wire().wire().to_calling()
+/// So many lines over wires that hold, between machines that send a page and take it.
+fn held_lines(alloc: Global, count: usize) -> Result<HeldLines, NoMemory> {
+    let mut lines = Lines::new(alloc)?;
+    for _ in 0..count {
+        let wire = RepeatingWire::new(PeerWire::new(alloc, 0)?, RepeatPolicy::Never);
+        let line = Line::new(alloc, Settings::default(), HoldingWire::new(alloc, wire))?;
+        lines.add(line)?;
+    }
+    Ok(lines)
 }
 
-/// A line over a wire that holds, between machines that send a page and take it.
-fn held_line(alloc: Global) -> Result<HeldLine, NoMemory> {
-    let wire = PeerWire::new(alloc, 0)?;
-    let wire = HoldingWire::new(alloc, RepeatingWire::new(wire, RepeatPolicy::Never));
-    Line::new(alloc, Settings::default(), wire)
+/// How many datagrams the calling machine of a line was handed.
+fn handed(lines: &HeldLines, i: usize) -> u32 {
+    match lines.line(i) {
+        Some(line) => line.wire().wire().wire().to_calling(),
+        None => 0,
+    }
 }
 
-/// What was seen of turns: whether each handed nothing before its end, and how many datagrams there were before that of the page.
+/// How many those of both lines were.
+fn both(lines: &HeldLines) -> (u32, u32) {
+    (handed(lines, 0), handed(lines, SLOTS))
+}
+
+/// Whether the page of a line was delivered.
+fn delivered(lines: &HeldLines, i: usize) -> bool {
+    match lines.line(i) {
+        Some(line) => line.report(0) == Some(DELIVERED),
+        None => false,
+    }
+}
+
+/// Whether line 0 confirmed a page in its last turn.
+fn confirms(lines: &HeldLines) -> bool {
+    match lines.line(0) {
+        Some(line) => line.turned().kept.is_some(),
+        None => false,
+    }
+}
+
+/// What was seen of rounds: whether each turn of slot 0 handed nothing before its end, and how many datagrams there were before those
+/// of the page.
 #[derive(Clone, Copy)]
 struct Seen {
     is_held: bool,
-    before: u32,
+    before: (u32, u32),
 }
 
-/// A turn and its end.
-fn turn(
-    alloc: Global,
-    line: &mut HeldLine,
-    buffer: &mut Buffer,
-    counter: &mut Counter,
-    now: u64,
-    seen: Seen,
-) -> Seen {
-    let count = handed(line);
-    line.turn(buffer, now);
-    let is_held = seen.is_held && handed(line) == count;
-    let before = if line.turned().kept.is_some() {
-        count
-    } else {
-        seen.before
-    };
-    let _ = line.settle(alloc, counter);
+/// A turn of each slot, of which the first is settled.
+fn round(lines: &mut HeldLines, counter: &mut Counter, now: u64, seen: Seen) -> Seen {
+    let count = both(lines);
+    lines.wake(0);
+    lines.wake(SLOTS);
+    lines.turn(now);
+    let is_held = seen.is_held && both(lines) == count;
+    let before = if confirms(lines) { count } else { seen.before };
+    let _ = lines.settle_slot(counter);
+    for ms in 1..SLOTS as u64 {
+        lines.turn(now.saturating_add(ms));
+    }
     Seen { is_held, before }
 }
 
-/// The turns of a call, until its job is reported.
-fn turns(alloc: Global, line: &mut HeldLine, buffer: &mut Buffer, counter: &mut Counter) -> Seen {
+/// Calls through both lines, where both are there, until the jobs are reported.
+fn rounds(lines: &mut HeldLines, counter: &mut Counter) -> Seen {
     let mut seen = Seen {
         is_held: true,
-        before: 0,
+        before: (0, 0),
     };
-    let _ = line.ring(0);
-    for round in 0..2500u64 {
-        seen = turn(alloc, line, buffer, counter, 40 * round, seen);
-        if line.report(0).is_some() {
+    let _ = lines.ring(0, 0);
+    let _ = lines.ring(SLOTS, 0);
+    for at in 0..2500u64 {
+        seen = round(lines, counter, 40 * at, seen);
+        if delivered(lines, 0) {
             return seen;
         }
     }
     seen
 }
 
-/// A call, whose page a keeper keeps or not.
-fn play(alloc: Global, fails: bool) -> Result<Played, NoMemory> {
-    let mut line = held_line(alloc)?;
-    let mut buffer = Buffer::new(alloc)?;
+/// The same, with so many lines, whose pages a keeper keeps or not.
+fn play(alloc: Global, count: usize, fails: bool) -> Result<Played, NoMemory> {
+    let mut lines = held_lines(alloc, count)?;
     let mut counter = Counter {
+        puts: 0,
         pages: 0,
-        rows: 0,
         fails,
     };
-    let seen = turns(alloc, &mut line, &mut buffer, &mut counter);
+    let seen = rounds(&mut lines, &mut counter);
+    let (one, other) = both(&lines);
     Ok(Played {
+        puts: counter.puts,
         pages: counter.pages,
         is_held: seen.is_held,
-        behind: handed(&line).saturating_sub(seen.before),
-        report: line.report(0),
+        confirmed: (one > seen.before.0, other > seen.before.1),
+        delivered: (delivered(&lines, 0), delivered(&lines, SLOTS)),
     })
+}
+
+/// What one line comes to, or both, where so many pages are kept or none is.
+fn wanted(pages: u32, both: bool) -> Played {
+    Played {
+        puts: pages.min(1),
+        pages,
+        is_held: true,
+        confirmed: (pages > 0, pages > 1),
+        delivered: (true, both),
+    }
 }
 
 /// Nothing goes out to the calling machine in a turn before its page is kept, and MCF goes out behind that. Where it is not kept
 /// nothing does, and the page is sent on all the same.
 #[test]
 fn a_page_is_kept_first(rt: HostRuntime) -> Result<(), Fail> {
-    let kept = play(rt.alloc(), false)?;
-    assert!(rt; kept.is_held && kept.pages == 1 && kept.behind > 0);
-    assert!(rt; kept.report == Some(DELIVERED));
-    let lost = play(rt.alloc(), true)?;
-    let wanted = Played {
-        pages: 0,
-        is_held: true,
-        behind: 0,
-        report: Some(DELIVERED),
-    };
-    assert!(rt; lost == wanted);
+    assert!(rt; play(rt.alloc(), 1, false)? == wanted(1, false));
+    assert!(rt; play(rt.alloc(), 1, true)? == wanted(0, false));
+    Ok(())
+}
+
+/// The pages of two lines of a slot are kept at once, or neither is, and both legs are mute.
+#[test]
+fn pages_of_a_slot_are_kept_at_once(rt: HostRuntime) -> Result<(), Fail> {
+    assert!(rt; play(rt.alloc(), SLOTS + 1, false)? == wanted(2, true));
+    assert!(rt; play(rt.alloc(), SLOTS + 1, true)? == wanted(0, true));
     Ok(())
 }
 
 /// The datagrams that the calling machine is handed in so many rounds of turns, whose pages are not kept: behind each turn they
 /// are let out, or not.
 fn let_out(alloc: Global, lets: bool) -> Result<u32, Fail> {
-    let mut lines = Lines::new(alloc)?;
-    lines.add(held_line(alloc)?)?;
+    let mut lines = held_lines(alloc, 1)?;
     let _ = lines.ring(0, 0);
     for now in 0..40 * SLOTS as u64 {
         lines.turn(now);
@@ -153,8 +190,7 @@ fn let_out(alloc: Global, lets: bool) -> Result<u32, Fail> {
             lines.let_out(7);
         }
     }
-    let line = lines.line(0).ok_or("a line")?;
-    Ok(handed(line))
+    Ok(handed(&lines, 0))
 }
 
 /// What a line gives on the calling leg goes out where it is let out.
