@@ -31,11 +31,11 @@ pub struct Counters {
     pub turns_late: u64,
     /// Moments by which lines were set on, where turns came more than 1 s late, in milliseconds.
     pub skipped_ms: u64,
-    /// Pages that were handed to the spool.
+    /// Puts into the spool: one for all pages of a slot's turn.
     pub puts: u64,
-    /// Those of them that could not be kept.
+    /// Pages that could not be kept.
     pub put_failures: u64,
-    /// How long all of that took, in microseconds.
+    /// How long all puts took, in microseconds.
     pub put_micros: u64,
     /// Pages that wait on the disk now.
     pub pages_kept: u64,
