@@ -1,7 +1,8 @@
 //! What happens in a call, in words: frames and faults, why a page is refused and why a job ended so, and the lines that tell
 //! such things at a moment.
 //!
-//! What the words are stands in `specs/Words` and `specs/Reasons`, and what a line is in `specs/Tales`.
+//! What the words are stands in `specs/Words` and `specs/Reasons`, and what a line is in `specs/Tales`. What answers a `Result` takes
+//! memory for words, and its only fault is that none is left.
 #![tactic(auto)]
 
 mod command;

@@ -15,7 +15,7 @@ pub(crate) struct Entry {
     pub words: String,
 }
 
-/// What happened at an event, in the order in which it happened.
+/// What happened at an event, in the order in which it happened. Nothing is promised of a tale behind an `Err`.
 #[derive(Drop)]
 pub struct Tale {
     alloc: Global,
