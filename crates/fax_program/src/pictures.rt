@@ -1,0 +1,74 @@
+//! Pages that become pictures, in files.
+ghost use Rattle.std.specs.Prelude.{◌≡◌};
+
+use crate::failures::tell;
+use fax_explain::{KeepFault, PageKeeper, Place};
+use fax_gateway::Side;
+use fax_pagestore::{PackedRows, Page};
+use fax_pbm::write_pbm;
+use std::alloc::{AllocError, Global};
+use std::fs;
+use std::rt::Files;
+
+/// Writes pages as pictures into files that are named for the call and the page, and says whether one was not written.
+#[derive(Drop)]
+pub(crate) struct Pictures<'a, E: Eprint, H: Files> {
+    stderr: &'a E,
+    host: &'a H,
+    alloc: Global,
+    prefix: &'a str,
+    failed: bool,
+}
+
+impl<'a, E: Eprint, H: Files> Pictures<'a, E, H> {
+    /// Pictures whose files' names begin so. None was written.
+    pub(crate) fn new(stderr: &'a E, host: &'a H, alloc: Global, prefix: &'a str) -> Self {
+        Pictures {
+            stderr,
+            host,
+            alloc,
+            prefix,
+            failed: false,
+        }
+    }
+
+    /// Writes the picture of a page, and tells where that fails.
+    fn write(&self, place: Place, page: &Page<PackedRows>) -> Result<(), KeepFault> {
+        let Ok(path) = path_of(self.alloc, self.prefix, place) else {
+            tell(self.stderr, "a picture: no memory");
+            return Err(KeepFault);
+        };
+        let Ok(octets) = write_pbm(self.alloc, page) else {
+            tell(self.stderr, format_args!("{path}: no memory"));
+            return Err(KeepFault);
+        };
+        match fs::write(self.host, path.as_str(), octets.as_slice()) {
+            Ok(()) => Ok(()),
+            Err(error) => {
+                tell(self.stderr, format_args!("{path}: {error}"));
+                Err(KeepFault)
+            }
+        }
+    }
+}
+
+impl<E: Eprint, H: Files> PageKeeper for Pictures<'_, E, H> {
+    ghost failed = { λ pictures. pictures.failed };
+
+    fn keep(&mut self, place: Place, page: &Page<PackedRows>) -> Result<(), KeepFault> {
+        let written = self.write(place, page);
+        if written.is_err() {
+            self.failed = true;
+        }
+        written
+    }
+}
+
+/// The name of the file of a page: one that was sent is told apart from one that was confirmed.
+fn path_of(alloc: Global, prefix: &str, place: Place) -> Result<String, AllocError> {
+    let Place { side, call, page } = place;
+    match side {
+        Side::Calling => format!(in alloc; "{prefix}-{call}-{page}.pbm"),
+        Side::Called => format!(in alloc; "{prefix}-{call}-{page}-sent.pbm"),
+    }
+}
