@@ -12,7 +12,7 @@ use std::rt::Files;
 
 /// Writes pages as pictures into files that are named for the call and the page, and says whether one was not written.
 #[derive(Drop)]
-pub struct Pictures<'a, E: Eprint, H: Files> {
+pub(crate) struct Pictures<'a, E: Eprint, H: Files> {
     stderr: &'a E,
     host: &'a H,
     alloc: Global,
@@ -22,7 +22,7 @@ pub struct Pictures<'a, E: Eprint, H: Files> {
 
 impl<'a, E: Eprint, H: Files> Pictures<'a, E, H> {
     /// Pictures whose files' names begin so. None was written.
-    pub fn new(stderr: &'a E, host: &'a H, alloc: Global, prefix: &'a str) -> Self {
+    pub(crate) fn new(stderr: &'a E, host: &'a H, alloc: Global, prefix: &'a str) -> Self {
         Pictures {
             stderr,
             host,

@@ -1,4 +1,6 @@
 //! `faxgate serve`.
+ghost use Rattle.fax_program.specs.Statuses.{IsToldAs};
+
 use crate::failures::tell_unprinted;
 use fax_command::Status;
 use fax_config::{Config, ConfigFault, Misfit, read_config};
@@ -10,7 +12,7 @@ use std::rt::{Clock, Files};
 use std::{fs, io};
 
 /// Serves the lines of the configuration in the file at this path. Faults are told in one line on the standard error.
-pub fn serve_file<
+pub(crate) fn serve_file<
     R: Print + Eprint + Input + AllocGlobal,
     N: Net + Files + Clock + AllocGlobal + Folders,
 >(rt: &R, system: &N, path: &str) -> Status {
@@ -48,7 +50,9 @@ fn serve_config<R: Print + Eprint + Input + AllocGlobal, N: Net + Files + Clock 
 }
 
 /// Tells a fault of a configuration in one line, and gives the status that says it.
-fn tell<R: Eprint, D: Display + Drop>(rt: &R, path: &str, fault: D, status: Status) -> Status {
+fn tell<R: Eprint, D: Display + Drop>(rt: &R, path: &str, fault: D, status: Status) -> Status
+    ensures { IsToldAs status result }
+{
     match rt.eprintln(format_args!("faxgate: {path}: {fault}")) {
         Ok(()) => status,
         Err(_) => Status::Stream,

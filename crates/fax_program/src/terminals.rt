@@ -1,5 +1,7 @@
 //! `faxgate send` and `faxgate receive`.
 ghost use Rattle.fax_gateway.specs.Setups.{AreAllowed};
+ghost use Rattle.fax_machine.specs.Runs.{status_of_fault};
+ghost use Rattle.fax_program.specs.Statuses.{IsToldAs, outcome_status};
 
 use crate::failures::tell_unprinted;
 use fax_command::Status;
@@ -9,7 +11,7 @@ use std::net::Net;
 use std::rt::{Clock, Files};
 
 /// Sends the pages in files, and prints how the call ended.
-pub fn send<R: Print + Eprint + AllocGlobal, N: Net + Clock + Files>(
+pub(crate) fn send<R: Print + Eprint + AllocGlobal, N: Net + Clock + Files>(
     rt: &R,
     system: &N,
     options: SendOptions<'_>,
@@ -25,7 +27,7 @@ pub fn send<R: Print + Eprint + AllocGlobal, N: Net + Clock + Files>(
 }
 
 /// Answers calls, and writes the pages that are confirmed.
-pub fn receive<R: Eprint + AllocGlobal, N: Net + Clock + Files>(
+pub(crate) fn receive<R: Eprint + AllocGlobal, N: Net + Clock + Files>(
     rt: &R,
     system: &N,
     options: ReceiveOptions<'_>,
@@ -40,7 +42,9 @@ pub fn receive<R: Eprint + AllocGlobal, N: Net + Clock + Files>(
 }
 
 /// Prints how the call of this address ended. Where not all pages were delivered, the standard error has a line too.
-fn tell_report<R: Print + Eprint>(rt: &R, to: &str, report: Report) -> Status {
+fn tell_report<R: Print + Eprint>(rt: &R, to: &str, report: Report) -> Status
+    ensures { IsToldAs (outcome_status report.outcome) result }
+{
     if let Err(error) = rt.println(report) {
         return tell_unprinted(rt, error);
     }
@@ -62,7 +66,9 @@ fn tell_report<R: Print + Eprint>(rt: &R, to: &str, report: Report) -> Status {
 }
 
 /// Tells in one line why a terminal did not run to its end, and gives the status that says it.
-fn tell_fault<R: Eprint>(rt: &R, fault: &RunFault<'_>) -> Status {
+fn tell_fault<R: Eprint>(rt: &R, fault: &RunFault<'_>) -> Status
+    ensures { IsToldAs (status_of_fault fault.now) result }
+{
     match rt.eprintln(format_args!("faxgate: {fault}")) {
         Ok(()) => fault.status(),
         Err(_) => Status::Stream,

@@ -1,4 +1,7 @@
 //! What failed where a run ends with status 4 or 5: one line on the standard error.
+ghost use Rattle.std.specs.Prelude.{◌≡◌};
+ghost use Rattle.fax_loop.specs.Answers.{ending_status};
+
 use fax_command::{Status, StdSink, StdSource, StreamFault, fault_of_streams};
 use fax_jobs::Outcome;
 use fax_loop::Ending;
@@ -7,12 +10,14 @@ use std::io;
 use std::io::{Read, Write};
 
 /// Tells what failed where a run over these streams ended with status 4, and gives the status.
-pub fn tell_streams<E: Eprint, R: Read, W: Write>(
+pub(crate) fn tell_streams<E: Eprint, R: Read, W: Write>(
     rt: &E,
     status: u8,
     source: &StdSource<R>,
     sink: &StdSink<W>,
-) -> u8 {
+) -> u8
+    ensures { result ≡ status }
+{
     if status == Status::Stream.code()
         && let Some(fault) = fault_of_streams(source, sink)
     {
@@ -27,7 +32,9 @@ pub fn tell_loop<E: Eprint, R: Read, W: Write>(
     ending: Ending,
     source: &StdSource<R>,
     sink: &StdSink<W>,
-) -> u8 {
+) -> u8
+    ensures { result ≡ ending_status ending }
+{
     let status = ending.status().code();
     match ending {
         Ending::Reported(Outcome::Delivered) | Ending::Fault | Ending::NoMemory => {}
@@ -43,12 +50,14 @@ pub fn tell_loop<E: Eprint, R: Read, W: Write>(
 }
 
 /// Tells that the standard output failed, and gives the status that says it.
-pub fn tell_unprinted<E: Eprint>(rt: &E, error: io::Error) -> Status {
+pub(crate) fn tell_unprinted<E: Eprint>(rt: &E, error: io::Error) -> Status
+    ensures { result ≡ Status.Stream }
+{
     tell(rt, StreamFault::Unwritten(error));
     Status::Stream
 }
 
 /// Tells a failure in one line. Where the standard error fails too, it is not told.
-pub fn tell<E: Eprint, D: Display + Drop>(rt: &E, failure: D) {
+pub(crate) fn tell<E: Eprint, D: Display + Drop>(rt: &E, failure: D) {
     let _ = rt.eprintln(format_args!("faxgate: {failure}"));
 }

@@ -1,33 +1,30 @@
 //! The command line of `faxgate explain`.
-use crate::command_line::{preamble_option, redundancy_option, settings_of};
-use clap::{Arg, ArgMatches, Command};
-use fax_gateway::Settings;
+use crate::building::{command, option};
+use crate::options::{preamble_option, redundancy_option};
+use clap::{Arg, Command};
 use std::alloc::{AllocError, Global};
 
-/// What is asked of `faxgate explain`.
-#[derive(Clone, Copy, PartialEq, Eq, Debug)]
-pub struct ExplainOptions<'a> {
-    pub settings: Settings,
-    /// What the names of pictures begin with, where pages are to become pictures.
-    pub pages: Option<&'a str>,
+/// The command line of `faxgate explain`.
+pub(crate) fn explain_command<'a>(alloc: Global) -> Result<Command<'a>, AllocError> {
+    command(
+        alloc,
+        "explain",
+        "Read a script as faxgate trace does, and print its call as a ladder: a line for each thing that happened, with its moment in milliseconds, from whom to whom, and what it means in T.30's terms",
+        LINES_AND_STATUSES,
+    )
+    .arg(redundancy_option(alloc))?
+    .arg(preamble_option(alloc))?
+    .arg(pages_option(alloc))
 }
 
-/// The command line of `faxgate explain`.
-pub fn explain_command<'a>(alloc: Global) -> Result<Command<'a>, AllocError> {
-    let pages = Arg::new(alloc, "pages")
-        .long("pages")
-        .value_name("PREFIX")
-        .help(
-            "Write each page as a picture: PREFIX-CALL-PAGE.pbm where it was confirmed, PREFIX-CALL-PAGE-sent.pbm where it was sent on; a file that is there is written over",
-        );
-    Command::new(alloc, "explain")
-        .about(
-            "Read a script as faxgate trace does, and print its call as a ladder: a line for each thing that happened, with its moment in milliseconds, from whom to whom, and what it means in T.30's terms",
-        )
-        .after_help(LINES_AND_STATUSES)
-        .arg(redundancy_option(alloc))?
-        .arg(preamble_option(alloc))?
-        .arg(pages)
+/// The option of pictures.
+fn pages_option<'a>(alloc: Global) -> Arg<'a> {
+    option(
+        alloc,
+        "pages",
+        "PREFIX",
+        "Write each page as a picture: PREFIX-CALL-PAGE.pbm where it was confirmed, PREFIX-CALL-PAGE-sent.pbm where it was sent on; a file that is there is written over",
+    )
 }
 
 const LINES_AND_STATUSES: &str = "\
@@ -54,11 +51,3 @@ Statuses:
   2  the command line was refused
   3  memory was wanted and refused: fault memory
   4  a read, a write or a picture failed, or the script has more than 16,777,216 octets: the standard error tells which";
-
-/// The options that were given to `faxgate explain`, and the defaults of those that were not.
-pub fn explain_options_of<'a>(given: &ArgMatches<'a>) -> ExplainOptions<'a> {
-    ExplainOptions {
-        settings: settings_of(given),
-        pages: given.get_str("pages"),
-    }
-}

@@ -6,9 +6,9 @@ use std::alloc::{Alloc, Allocator, Global};
 use std::cell::RefCell;
 use std::env::FillError;
 use std::fmt::Display;
-use std::io;
 use std::io::{BufRead, Eprint, ErrorKind, Input, Lines, Print};
 use std::rt::Env;
+use std::{fmt, io};
 
 /// A runtime that has the words of a command line and an input, and keeps what is printed, and what is told on the standard
 /// error. Its standard output may be closed.
@@ -50,10 +50,14 @@ impl<'a> Desk<'a> {
         append(&self.printed, octets)
     }
 
-    /// What was printed, and what was told.
-    pub fn into_texts(self) -> (Vec<u8>, Vec<u8>) {
+    /// What came of a run over it that ended with this status.
+    pub fn into_ran(self, status: u8) -> Ran {
         let Desk { printed, told, .. } = self;
-        (printed.into_inner(), told.into_inner())
+        Ran {
+            status,
+            printed: printed.into_inner(),
+            told: told.into_inner(),
+        }
     }
 }
 
@@ -136,4 +140,51 @@ fn append(text: &RefCell<Vec<u8>>, octets: &[u8]) -> io::Result<()> {
     };
     text.extend_from_slice(octets)?;
     Ok(())
+}
+
+/// What came of a run: its exit status, what was printed, and what was told.
+#[derive(Drop)]
+pub struct Ran {
+    pub status: u8,
+    pub printed: Vec<u8>,
+    pub told: Vec<u8>,
+}
+
+impl Ran {
+    /// Whether it is this.
+    pub fn is(&self, status: u8, printed: &str, told: &str) -> bool {
+        self.status == status
+            && self.printed.as_slice() == printed.as_bytes()
+            && self.told.as_slice() == told.as_bytes()
+    }
+
+    /// Whether it is this status, nothing was printed, and one line was told that begins so.
+    pub fn is_told_as(&self, status: u8, front: &str) -> bool {
+        let told = self.told.as_slice();
+        self.status == status
+            && self.printed.is_empty()
+            && told.starts_with(front.as_bytes())
+            && told.ends_with(b"\n")
+    }
+
+    /// Whether it is a help with its heads and these parts.
+    pub fn is_help_with(&self, parts: &[&str]) -> bool {
+        let help = std::str::from_utf8(self.printed.as_slice()).unwrap_or("");
+        self.status == 0
+            && self.told.is_empty()
+            && ["Reads:", "Prints:", "Statuses:"]
+                .iter()
+                .all(|head| help.contains(*head))
+            && parts.iter().all(|part| help.contains(*part))
+    }
+}
+
+/// Prints all three, to show what came where something else was wanted.
+impl fmt::Display for Ran {
+    fn fmt<W: fmt::Write>(&self, f: &mut fmt::Formatter<W>) -> fmt::Result {
+        let printed = std::str::from_utf8(self.printed.as_slice()).unwrap_or("?");
+        let told = std::str::from_utf8(self.told.as_slice()).unwrap_or("?");
+        let status = self.status;
+        write!(f, "status {status}, printed {printed:?}, told {told:?}")
+    }
 }

@@ -1,15 +1,16 @@
 //! The whole program over a runtime of memory: what it prints, what it tells on the standard error, and with which status it
 //! ends.
-mod desk;
 
-use crate::failures::tell_loop;
-use crate::run_words;
-use desk::Desk;
+use crate::desk::{Desk, Ran};
 use fax_command::{StdSink, StdSource};
 use fax_jobs::Outcome;
+use fax_keep::Folders;
 use fax_loop::Ending;
+use fax_program::{run_words, tell_loop};
+use std::alloc::Global;
 use std::io::Input;
-use std::process::Abort;
+use std::net::Net;
+use std::rt::{Clock, Files};
 use std::test::Fail;
 use std::{fs, io};
 
@@ -274,11 +275,8 @@ Usage: faxgate receive --on <ADDRESS> --calls <N>
 #[test]
 fn what_is_printed(rt: HostRuntime) {
     for (words, input, status, wanted) in ANSWERS {
-        let desk = Desk::new(rt.alloc(), words, input.as_bytes());
-        assert_eq!(rt; run_words(&desk, &rt), *status, "at {words:?}");
-        let (printed, told) = desk.into_texts();
-        assert_eq!(rt; printed.as_slice(), wanted.as_bytes(), "at {words:?}");
-        assert!(rt; told.is_empty(), "at {words:?}");
+        let ran = run(&rt, Desk::new(rt.alloc(), words, input.as_bytes()));
+        assert!(rt; ran.is(*status, wanted, ""), "at {words:?}: {ran}");
     }
 }
 
@@ -368,17 +366,8 @@ const HELPS: &[(&str, &[&str])] = &[
 fn what_a_help_says(rt: HostRuntime) {
     for (command, parts) in HELPS {
         let words = ["faxgate", *command, "--help"];
-        let desk = Desk::new(rt.alloc(), &words, b"");
-        assert_eq!(rt; run_words(&desk, &rt), 0, "at {command}");
-        let (printed, told) = desk.into_texts();
-        assert!(rt; told.is_empty(), "at {command}");
-        let help = std::str::from_utf8(printed.as_slice()).unwrap_or("");
-        for part in *parts {
-            assert!(rt; help.contains(*part), "at {command}: {part}");
-        }
-        for head in ["Reads:", "Prints:", "Statuses:"] {
-            assert!(rt; help.contains(head), "at {command}: {head}");
-        }
+        let ran = run(&rt, Desk::new(rt.alloc(), &words, b""));
+        assert!(rt; ran.is_help_with(parts), "at {command}: {ran}");
     }
 }
 
@@ -391,28 +380,20 @@ fn what_is_told_of_a_closed_output(rt: HostRuntime) {
         ["faxgate", "--help"],
     ] {
         let desk = Desk::new(rt.alloc(), &command, PAGE.as_bytes()).closed();
-        assert_eq!(rt; run_words(&desk, &rt), 4, "at {command:?}");
-        let (printed, told) = desk.into_texts();
-        assert!(rt; printed.is_empty(), "at {command:?}");
-        let wanted = b"faxgate: the standard output cannot be written: broken pipe\n";
-        assert_eq!(rt; told.as_slice(), wanted.as_slice(), "at {command:?}");
+        let ran = run(&rt, desk);
+        let wanted = "faxgate: the standard output cannot be written: broken pipe\n";
+        assert!(rt; ran.is(4, "", wanted), "at {command:?}: {ran}");
     }
 }
 
 #[test]
-fn what_is_told_of_a_refusal(rt: HostRuntime) {
+fn what_is_told_of_a_refusal(rt: HostRuntime) -> Result<(), Fail> {
     for (words, wanted) in REFUSALS {
-        let desk = Desk::new(rt.alloc(), words, b"");
-        assert_eq!(rt; run_words(&desk, &rt), 2, "at {words:?}");
-        let (printed, told) = desk.into_texts();
-        assert!(rt; printed.is_empty(), "at {words:?}");
-        let text = told.as_slice();
-        assert_eq!(rt;
-            text.strip_prefix(wanted.as_bytes()),
-            Some(b"\nFor more information, try '--help'.\n".as_slice()),
-            "at {words:?}"
-        );
+        let ran = run(&rt, Desk::new(rt.alloc(), words, b""));
+        let wanted = format!(in rt.alloc(); "{wanted}\nFor more information, try '--help'.\n")?;
+        assert!(rt; ran.is(2, "", wanted.as_str()), "at {words:?}: {ran}");
     }
+    Ok(())
 }
 
 /// How runs of `faxgate loop` end, with the status and what is told.
@@ -435,21 +416,21 @@ const LOOP_ENDINGS: &[(Ending, u8, &str)] = &[
 #[test]
 fn what_is_told_of_a_loop(rt: HostRuntime) {
     for (ending, status, wanted) in LOOP_ENDINGS {
-        expect_loop(&rt, *ending, *status, wanted);
+        let ran = ran_so(rt.alloc(), *ending);
+        assert!(rt; ran.is(*status, "", wanted), "at {ending:?}: {ran}");
     }
     let error = io::Error::from(io::ErrorKind::Unsupported);
-    let told = "faxgate: no socket of this host: unsupported\n";
-    expect_loop(&rt, Ending::Socket(error), 4, told);
+    let wanted = "faxgate: no socket of this host: unsupported\n";
+    assert!(rt; ran_so(rt.alloc(), Ending::Socket(error)).is(4, "", wanted));
 }
 
-/// That this is told of a run that ends so.
-fn expect_loop(rt: &(impl Abort + AllocGlobal), ending: Ending, status: u8, wanted: &str) {
-    let desk = Desk::new(rt.alloc(), &[], b"");
+/// What is told of a run of `faxgate loop` that ends so.
+fn ran_so(alloc: Global, ending: Ending) -> Ran {
+    let desk = Desk::new(alloc, &[], b"");
     let source = StdSource::new(desk.reader());
     let sink = StdSink::new(io::writer(&desk));
-    assert_eq!(rt; tell_loop(&desk, ending, &source, &sink), status);
-    let (_, told) = desk.into_texts();
-    assert_eq!(rt; told.as_slice(), wanted.as_bytes(), "at {ending:?}");
+    let status = tell_loop(&desk, ending, &source, &sink);
+    desk.into_ran(status)
 }
 
 /// A configuration that is refused, and what is told behind the name of its file.
@@ -463,16 +444,13 @@ fn what_is_told_of_a_configuration(rt: HostRuntime) -> Result<(), Fail> {
     let words = ["faxgate", "serve", "--config", "refused.toml"];
     for (config, wanted) in CONFIGURATIONS {
         fs::write(&rt, "refused.toml", *config)?;
-        let desk = Desk::new(rt.alloc(), &words, b"");
-        assert_eq!(rt; run_words(&desk, &rt), 2, "at {config}");
-        let (printed, told) = desk.into_texts();
-        assert!(rt; printed.is_empty(), "at {config}");
+        let ran = run(&rt, Desk::new(rt.alloc(), &words, b""));
         let wanted = format!(in rt.alloc(); "faxgate: refused.toml: {wanted}\n")?;
-        assert_eq!(rt; told.as_slice(), wanted.as_bytes(), "at {config}");
+        assert!(rt; ran.is(2, "", wanted.as_str()), "at {config}: {ran}");
     }
     fs::remove_file(&rt, "refused.toml")?;
-    let desk = Desk::new(rt.alloc(), &words, b"");
-    assert_eq!(rt; run_words(&desk, &rt), 4);
+    let ran = run(&rt, Desk::new(rt.alloc(), &words, b""));
+    assert!(rt; ran.status == 4);
     Ok(())
 }
 
@@ -481,14 +459,9 @@ fn what_is_told_of_a_configuration(rt: HostRuntime) -> Result<(), Fail> {
 fn what_is_told_of_a_spool(rt: HostRuntime) -> Result<(), Fail> {
     fs::write(&rt, "spooled.toml", "spool = 'no-folder'")?;
     let words = ["faxgate", "serve", "--config", "spooled.toml"];
-    let desk = Desk::new(rt.alloc(), &words, b"");
-    assert!(rt; run_words(&desk, &rt) == 2);
-    let (printed, told) = desk.into_texts();
-    let is_named = told
-        .as_slice()
-        .starts_with(b"faxgate: spooled.toml: spool: ");
+    let ran = run(&rt, Desk::new(rt.alloc(), &words, b""));
     fs::remove_file(&rt, "spooled.toml")?;
-    assert!(rt; printed.is_empty() && is_named && told.as_slice().ends_with(b"\n"));
+    assert!(rt; ran.is_told_as(2, "faxgate: spooled.toml: spool: "));
     Ok(())
 }
 
@@ -505,16 +478,13 @@ fn what_is_told_of_a_file(rt: HostRuntime) -> Result<(), Fail> {
     let words = ["faxgate", "send", "--to", "127.0.0.1:9", "no-page"];
     for (octets, wanted) in NO_PAGES {
         fs::write(&rt, "no-page", *octets)?;
-        let desk = Desk::new(rt.alloc(), &words, b"");
-        assert_eq!(rt; run_words(&desk, &rt), 1, "at {octets}");
-        let (printed, told) = desk.into_texts();
-        assert!(rt; printed.is_empty(), "at {octets}");
+        let ran = run(&rt, Desk::new(rt.alloc(), &words, b""));
         let wanted = format!(in rt.alloc(); "faxgate: no-page: {wanted}\n")?;
-        assert_eq!(rt; told.as_slice(), wanted.as_bytes(), "at {octets}");
+        assert!(rt; ran.is(1, "", wanted.as_str()), "at {octets}: {ran}");
     }
     fs::remove_file(&rt, "no-page")?;
-    let desk = Desk::new(rt.alloc(), &words, b"");
-    assert_eq!(rt; run_words(&desk, &rt), 4);
+    let ran = run(&rt, Desk::new(rt.alloc(), &words, b""));
+    assert!(rt; ran.status == 4);
     Ok(())
 }
 
@@ -531,38 +501,35 @@ fn a_page_that_was_confirmed_is_a_picture(rt: HostRuntime) -> Result<(), Fail> {
     let zeros = [b'0'; 600];
     let zeros = std::str::from_utf8(zeros.as_slice()).unwrap_or("");
     let script = format!(in rt.alloc(); "{SCRIPT_FRONT}{zeros}{SCRIPT_BACK}")?;
+    let script = script.as_str().as_bytes();
     let words = ["faxgate", "explain", "--pages", "seen"];
-    let desk = Desk::new(rt.alloc(), &words, script.as_str().as_bytes());
-    assert_eq!(rt; run_words(&desk, &rt), 0);
+    let ran = run(&rt, Desk::new(rt.alloc(), &words, script));
     let picture = fs::read(&rt, "seen-0-1.pbm")?;
     fs::remove_file(&rt, "seen-0-1.pbm")?;
-    let rows = picture
-        .as_slice()
-        .strip_prefix(b"P4\n1728 1\n")
-        .unwrap_or(b"");
-    assert!(rt; rows.len() == 216 && rows.iter().all(|octet| *octet == 0));
+    assert!(rt; ran.status == 0 && is_white_row(picture.as_slice()));
     let words = ["faxgate", "explain", "--pages", "no-folder/seen"];
-    let desk = Desk::new(rt.alloc(), &words, script.as_str().as_bytes());
-    assert_eq!(rt; run_words(&desk, &rt), 4);
-    let (printed, told) = desk.into_texts();
-    let failure = told
-        .as_slice()
-        .strip_prefix(b"faxgate: no-folder/seen-0-1.pbm: ");
-    assert!(rt; printed.is_empty() && failure.is_some());
+    let ran = run(&rt, Desk::new(rt.alloc(), &words, script));
+    assert!(rt; ran.is_told_as(4, "faxgate: no-folder/seen-0-1.pbm: "));
     Ok(())
 }
 
 /// The picture of a white row: the head, and an octet of 0 for each eight picture elements.
+fn is_white_row(picture: &[u8]) -> bool {
+    match picture.strip_prefix(b"P4\n1728 1\n") {
+        Some(row) => row.len() == 216 && row.iter().all(|octet| *octet == 0),
+        None => false,
+    }
+}
+
 #[test]
 fn a_page_is_a_picture(rt: HostRuntime) {
     let desk = Desk::new(rt.alloc(), &["faxgate", "page", "--pbm"], PAGE.as_bytes());
-    assert_eq!(rt; run_words(&desk, &rt), 0);
-    let (printed, told) = desk.into_texts();
-    assert!(rt; told.is_empty());
-    match printed.as_slice().strip_prefix(b"P4\n1728 1\n") {
-        Some(picture) => assert!(rt;
-            picture.len() == 216 && picture.iter().all(|octet| *octet == 0)
-        ),
-        None => assert!(rt; false),
-    }
+    let ran = run(&rt, desk);
+    assert!(rt; ran.status == 0 && ran.told.is_empty() && is_white_row(ran.printed.as_slice()));
+}
+
+/// Runs the program over a desk.
+fn run<N: Net + Files + Clock + AllocGlobal + Folders>(system: &N, desk: Desk<'_>) -> Ran {
+    let status = run_words(&desk, system);
+    desk.into_ran(status)
 }

@@ -1,0 +1,14 @@
+//! What a run of the program does, over any runtime: it reads the words of the command line, does what they ask for over the
+//! streams, files, sockets and the clock that it is handed, and tells what failed on the standard error.
+#![tactic(auto)]
+
+mod failures;
+mod pictures;
+mod refusals;
+mod run;
+mod serving;
+mod streams;
+mod terminals;
+
+pub use failures::tell_loop;
+pub use run::run_words;

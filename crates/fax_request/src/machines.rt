@@ -1,0 +1,68 @@
+//! The machines that `faxgate capture` is asked for.
+ghost use Rattle.std.specs.Prelude.{IfOk, IfSome, codes};
+ghost use Rattle.clap.specs.Words.{found_of, rows_of};
+ghost use Rattle.fax_request.specs.Requests.{AreMachinesOf, IsHostOf, SaysAddress, text_given};
+
+use crate::given::text_of;
+use clap::{ArgMatches, Error};
+use fax_capture::{Address, Host};
+use fax_words::refused_address;
+use std::alloc::Global;
+use std::net::{IpAddr, SocketAddr};
+
+/// The addresses of the two machines of a captured call.
+#[derive(Clone, Copy, PartialEq, Eq, Debug)]
+pub struct Machines {
+    pub caller: Address,
+    pub called: Address,
+}
+
+/// The addresses that were given to `faxgate capture`.
+pub(crate) fn machines_of(alloc: Global, given: &ArgMatches<'_>) -> Result<Machines, Error>
+    ensures { IfOk result (AreMachinesOf (rows_of (found_of given.now))) }
+{
+    Ok(Machines {
+        caller: address_of(alloc, "caller", given)?,
+        called: address_of(alloc, "called", given)?,
+    })
+}
+
+/// The address that was given with an option.
+fn address_of(alloc: Global, option: &str, given: &ArgMatches<'_>) -> Result<Address, Error>
+    ensures { IfOk result (SaysAddress (text_given option.now (rows_of (found_of given.now)))) }
+{
+    let text = text_of(given, option).unwrap_or("");
+    match read_address(text) {
+        Some(address) => Ok(address),
+        None => Err(refused_address(alloc, option, text)),
+    }
+}
+
+/// The address that a text says: of a host, or of a host and a port.
+fn read_address(text: &str) -> Option<Address>
+    ensures { IfSome result (SaysAddress text.now) }
+{
+    if let Ok(host) = text.parse::<IpAddr>() {
+        return Some(Address {
+            host: host_of(host),
+            port: None,
+        });
+    }
+    match text.parse::<SocketAddr>() {
+        Ok(address) => Some(Address {
+            host: host_of(address.ip()),
+            port: Some(address.port()),
+        }),
+        Err(_) => None,
+    }
+}
+
+/// A host by the octets of its address.
+fn host_of(host: IpAddr) -> Host
+    ensures { IsHostOf host result }
+{
+    match host {
+        IpAddr::V4(address) => Host::V4(address.octets()),
+        IpAddr::V6(address) => Host::V6(address.octets()),
+    }
+}

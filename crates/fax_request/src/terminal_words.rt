@@ -1,0 +1,49 @@
+//! What `faxgate send` and `faxgate receive` are asked for.
+ghost use Rattle.std.specs.Prelude.{◌≡◌, IfOk, [], codes, map, unwrap_or};
+ghost use Rattle.clap.specs.Words.{all_of, found_of, rows_of};
+ghost use Rattle.fax_request.specs.Requests.{AreReceiveOptionsOf, AreSendOptionsOf};
+
+use crate::given::{coding_of, format_of, number_of, repeat_of, settings_of, text_of};
+use clap::ArgMatches;
+use fax_machine::{ReceiveOptions, SendOptions};
+use std::alloc::{AllocError, Global};
+
+/// The options that were given to `faxgate send`, and the defaults of those that were not.
+pub(crate) fn send_options_of<'a>(given: &ArgMatches<'a>) -> SendOptions<'a>
+    ensures { AreSendOptionsOf (rows_of (found_of given.now)) result }
+{
+    SendOptions {
+        to: text_of(given, "to").unwrap_or(""),
+        on: text_of(given, "on"),
+        format: format_of(given),
+        coding: coding_of(given),
+        settings: settings_of(given),
+        repeat: repeat_of(given),
+    }
+}
+
+/// The files that were given to `faxgate send`.
+pub(crate) fn send_files_of<'a>(
+    alloc: Global,
+    given: &ArgMatches<'a>,
+) -> Result<Vec<&'a str>, AllocError>
+    ensures { IfOk result (λ files. map (λ file. file.now) files.items ≡ unwrap_or (all_of (codes "file") (rows_of (found_of given.now))) []) }
+{
+    match given.get_strs("file") {
+        Some(files) => Vec::from_slice(alloc, files),
+        None => Ok(Vec::new(alloc)),
+    }
+}
+
+/// The options that were given to `faxgate receive`, and the defaults of those that were not.
+pub(crate) fn receive_options_of<'a>(given: &ArgMatches<'a>) -> ReceiveOptions<'a>
+    ensures { AreReceiveOptionsOf (rows_of (found_of given.now)) result }
+{
+    ReceiveOptions {
+        on: text_of(given, "on").unwrap_or(""),
+        prefix: text_of(given, "pages").unwrap_or("page"),
+        calls: number_of(given, "calls", 1, u64::MAX, u64::MAX),
+        settings: settings_of(given),
+        repeat: repeat_of(given),
+    }
+}

@@ -1,0 +1,18 @@
+//! The words of the program's command line: its commands, their options, and what the help of each says.
+#![tactic(auto)]
+
+mod building;
+mod capture_line;
+mod command_line;
+mod explain_line;
+mod loop_line;
+mod options;
+mod page_line;
+mod receive_line;
+mod send_line;
+mod serve_line;
+mod trace_line;
+
+pub use capture_line::refused_address;
+pub use command_line::{faxgate_command, refused_command};
+pub use options::{LEAST_PREAMBLE_MS, MOST_PREAMBLE_MS, MOST_REDUNDANCY};

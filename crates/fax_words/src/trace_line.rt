@@ -1,0 +1,51 @@
+//! The command line of `faxgate trace`.
+use crate::building::command;
+use crate::options::{preamble_option, redundancy_option};
+use clap::Command;
+use std::alloc::{AllocError, Global};
+
+/// The command line of `faxgate trace`.
+pub(crate) fn trace_command<'a>(alloc: Global) -> Result<Command<'a>, AllocError> {
+    command(
+        alloc,
+        "trace",
+        "Play a script on a new gateway, and print what it answers. Lines of a script: R (it rings), A HEX and B HEX (a datagram came on the calling or on the called leg), T MS (time goes on to a moment)",
+        LINES_AND_STATUSES,
+    )
+    .arg(redundancy_option(alloc))?
+    .arg(preamble_option(alloc))
+}
+
+const LINES_AND_STATUSES: &str = "\
+Reads:
+  R      it rings on the calling leg
+  A HEX  a datagram came on the calling leg
+  B HEX  a datagram came on the called leg
+  T MS   time goes on to this moment, in milliseconds; rings and datagrams come at the last one, at 0 before the first
+A script has at most 16,777,216 octets: some 17 minutes of one leg at 14,400 bit/s.
+
+Prints:
+  ring N                   it rang: the number of the call
+  ring refused 1 Busy      a call is on; 2 NoNumber: no number is left
+  a HEX                    the gateway sends this datagram on the calling leg
+  b HEX                    the same on the called leg
+  job CALL WIDTH standard|fine PAGES DELIVERED OUTCOME
+                           the job of this call has ended: so many pages, so many of them delivered
+  fault line N             line N, from 1, is none of the four, and no more is played
+  fault memory             memory was wanted and refused, and no more is played; what was told before stays
+
+Outcomes:
+  Delivered                all pages were sent and confirmed
+  NotReceiver              the called machine does not receive; WidthLacking, FineLacking: not such pages
+  RatesSpent               the training failed at each rate
+  NoAnswer                 the called machine sent no DIS
+  NoReply                  it left a command unanswered, or sent no DIS behind a page of another format
+  PageRefused              it refused a page three times
+  HungUp                   it ended the call
+
+Statuses:
+  0  the whole script was played
+  1  a line of it has a fault: fault line N
+  2  the command line was refused
+  3  memory was wanted and refused: fault memory
+  4  a read or a write failed, or the script is too long: the standard error tells which";
