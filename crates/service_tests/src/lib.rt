@@ -1,20 +1,9 @@
-//! Tests of the parts of the service.
+//! Tests of a whole server, over sockets.
 #![tactic(auto)]
 
 #[cfg(test)]
-mod clients;
-#[cfg(test)]
-mod config;
-#[cfg(test)]
-mod control;
-#[cfg(test)]
-mod events;
-mod lines;
-#[cfg(test)]
-mod repeats;
+mod hang_up;
 #[cfg(test)]
 mod serving;
-#[cfg(test)]
-mod spool;
 #[cfg(test)]
 mod spooled;

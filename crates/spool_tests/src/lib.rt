@@ -9,3 +9,5 @@ mod folder;
 mod holding;
 #[cfg(test)]
 mod lives;
+#[cfg(test)]
+mod spool;

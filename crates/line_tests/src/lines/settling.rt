@@ -1,6 +1,6 @@
 //! Lines whose pages are kept before what confirms them goes out.
 use crate::lines::DELIVERED;
-use crate::lines::peers::PeerWire;
+use crate::peers::PeerWire;
 use fax_bits::NoMemory;
 use fax_gateway::Settings;
 use fax_hold::{HoldingWire, KeepFault, Keeper};

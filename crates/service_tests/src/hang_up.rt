@@ -1,10 +1,10 @@
 //! A job whose called machine is gone.
-use super::peers::PeerWire;
 use fax_gateway::{Buffer, Settings, Side, Wire, WireFault};
 use fax_jobs::Outcome;
 use fax_line::Line;
 use fax_repeat::{RepeatPolicy, RepeatingWire};
 use fax_serve::{LegSocket, UdpWire};
+use line_tests::PeerWire;
 use std::net::UdpSocket;
 use std::test::Fail;
 

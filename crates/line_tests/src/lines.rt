@@ -1,12 +1,10 @@
 //! Lines of a server.
 #[cfg(test)]
-mod hang_up;
-mod peers;
-#[cfg(test)]
 mod rests;
 #[cfg(test)]
 mod settling;
 
+use crate::peers::PeerWire;
 use fax_bits::NoMemory;
 use fax_gateway::{Buffer, Kept, RingFault, Settings, Turned};
 use fax_hold::LineWire;
@@ -15,7 +13,6 @@ use fax_line::{Line, Lines, Order, Pace, SLOTS, serve};
 use fax_pagestore::Format;
 use fax_repeat::{RepeatPolicy, RepeatingWire};
 use fax_runcodes::Width;
-use peers::PeerWire;
 use std::alloc::Global;
 use std::process::Abort;
 use std::test::Fail;

@@ -1,7 +1,7 @@
 //! The machines at both ends of a line.
 ghost use Rattle.std.specs.Prelude.{◌≤◌, length, IfSome};
 ghost use Rattle.fax_call.specs.Following.{IsJobOfCall};
-ghost use Rattle.service_tests.specs.JobOfCall.{job_props};
+ghost use Rattle.line_tests.specs.JobOfCall.{job_props};
 
 use fax_answer::{Answerer, State};
 use fax_bits::{NoMemory, Octets};
@@ -130,7 +130,7 @@ impl AnsweringPeer {
 /// A wire between two machines, which act once in each turn. What they send comes; of what is sent to them each so many-th
 /// datagram is lost. 0: none.
 #[derive(Drop)]
-pub(super) struct PeerWire {
+pub struct PeerWire {
     calling: CallingPeer,
     called: AnsweringPeer,
     from_calling: Option<Octets>,
@@ -143,6 +143,7 @@ pub(super) struct PeerWire {
 }
 
 impl PeerWire {
+    /// Both machines, of which one calls at moment 0.
     pub fn new(alloc: Global, loses: u32) -> Result<Self, NoMemory> {
         let calling = CallingPeer::new(alloc)?;
         let called = AnsweringPeer::new(alloc)?;

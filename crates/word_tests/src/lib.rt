@@ -1,0 +1,11 @@
+//! Tests of what is said to a service and told by it: its configuration, words, events, clients.
+#![tactic(auto)]
+
+#[cfg(test)]
+mod clients;
+#[cfg(test)]
+mod config;
+#[cfg(test)]
+mod control;
+#[cfg(test)]
+mod events;
