@@ -1,5 +1,5 @@
 -- One more record of a page.
-use Rattle.std.proofs.Common.{◌≡◌, ◌∙◌, Bool, List, [], ◌∷◌, ◌++◌, ℕ, Result, OnOk, refl, sym, subst, append_assoc}
+use Rattle.std.proofs.Common.{◌≡◌, Bool, List, [], ◌∷◌, ◌++◌, ℕ, Result, OnOk, sym, subst, append_assoc}
 use Rattle.fax_hold.specs.declared.keeping.KeepFault.{KeepFault}
 use Rattle.fax_line.specs.declared.settling.PageToKeep.{PageToKeep}
 use Rattle.fax_spool.specs.RecordOctets.{PageValue}

@@ -1,9 +1,12 @@
 //! The pages of a server that are kept on a disk.
-ghost use Rattle.std.specs.Prelude.{◌≡◌, List, [], ◌∷◌, ◌++◌, OnOk};
+ghost use Rattle.std.specs.Prelude.{◌≡◌, true, false, List, [], ◌∷◌, ◌++◌, MatchOption, OnErr, OnOk, slice_get};
 ghost use Rattle.fax_spool.specs.RecordOctets.{PageValue as SpoolPage};
 ghost use Rattle.fax_line.specs.declared.settling.PageToKeep.{PageToKeep as ToKeep};
 ghost use Rattle.fax_shelf.specs.Jobs.{EndsJob, EndsJobAt, PagesWait};
-ghost use Rattle.fax_shelf.specs.Keeping.{KeepsPages};
+ghost use Rattle.fax_spool.specs.Spools.{epoch_now};
+ghost use Rattle.fax_spool.specs.Waits.{PageName};
+ghost use Rattle.fax_shelf.specs.Keeping.{AddsAt, Agree, AllAreAmong, HaveOwnNames, IsPut, KeepsPages, PutsRecord};
+ghost use Rattle.fax_shelf.specs.Shelves.{is_of_earlier_life};
 
 use crate::shelf::{Shelf, Waiting};
 use fax_hold::{KeepFault, Keeper};
@@ -43,7 +46,11 @@ pub struct Keeping {
 
 impl Keeping {
     /// A life begins over this spool, in which these pages wait.
-    pub fn new(alloc: Global, spool: Spool<KeptFile>, shelves: Vec<Shelf>) -> Self {
+    pub fn new(alloc: Global, spool: Spool<KeptFile>, shelves: Vec<Shelf>) -> Self
+        ensures spool { result.spool ≡ spool }
+        ensures life { result.life ≡ epoch_now spool }
+        ensures shelves { result.shelves.items ≡ shelves.items }
+    {
         let life = spool.epoch();
         let mut kept: u64 = 0;
         for shelf in shelves.iter() {
@@ -63,17 +70,23 @@ impl Keeping {
     }
 
     /// What is known of the lines' pages.
-    pub fn shelves(&self) -> &[Shelf] {
+    pub fn shelves(&self) -> &[Shelf]
+        ensures { result.now ≡ self.now.shelves.items }
+    {
         self.shelves.as_slice()
     }
 
     /// How many pages wait on the disk.
-    pub fn kept(&self) -> u64 {
+    pub fn kept(&self) -> u64
+        ensures { result ≡ self.now.kept }
+    {
         self.kept
     }
 
     /// Whether the job of line i that is first in turn was confirmed in an earlier life.
-    pub fn is_restored(&self, i: usize) -> bool {
+    pub fn is_restored(&self, i: usize) -> bool
+        ensures { MatchOption (slice_get self.now.shelves.items i) (result ≡ false) (λ shelf. result ≡ is_of_earlier_life self.now.life shelf.waits) }
+    {
         match self.shelves.get(i) {
             Some(shelf) => shelf.is_restored(self.life),
             None => false,
@@ -89,7 +102,12 @@ impl Keeping {
     }
 
     /// The next page is one of line i, whose call has this tag.
-    pub fn turn_to(&mut self, i: usize, tag: Option<&str>) {
+    pub fn turn_to(&mut self, i: usize, tag: Option<&str>)
+        ensures line { self.new.line ≡ i }
+        ensures next { self.new.is_handed ≡ false }
+        ensures spool { self.new.spool ≡ self.old.spool }
+        ensures shelves { self.new.shelves.items ≡ self.old.shelves.items }
+    {
         self.line = i;
         self.is_handed = false;
         self.tag = match tag {
@@ -103,7 +121,11 @@ impl Keeping {
 
     /// The page of this call that was to be kept next was handed over, or it could not be for want of memory: then it waits, and is
     /// not on the disk.
-    pub fn note(&mut self, call: u32) {
+    pub fn note(&mut self, call: u32)
+        ensures spool { self.new.spool ≡ self.old.spool }
+        ensures handed { self.old.is_handed ≡ true → self.new ≡ self.old }
+        ensures names { (names : List PageName) → AllAreAmong self.old.shelves.items names → AllAreAmong self.new.shelves.items names }
+    {
         if self.is_handed {
             return;
         }
@@ -113,7 +135,10 @@ impl Keeping {
 
     /// Which page of this call the next one is, from 1 on.
     fn next_number(&mut self, call: u32) -> u32
-        ensures { self.new.spool ≡ self.old.spool }
+        ensures spool { self.new.spool ≡ self.old.spool }
+        ensures life { self.new.life ≡ self.old.life }
+        ensures line { self.new.line ≡ self.old.line }
+        ensures shelves { self.new.shelves.items ≡ self.old.shelves.items }
     {
         self.is_handed = true;
         match self.shelves.get_mut(self.line) {
@@ -122,9 +147,30 @@ impl Keeping {
         }
     }
 
+    /// Puts the record of a page of the line that has the turn.
+    fn put(&mut self, page: &PageToKeep, number: u32) -> Result<(), KeepFault>
+        ensures put { OnOk result (MatchOption (slice_get self.old.shelves.items self.old.line) ⊥ (λ shelf. PutsRecord ⟦<KeptFile as Disk>⟧.seen ⟦<KeptFile as Disk>⟧.may_leave ⟦<KeptFile as Disk>⟧.is_usable page.now self.old.life number shelf.line self.old.spool self.new.spool)) }
+        ensures same { self.new ≡ record self.old { spool = self.new.spool } }
+    {
+        let Some(shelf) = self.shelves.get(self.line) else {
+            return Err(KeepFault);
+        };
+        let line = shelf.line().as_bytes();
+        let name = (self.life, number);
+        put_page(
+            self.alloc,
+            &mut self.spool,
+            page,
+            name,
+            line,
+            self.tag.as_slice(),
+        )
+    }
+
     /// A page waits, which is on the disk or not.
     fn wait(&mut self, call: u32, number: u32, is_kept: bool)
-        ensures { self.new.spool ≡ self.old.spool }
+        ensures spool { self.new.spool ≡ self.old.spool }
+        ensures shelves { AddsAt (record { life = self.old.life; call = call; number = number; is_kept = is_kept }) self.old.line self.old.shelves.items self.new.shelves.items }
     {
         let life = self.life;
         if let Some(shelf) = self.shelves.get_mut(self.line) {
@@ -139,7 +185,8 @@ impl Keeping {
 
     /// A page that was put waits; where it is not on the disk, it waits all the same.
     fn add(&mut self, page: &PageToKeep, number: u32, is_kept: bool)
-        ensures { self.new.spool ≡ self.old.spool }
+        ensures spool { self.new.spool ≡ self.old.spool }
+        ensures shelves { AddsAt (record { life = self.old.life; call = page.now.kept.call; number = number; is_kept = is_kept }) self.old.line self.old.shelves.items self.new.shelves.items }
     {
         self.wait(page.kept.call, number, is_kept);
         if is_kept {
@@ -153,7 +200,8 @@ impl Keeping {
     /// the disk, or it could not be, so that they are restored at the next start, and sent again; or the disk failed behind it, and
     /// the spool refuses the pages from then on.
     pub fn end(&mut self, i: usize, report: Report) -> Result<(), KeepFault>
-        ensures { OnOk result (EndsJobAt ⟦<KeptFile as Disk>⟧.seen ⟦<KeptFile as Disk>⟧.may_leave ⟦<KeptFile as Disk>⟧.is_usable report.pages i self.old.shelves.items self.new.shelves.items self.old.spool self.new.spool) }
+        ensures agree { OnOk result (HaveOwnNames self.old.shelves.items → Agree ⟦<KeptFile as Disk>⟧.seen ⟦<KeptFile as Disk>⟧.may_leave ⟦<KeptFile as Disk>⟧.is_usable self.old.spool self.old.shelves.items → Agree ⟦<KeptFile as Disk>⟧.seen ⟦<KeptFile as Disk>⟧.may_leave ⟦<KeptFile as Disk>⟧.is_usable self.new.spool self.new.shelves.items) }
+        ensures ends { OnOk result (EndsJobAt ⟦<KeptFile as Disk>⟧.seen ⟦<KeptFile as Disk>⟧.may_leave ⟦<KeptFile as Disk>⟧.is_usable report.pages i self.old.shelves.items self.new.shelves.items self.old.spool self.new.spool) }
     {
         if i >= self.shelves.len() {
             return Err(KeepFault);
@@ -245,15 +293,11 @@ fn put_page(
     spool: &mut Spool<KeptFile>,
     page: &PageToKeep,
     name: (u32, u32),
-    line: Option<&[u8]>,
+    line: &[u8],
     tag: &[u8],
 ) -> Result<(), KeepFault>
-    ensures { OnOk result ((before : List ToKeep) → KeepsPages ⟦<KeptFile as Disk>⟧.seen ⟦<KeptFile as Disk>⟧.may_leave ⟦<KeptFile as Disk>⟧.is_usable spool.old before
-        → KeepsPages ⟦<KeptFile as Disk>⟧.seen ⟦<KeptFile as Disk>⟧.may_leave ⟦<KeptFile as Disk>⟧.is_usable spool.new (before ++ page.now ∷ [])) }
+    ensures { OnOk result (PutsRecord ⟦<KeptFile as Disk>⟧.seen ⟦<KeptFile as Disk>⟧.may_leave ⟦<KeptFile as Disk>⟧.is_usable page.now name.0 name.1 line.now spool.old spool.new) }
 {
-    let Some(line) = line else {
-        return Err(KeepFault);
-    };
     if line.len() > 255 || tag.len() > 255 {
         return Err(KeepFault);
     }
@@ -280,25 +324,16 @@ impl Keeper<PageToKeep> for Keeping {
 
     ghost keeps = { λ keeping pages. KeepsPages ⟦<KeptFile as Disk>⟧.seen ⟦<KeptFile as Disk>⟧.may_leave ⟦<KeptFile as Disk>⟧.is_usable keeping.spool pages };
 
-    fn keep(&mut self, page: PageToKeep) -> Result<(), KeepFault> {
+    fn keep(&mut self, page: PageToKeep) -> Result<(), KeepFault>
+        ensures kept { OnOk result ((before : List ToKeep) → KeepsPages ⟦<KeptFile as Disk>⟧.seen ⟦<KeptFile as Disk>⟧.may_leave ⟦<KeptFile as Disk>⟧.is_usable self.old.spool before
+            → KeepsPages ⟦<KeptFile as Disk>⟧.seen ⟦<KeptFile as Disk>⟧.may_leave ⟦<KeptFile as Disk>⟧.is_usable self.new.spool (before ++ page ∷ [])) }
+        ensures put { OnOk result (IsPut ⟦<KeptFile as Disk>⟧.seen ⟦<KeptFile as Disk>⟧.may_leave ⟦<KeptFile as Disk>⟧.is_usable page self.old.line self.old.shelves.items self.new.shelves.items self.old.spool self.new.spool) }
+        ensures agree { OnOk result (Agree ⟦<KeptFile as Disk>⟧.seen ⟦<KeptFile as Disk>⟧.may_leave ⟦<KeptFile as Disk>⟧.is_usable self.old.spool self.old.shelves.items → Agree ⟦<KeptFile as Disk>⟧.seen ⟦<KeptFile as Disk>⟧.may_leave ⟦<KeptFile as Disk>⟧.is_usable self.new.spool self.new.shelves.items) }
+        ensures names { OnErr result ((names : List PageName) → AllAreAmong self.old.shelves.items names → AllAreAmong self.new.shelves.items names) }
+    {
         let number = self.next_number(page.kept.call);
-        let answer = put_page(
-            self.alloc,
-            &mut self.spool,
-            &page,
-            (self.life, number),
-            line_of(self.shelves.as_slice(), self.line),
-            self.tag.as_slice(),
-        );
+        let answer = self.put(&page, number);
         self.add(&page, number, answer.is_ok());
         answer
-    }
-}
-
-/// The name of line i.
-fn line_of(shelves: &[Shelf], i: usize) -> Option<&[u8]> {
-    match shelves.get(i) {
-        Some(shelf) => Some(shelf.line().as_bytes()),
-        None => None,
     }
 }
