@@ -3,4 +3,5 @@ mod Cut
 mod Lives
 mod Naming
 mod Records
+mod Shelving
 mod Waits

@@ -1,5 +1,5 @@
 -- What is owed waits on the disk, and is restored.
-use Rattle.std.proofs.Common.{◌≡◌, ◌≢◌, ◌∙◌, ℕ, zero, suc, ◌+◌, ◌<◌, ◌≤◌, ◌⊎◌, inl, inr, Bool, true, false, not, ◌||◌, ◌&&◌, rules, cond, if◌then◌else◌, List, [], ◌∷◌, ◌++◌, length, map, take, drop, count_by, Option, nat_eq, bytes_eq, refl, sym, ap, subst, arith, append_assoc}
+use Rattle.std.proofs.Common.{◌≡◌, ◌≢◌, ◌∙◌, ℕ, zero, suc, ◌+◌, inl, inr, Bool, true, false, not, ◌||◌, ◌&&◌, rules, cond, if◌then◌else◌, List, [], ◌∷◌, ◌++◌, map, take, drop, count_by, Some, nat_eq, bytes_eq, refl, sym, ap, subst, arith, append_assoc}
 use Rattle.std.specs.List.{filter, list_any}
 use Rattle.std.proofs.lemmas.List.Sums.{sum_by-cons}
 use Rattle.std.proofs.lemmas.List.{append-nil, drop-map, map-append}
@@ -11,21 +11,24 @@ use Rattle.fax_runcodes.specs.Widths.{elements_of}
 use Rattle.fax_runcodes.specs.declared.Width.{Width}
 use Rattle.fax_runcodes.specs.declared.Width.TheVariants.{W1728, W2048, W2432}
 use Rattle.fax_pagestore.specs.Pages.{PageValue}
-use Rattle.fax_pagestore.specs.PageLaws.{PagesAreUnique}
-use Rattle.fax_hold.specs.Keeping as hold
+use Rattle.fax_pagestore.specs.PageLaws.{PagesAreUnique, WrittenPagesMean}
+use Rattle.fax_pagestore.specs.PageRows.{AreRows}
+use Rattle.fax_pagestore.specs.PageTexts.{MeansRows}
+use Rattle.fax_pagestore.specs.WrittenPages.{WritesPage}
 use Rattle.fax_hold.specs.Keeping.{went_out, mute_after, with_given}
-use Rattle.fax_gateway.specs.Restored.{RestoredCall, call_shown}
+use Rattle.fax_gateway.specs.declared.given.Kept.{Kept}
+use Rattle.fax_spool.specs.declared.kept_record.KeptRecord.TheVariants.{Page}
 use Rattle.fax_spool.specs.RecordOctets as spool
 use Rattle.fax_spool.specs.Opened.{closed, closing, same_call}
-use Rattle.fax_spool.specs.Waits.{PageName, ends, name_of, without}
+use Rattle.fax_spool.specs.Waits.{ends, name_of, without}
 use Rattle.fax_shelf.specs.declared.shelf.Waiting.{Waiting}
-use Rattle.fax_shelf.specs.declared.restored.Restored.{Restored}
-use Rattle.fax_shelf.specs.Restorations.{AreRead, Means, MeansNone, ReadPage, Restores, calls_of, own_pages, waiting_of}
+use Rattle.fax_shelf.specs.Restorations.{AreRead, Means, ReadPage, calls_of, own_pages, waiting_of}
 use Rattle.fax_shelf.specs.Shelves.{left_by, name_in}
-use Rattle.fax_shelf.specs.Lives.{Deed, EndsNone, Entry, Goes, OwedIsRestored, OwedStays, PutFirst, Puts, State, WaitsAreOwed, WasDone, are_there, closed_read, owed, placed, on_leg, queue}
+use Rattle.fax_shelf.specs.Lives.{Deed, EndsAreDeeds, Entry, Goes, KeptPagesAreRead, OthersAreBeside, OwedIsRestored, OwedStays, PutFirst, Puts, PutsAreDeeds, RestartsAreDeeds, State, WaitsAreOwed, WasDone, are_there, closed_read, owed, placed, on_leg, queue}
 use Rattle.fax_shelf.specs.Lives.{Turns, Begins, Keeps, Refuses, Ends, Leaves, Lets, Beside, Stops}
 use Rattle.fax_shelf.proofs.Calls.{own_more}
 use Rattle.fax_shelf.proofs.Cut.{none_before, none_behind}
+use Rattle.fax_shelf.proofs.Waits.{ends_none_of}
 
 abbrev pages_there : List Entry → List ReadPage
 pages_there entries = map (λ e. e.page) (are_there entries)
@@ -381,3 +384,80 @@ mute_so false x y = refl
 pub put_first : PutFirst
 put_first given page is_there deeds =
     (mute_so (mute_after (on_leg deeds)) (went_out (on_leg deeds)) (with_given given (went_out (on_leg deeds))), there_more (queue deeds) page true)
+
+-- ---- the calls are deeds
+
+pub puts_are_deeds : PutsAreDeeds
+puts_are_deeds given page old new before after pages named means shelved notes = record {
+  line_is = named;
+  means = means;
+  there = refl;
+  shelved = λ still. ((notes still).0, (shelved.whole (notes still).1).1);
+}
+
+pub ends_are_deeds : EndsAreDeeds
+ends_are_deeds count ended old new after pages named left leaves = record {
+  ended = ended;
+  named = named;
+  sure = refl;
+  leaves = leaves ∙ left;
+  gone = refl;
+  shelved = λ still. left;
+}
+
+other_own : (line : List ℕ) (page : spool.PageValue) (b : Bool) → bytes_eq page.line line ≡ b → page.line ≢ line → b ≡ false
+other_own line page true same other = absurd (other ((bytes_eq-Decides page.line line).0 same))
+other_own line page false same other = refl
+
+own_beside : (line : List ℕ) (pages : List spool.PageValue) (page : spool.PageValue) → page.line ≢ line → own_pages line (pages ++ page ∷ []) ≡ own_pages line pages
+own_beside line pages page other =
+    own_more line pages page
+    ∙ ap (λ (b : Bool). own_pages line pages ++ cond b (page ∷ []) []) (other_own line page (bytes_eq page.line line) refl other) ∙ append-nil (own_pages line pages)
+
+not_its : (line : List ℕ) (ended : spool.EndedValue) (page : spool.PageValue) (b : Bool) → bytes_eq ended.line page.line ≡ b → page.line ≡ line → ended.line ≢ line → b ≡ false
+not_its line ended page true same named other = absurd (other ((bytes_eq-Decides ended.line page.line).0 same ∙ named))
+not_its line ended page false same named other = refl
+
+stays_own : (line : List ℕ) (ended : spool.EndedValue) (page : spool.PageValue) → page.line ≡ line → ended.line ≢ line → not (ends ended (name_of page)) ≡ true
+stays_own line ended page named other = ap (λ (b : Bool). not b) (ends_none_of ended (name_of page) (not_its line ended page (bytes_eq ended.line page.line) refl named other))
+
+own_stays_if : (line : List ℕ) (ended : spool.EndedValue) (page : spool.PageValue) (pages : List spool.PageValue) (b : Bool) → bytes_eq page.line line ≡ b → ended.line ≢ line
+    → without ended (own_pages line pages) ≡ own_pages line pages
+    → without ended (cond b (page ∷ own_pages line pages) (own_pages line pages)) ≡ cond b (page ∷ own_pages line pages) (own_pages line pages)
+own_stays_if line ended page pages true is other rest =
+    ap (λ (c : Bool). cond c (page ∷ without ended (own_pages line pages)) (without ended (own_pages line pages))) (stays_own line ended page ((bytes_eq-Decides page.line line).0 is) other)
+    ∙ ap (λ (l : List spool.PageValue). page ∷ l) rest
+own_stays_if line ended page pages false is other rest = rest
+
+own_stays : (line : List ℕ) (ended : spool.EndedValue) (pages : List spool.PageValue) → ended.line ≢ line → without ended (own_pages line pages) ≡ own_pages line pages
+own_stays line ended [] other = refl
+own_stays line ended (page ∷ pages) other = own_stays_if line ended page pages (bytes_eq page.line line) refl other (own_stays line ended pages other)
+
+pub others_are_beside : OthersAreBeside
+others_are_beside line shelf notes pages = (
+  λ page other. record { same = own_beside line pages page other; shelved = λ still. (still, refl) },
+  λ ended other. record {
+    same = commute (λ (p : spool.PageValue). bytes_eq p.line line) (λ (p : spool.PageValue). not (ends ended (name_of p))) pages ∙ own_stays line ended pages other;
+    shelved = λ still. (still, refl);
+  },
+)
+
+pub restarts_are_deeds : RestartsAreDeeds
+restarts_are_deeds line restored old after restores = record { read = restores.read; own = restores.own; same = refl; shelved = restores.are.waits }
+
+same_newest : (page other : PageValue) → Some page ≡ Some other → page ≡ other
+same_newest page other same = cc
+
+same_record : (value other : spool.PageValue) → Page value ≡ Page other → value ≡ other
+same_record value other same = cc
+
+pub kept_pages_are_read : WrittenPagesMean → KeptPagesAreRead
+kept_pages_are_read mean kept page to_keep value is_page format is recorded =
+    let its : is.page ≡ page = sym (same_newest page is.page is.newest_is) in
+    let its_value : recorded.value ≡ value = sym (same_record value recorded.value recorded.is_page) in
+    let rows : AreRows (elements_of page.format.width) page.rows = is_page in
+    let writes : WritesPage Mr page.format.fine 0 page.rows is.text = subst (λ (p : PageValue). WritesPage Mr p.format.fine 0 p.rows is.text) its is.writes in
+    let meant : MeansRows (elements_of page.format.width) Mr to_keep.text page.rows = mean (elements_of page.format.width) Mr page.format.fine 0 page.rows is.text to_keep.text (is_width page.format.width) rows writes is.octets in
+    let same : page.format ≡ value.format = sym format ∙ ap (λ (k : Kept). k.format) (sym is.told) ∙ sym recorded.format ∙ ap (λ (v : spool.PageValue). v.format) its_value in
+    let text : to_keep.text ≡ value.text = sym recorded.text ∙ ap (λ (v : spool.PageValue). v.text) its_value in
+    (same, subst (λ (f : Format). MeansRows (elements_of f.width) Mr value.text page.rows) same (subst (λ (t : List ℕ). MeansRows (elements_of page.format.width) Mr t page.rows) text meant))

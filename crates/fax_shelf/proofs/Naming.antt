@@ -1,13 +1,12 @@
 -- What a job's end names, of pages that are in the order in which they came.
-use Rattle.std.proofs.Common.{◌≡◌, ◌∙◌, ℕ, zero, suc, ◌+◌, ◌<◌, ◌≤◌, ◌⊎◌, inl, inr, Bool, true, false, not, cond, List, [], ◌∷◌, ◌++◌, length, take, drop, count_by, Option, Some, None, slice_get, refl, sym, ap, subst, ◌-◌, arith, nat_eq, nat_le, nat_lt, bytes_eq}
-use Rattle.std.specs.List.{filter}
+use Rattle.std.proofs.Common.{◌≡◌, ◌∙◌, ℕ, zero, suc, ◌+◌, ◌<◌, ◌≤◌, ◌⊎◌, inl, inr, Bool, true, false, not, cond, List, [], ◌∷◌, ◌++◌, length, take, drop, count_by, Some, slice_get, refl, sym, ap, subst, ◌-◌, arith, bytes_eq}
 use Rattle.std.proofs.lemmas.Bool.Decides.{nat_tests}
 use Rattle.std.proofs.lemmas.Slice.Eq.{bytes_eq-Decides}
 use Rattle.fax_spool.specs.RecordOctets.{EndedValue}
 use Rattle.fax_spool.specs.Waits.{PageName, ends}
 use Rattle.fax_shelf.specs.declared.shelf.Waiting.{Waiting}
 use Rattle.fax_shelf.specs.declared.shelf.Ended.{Ended}
-use Rattle.fax_shelf.specs.Shelves.{AreBehind, AreInOrder, IsBehind, IsEndOf, NamesFirst, left_by, name_in}
+use Rattle.fax_shelf.specs.Shelves.{AreBehind, AreInOrder, IsBehind, NamesFirst, left_by, name_in}
 
 -- ---- one page
 

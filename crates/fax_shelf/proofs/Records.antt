@@ -1,6 +1,6 @@
 -- More records of pages.
-use Rattle.std.proofs.Common.{◌≡◌, ◌+◌, ◌<◌, Bool, List, [], ◌∷◌, ◌++◌, ℕ, Result, OnOk, length, map, take, sym, subst, append_assoc, slice_index_or}
-use Rattle.std.proofs.lemmas.List.{map-append, take_more}
+use Rattle.std.proofs.Common.{◌≡◌, ◌∙◌, ◌+◌, ◌<◌, Bool, List, [], ◌∷◌, ◌++◌, ℕ, Some, Result, OnOk, Ok, Err, length, map, take, ap, arith, sym, subst, append_assoc, slice_get, slice_index_or}
+use Rattle.std.proofs.lemmas.List.{length-take-le, take_more}
 use Rattle.fax_hold.specs.declared.keeping.KeepFault.{KeepFault}
 use Rattle.fax_line.specs.declared.settling.PageToKeep.{PageToKeep}
 use Rattle.fax_spool.specs.KeptRecords.{kept_of}
@@ -8,7 +8,7 @@ use Rattle.fax_spool.specs.RecordOctets.{PageValue}
 use Rattle.fax_spool.specs.Spools.{Keeps}
 use Rattle.fax_spool.specs.declared.kept_record.KeptRecord.{KeptRecord}
 use Rattle.fax_spool.specs.declared.spool.Spool.{Spool}
-use Rattle.fax_shelf.specs.Keeping.{AreRecordsOf, IsRecordOf, KeepsPages}
+use Rattle.fax_shelf.specs.Keeping.{AreRecordsOf, AreRecordsUnder, IsRecordUnder, KeepsPages, PutsRecords}
 
 records_both : (pages more : List PageToKeep) (records others : List KeptRecord) → AreRecordsOf pages records → AreRecordsOf more others → AreRecordsOf (pages ++ more) (records ++ others)
 records_both [] more [] others are then = then
@@ -16,17 +16,42 @@ records_both [] more (r ∷ records) others are then = absurd are
 records_both (p ∷ pages) more [] others are then = absurd are
 records_both (p ∷ pages) more (r ∷ records) others are then = (are.0, records_both pages more records others are.1 then)
 
--- the record of the page that is next
-pub next_record :
-    (pages : List PageToKeep) (records : List PageValue) (k : ℕ) (page : PageToKeep) (value : PageValue) → k < length pages → page ≡ slice_index_or pages k page
-    → AreRecordsOf (take k pages) (map kept_of records) → IsRecordOf page (kept_of value) → AreRecordsOf (take (k + 1) pages) (map kept_of (records ++ value ∷ []))
-next_record pages records k page value low got are is =
-    subst (λ (l : List PageToKeep). AreRecordsOf l (map kept_of (records ++ value ∷ []))) (sym (take_more pages k page low))
-    (subst (λ (l : List KeptRecord). AreRecordsOf (take k pages ++ slice_index_or pages k page ∷ []) l) (sym (map-append kept_of records (value ∷ [])))
-    (subst (λ (p : PageToKeep). AreRecordsOf (take k pages ++ p ∷ []) (map kept_of records ++ kept_of value ∷ [])) got
-    (records_both (take k pages) (page ∷ []) (map kept_of records) (kept_of value ∷ []) are (is, tt))))
+-- ---- records under names
 
-pub keeps_more :
+under_more :
+    (life : ℕ) (lines : List (List ℕ)) (pages : List PageToKeep) (numbers : List ℕ) (values : List PageValue) (page : PageToKeep) (number : ℕ) (value : PageValue)
+    → slice_get numbers (length pages) ≡ Some number → slice_get lines page.line ≡ Some value.line → IsRecordUnder life page number value
+    → AreRecordsUnder life lines pages numbers values → AreRecordsUnder life lines (pages ++ page ∷ []) numbers (values ++ value ∷ [])
+under_more life lines [] [] values page number value at line is are = cc
+under_more life lines [] (n ∷ numbers) [] page number value at line is are =
+    let same : number ≡ n = cc in (line, subst (λ (m : ℕ). IsRecordUnder life page m value) same is, tt)
+under_more life lines [] (n ∷ numbers) (v ∷ values) page number value at line is are = absurd are
+under_more life lines (p ∷ pages) [] values page number value at line is are = absurd are
+under_more life lines (p ∷ pages) (n ∷ numbers) [] page number value at line is are = absurd are
+under_more life lines (p ∷ pages) (n ∷ numbers) (v ∷ values) page number value at line is are = (are.0, are.1, under_more life lines pages numbers values page number value at line is are.2)
+
+-- the record of the page that is next
+pub next_under :
+    (life : ℕ) (lines : List (List ℕ)) (pages : List PageToKeep) (numbers : List ℕ) (values : List PageValue) (k : ℕ) (page : PageToKeep) (number : ℕ) (value : PageValue)
+    → k < length pages → page ≡ slice_index_or pages k page → slice_get numbers k ≡ Some number → slice_get lines page.line ≡ Some value.line → IsRecordUnder life page number value
+    → AreRecordsUnder life lines (take k pages) numbers values → AreRecordsUnder life lines (take (k + 1) pages) numbers (values ++ value ∷ [])
+next_under life lines pages numbers values k page number value low got at line is are =
+    subst (λ (l : List PageToKeep). AreRecordsUnder life lines l numbers (values ++ value ∷ [])) (sym (take_more pages k page low))
+    (subst (λ (p : PageToKeep). AreRecordsUnder life lines (take k pages ++ p ∷ []) numbers (values ++ value ∷ [])) got
+    (under_more life lines (take k pages) numbers values page number value (ap (λ (j : ℕ). slice_get numbers j) (length-take-le k pages (omega (arith, low))) ∙ at) line is are))
+
+are_records : (life : ℕ) (lines : List (List ℕ)) (pages : List PageToKeep) (numbers : List ℕ) (values : List PageValue) → AreRecordsUnder life lines pages numbers values → AreRecordsOf pages (map kept_of values)
+are_records life lines [] [] [] are = tt
+are_records life lines [] (n ∷ numbers) [] are = tt
+are_records life lines [] [] (v ∷ values) are = absurd are
+are_records life lines [] (n ∷ numbers) (v ∷ values) are = absurd are
+are_records life lines (p ∷ pages) [] values are = absurd are
+are_records life lines (p ∷ pages) (n ∷ numbers) [] are = absurd are
+are_records life lines (p ∷ pages) (n ∷ numbers) (v ∷ values) are = (are.1.is_record, are_records life lines pages numbers values are.2)
+
+-- ---- pages that are kept
+
+keeps_more :
     {D : Type 0} {seen : D → List ℕ} {may_leave : D → List ℕ → Type 0} {is_usable : D → Bool} (old new : Spool D) (pages : List PageToKeep) (records : List KeptRecord)
     → ((olds news : List KeptRecord) → Keeps seen may_leave is_usable old olds news → Keeps seen may_leave is_usable new olds (news ++ records))
     → AreRecordsOf pages records
@@ -38,6 +63,13 @@ keeps_more {seen = seen} {may_leave = may_leave} {is_usable = is_usable} old new
   kept = subst (λ (l : List KeptRecord). Keeps seen may_leave is_usable new keeps.olds l) (append_assoc keeps.earlier keeps.newest records) (put keeps.olds (keeps.earlier ++ keeps.newest) keeps.kept);
   are = records_both before pages keeps.newest records keeps.are are;
 }
+
+pub keeps_put :
+    {D : Type 0} (seen : D → List ℕ) (may_leave : D → List ℕ → Type 0) (is_usable : D → Bool) (answer : Result (Unit {0}) KeepFault) (life : ℕ) (lines : List (List ℕ)) (pages : List PageToKeep) (numbers : List ℕ) (before after : Spool D)
+    → OnOk answer (PutsRecords seen may_leave is_usable life lines pages numbers before after)
+    → OnOk answer ((olds : List PageToKeep) → KeepsPages seen may_leave is_usable before olds → KeepsPages seen may_leave is_usable after (olds ++ pages))
+keeps_put seen may_leave is_usable (Ok u) life lines pages numbers before after puts = keeps_more before after pages (map kept_of puts.values) puts.put (are_records life lines pages numbers puts.values puts.are)
+keeps_put seen may_leave is_usable (Err e) life lines pages numbers before after puts = tt
 
 -- what else changes of a server's keeping leaves its spool as it is
 pub keeps_on :

@@ -1,9 +1,10 @@
 -- What waits on a disk, behind one more record or fewer.
-use Rattle.std.proofs.Common.{◌≡◌, ◌∙◌, ℕ, ◌⊎◌, inl, inr, Bool, true, false, not, cond, List, [], ◌∷◌, ◌++◌, map, drop, Result, Ok, Err, OnOk, IfOk, refl, sym, ap, subst, append_assoc}
+use Rattle.std.proofs.Common.{◌≡◌, ◌∙◌, ℕ, ◌+◌, ◌&&◌, nat_eq, nat_le, nat_lt, bytes_eq, inl, inr, Bool, true, false, not, cond, List, [], ◌∷◌, ◌++◌, map, drop, refl, sym, ap, subst, append_assoc, append-nil}
 use Rattle.std.specs.Bool.{MatchBool}
 use Rattle.fax_spool.specs.RecordOctets.{EndedValue, PageValue}
+use Rattle.fax_spool.specs.KeptRecords.{kept_of}
 use Rattle.fax_spool.specs.Spools.{Keeps, NoneIsLeft}
-use Rattle.fax_spool.specs.Waits.{PageName, SharesWhatWaits, after, ends, left_behind, name_of, waiting, waiting_behind, without}
+use Rattle.fax_spool.specs.Waits.{PageName, SharesWhatWaits, after, ends, name_of, waiting, waiting_behind, without}
 use Rattle.fax_spool.specs.declared.kept_record.KeptRecord.{KeptRecord}
 use Rattle.fax_spool.specs.declared.kept_record.KeptRecord.TheVariants.{Ended, Epoch}
 use Rattle.fax_spool.specs.declared.spool.Spool.{Spool}
@@ -17,6 +18,18 @@ use Rattle.fax_shelf.specs.Jobs.{EndsJob, PagesWait}
 one_more : (pages : List PageValue) (records : List KeptRecord) (r : KeptRecord) → waiting_behind pages (records ++ r ∷ []) ≡ after (waiting_behind pages records) r
 one_more pages [] r = refl
 one_more pages (q ∷ records) r = one_more (after pages q) records r
+
+behind_both : (pages : List PageValue) (records more : List KeptRecord) → waiting_behind pages (records ++ more) ≡ waiting_behind (waiting_behind pages records) more
+behind_both pages [] more = refl
+behind_both pages (r ∷ records) more = behind_both (after pages r) records more
+
+all_wait : (pages values : List PageValue) → waiting_behind pages (map kept_of values) ≡ pages ++ values
+all_wait pages [] = sym (append-nil pages)
+all_wait pages (v ∷ values) = all_wait (pages ++ v ∷ []) values ∙ append_assoc pages (v ∷ []) values
+
+-- pages that are put wait behind the others
+pub put_behind : (pages : List PageValue) (records : List KeptRecord) (values : List PageValue) → waiting_behind pages (records ++ map kept_of values) ≡ waiting_behind pages records ++ values
+put_behind pages records values = behind_both pages records (map kept_of values) ∙ all_wait (waiting_behind pages records) values
 
 pub wait_ended :
     {D : Type 0} {seen : D → List ℕ} {may_leave : D → List ℕ → Type 0} {is_usable : D → Bool} (old new : Spool D) (ended : EndedValue)
@@ -72,6 +85,31 @@ job_ended pages old new before behind ended kept is line names left put = record
   leaves = names.leaves old.line kept is ∙ sym left;
   wait = wait_ended before behind kept put;
 }
+
+-- what is done with the files behind it changes nothing of what waits
+pub job_stays :
+    {D : Type 0} {seen : D → List ℕ} {may_leave : D → List ℕ → Type 0} {is_usable : D → Bool} (pages : ℕ) (old new : ShelfValue) (before between behind : Spool D) → EndsJob seen may_leave is_usable pages old new before between
+    → ((waits : List PageValue) → PagesWait seen may_leave is_usable between waits → PagesWait seen may_leave is_usable behind waits) → EndsJob seen may_leave is_usable pages old new before behind
+job_stays pages old new before between behind ends stays = record {
+  ended = ends.ended;
+  line_is = ends.line_is;
+  named = ends.named;
+  first = ends.first;
+  leaves = ends.leaves;
+  wait = λ waits was. stays (without ends.ended waits) (ends.wait waits was);
+}
+
+-- ---- another line
+
+and_false : (a b : Bool) → b ≡ false → (a && b) ≡ false
+and_false true b unlike = unlike
+and_false false b unlike = refl
+
+-- the end of a job of another line names no page of this one
+pub ends_none_of : (ended : EndedValue) (name : PageName) → bytes_eq ended.line name.line ≡ false → ends ended name ≡ false
+ends_none_of ended name unlike =
+    ap (λ (b : Bool). b && nat_le ended.first name.number && nat_lt name.number (ended.first + ended.pages))
+    (and_false (nat_eq ended.life name.life && nat_eq ended.call name.call) (bytes_eq ended.line name.line) unlike)
 
 -- ---- the other pages of the shelf
 

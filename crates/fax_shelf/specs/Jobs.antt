@@ -1,5 +1,5 @@
 -- The pages that wait on a disk, and what the end of a job makes of them. (This project's profile.)
-use Rattle.std.specs.Prelude.{◌≡◌, ℕ, Bool, List, ◌++◌, drop, Option, Some, slice_get}
+use Rattle.std.specs.Prelude.{◌≡◌, ℕ, Bool, List, ◌++◌, drop, Some, slice_get, slice_set}
 use Rattle.fax_spool.specs.RecordOctets.{EndedValue, PageValue}
 use Rattle.fax_spool.specs.Spools.{Keeps}
 use Rattle.fax_spool.specs.Waits.{waiting, without}
@@ -24,10 +24,11 @@ pub record EndsJob {D : Type 0} (seen : D → List ℕ) (may_leave : D → List 
   pub leaves : left_by ended old.line old.waits ≡ new.waits
   pub wait : (waits : List PageValue) → PagesWait seen may_leave is_usable before waits → PagesWait seen may_leave is_usable after (without ended waits)
 
--- the same of the line at a place among the others
+-- the same of the line at a place among the others, which stay as they were
 pub record EndsJobAt {D : Type 0} (seen : D → List ℕ) (may_leave : D → List ℕ → Type 0) (is_usable : D → Bool) (pages place : ℕ) (olds news : List ShelfValue) (before after : Spool D) : Type 0 where
   pub old : ShelfValue
   pub new : ShelfValue
   pub was : slice_get olds place ≡ Some old
   pub is : slice_get news place ≡ Some new
+  pub are : news ≡ slice_set olds place new
   pub ends : EndsJob seen may_leave is_usable pages old new before after

@@ -1,11 +1,16 @@
 -- What a server keeps on a disk of the pages that its lines confirm. Lists have the oldest first. (This project's profile.)
-use Rattle.std.specs.Prelude.{◌≡◌, ℕ, Bool, List, [], ◌∷◌, ◌++◌}
+use Rattle.std.specs.Prelude.{◌≡◌, ◌≢◌, ℕ, Bool, true, List, [], ◌∷◌, ◌++◌, map, Option, None, Some, slice_get, slice_set}
 use Rattle.fax_line.specs.declared.settling.PageToKeep.{PageToKeep}
 use Rattle.fax_spool.specs.RecordOctets.{PageValue}
 use Rattle.fax_spool.specs.Spools.{Keeps}
 use Rattle.fax_spool.specs.declared.kept_record.KeptRecord.{KeptRecord}
 use Rattle.fax_spool.specs.declared.kept_record.KeptRecord.TheVariants.{Page}
 use Rattle.fax_spool.specs.declared.spool.Spool.{Spool}
+use Rattle.fax_spool.specs.KeptRecords.{kept_of}
+use Rattle.fax_spool.specs.Waits.{PageName, name_of}
+use Rattle.fax_shelf.specs.Jobs.{PagesWait}
+use Rattle.fax_shelf.specs.Shelves.{AreAmong, IsShelved, ShelfValue}
+use Rattle.fax_shelf.specs.declared.shelf.Waiting.{Waiting}
 
 -- the record of a page: what the turn told of it, and its text
 pub record IsRecordOf (page : PageToKeep) (kept : KeptRecord) : Type 0 where
@@ -29,3 +34,91 @@ pub record KeepsPages {D : Type 0} (seen : D → List ℕ) (may_leave : D → Li
   pub newest : List KeptRecord
   pub kept : Keeps seen may_leave is_usable spool olds (earlier ++ newest)
   pub are : AreRecordsOf pages newest
+
+-- the record of a page, under this life and this number
+pub record IsRecordUnder (life : ℕ) (page : PageToKeep) (number : ℕ) (value : PageValue) : Type 0 where
+  pub is_record : IsRecordOf page (Page value)
+  pub life_is : value.life ≡ life
+  pub call_is : value.call ≡ page.kept.call
+  pub number_is : value.number ≡ number
+
+-- a record for each page, in their order, under its own number and the name of its line
+abbrev pub AreRecordsUnder : ℕ → List (List ℕ) → List PageToKeep → List ℕ → List PageValue → Type 0
+AreRecordsUnder life lines [] numbers [] = Unit {0}
+AreRecordsUnder life lines (page ∷ pages) (number ∷ numbers) (value ∷ values) =
+    (slice_get lines page.line ≡ Some value.line) × IsRecordUnder life page number value × AreRecordsUnder life lines pages numbers values
+AreRecordsUnder life lines pages numbers values = ⊥
+
+-- the records of pages were put, behind the others
+pub record PutsRecords {D : Type 0} (seen : D → List ℕ) (may_leave : D → List ℕ → Type 0) (is_usable : D → Bool) (life : ℕ) (lines : List (List ℕ)) (pages : List PageToKeep) (numbers : List ℕ) (before after : Spool D) : Type 0 where
+  pub values : List PageValue
+  pub are : AreRecordsUnder life lines pages numbers values
+  pub put : (olds news : List KeptRecord) → Keeps seen may_leave is_usable before olds news → Keeps seen may_leave is_usable after olds (news ++ map kept_of values)
+
+-- ---- the shelves
+
+-- what is known of a page whose record is this
+abbrev pub placed_as : PageValue → Bool → Waiting
+placed_as page is_kept = record { life = page.life; call = page.call; number = page.number; is_kept = is_kept }
+
+-- One more page is on the shelf at this place, where there is one; the others are as they were.
+abbrev pub AddsTo : Waiting → ℕ → List ShelfValue → List ShelfValue → Option ShelfValue → Type 0
+AddsTo page place olds news None = news ≡ olds
+AddsTo page place olds news (Some old) = (new : ShelfValue) × (news ≡ slice_set olds place new) × IsShelved page old new
+
+abbrev pub AddsAt : Waiting → ℕ → List ShelfValue → List ShelfValue → Type 0
+AddsAt page place olds news = AddsTo page place olds news (slice_get olds place)
+
+-- what is known of a page that has this number
+abbrev pub noted_as : ℕ → ℕ → Bool → PageToKeep → Waiting
+noted_as life number is_kept page = record { life = life; call = page.kept.call; number = number; is_kept = is_kept }
+
+-- one after another is on the shelf of its line: under its number, where one is told
+abbrev pub AddAll : ℕ → Bool → List PageToKeep → List ℕ → List ShelfValue → List ShelfValue → Type 0
+AddAll life is_kept [] numbers olds news = news ≡ olds
+AddAll life is_kept (page ∷ pages) (number ∷ numbers) olds news =
+    (between : List ShelfValue) × AddsAt (noted_as life number is_kept page) page.line olds between × AddAll life is_kept pages numbers between news
+AddAll life is_kept (page ∷ pages) [] olds news =
+    (number : ℕ) × (between : List ShelfValue) × AddsAt (noted_as life number is_kept page) page.line olds between × AddAll life is_kept pages [] between news
+
+-- A page whose record is this is on its line's shelf, under the name of the record; the others are as they were.
+pub record IsPut (page : PageToKeep) (value : PageValue) (olds news : List ShelfValue) : Type 0 where
+  pub is_record : IsRecordOf page (Page value)
+  pub old : ShelfValue
+  pub new : ShelfValue
+  pub was : slice_get olds page.line ≡ Some old
+  pub are : news ≡ slice_set olds page.line new
+  pub line_is : value.line ≡ old.line
+  pub shelved : IsShelved (placed_as value true) old new
+
+-- one after another
+abbrev pub AllArePut : List PageToKeep → List PageValue → List ShelfValue → List ShelfValue → Type 0
+AllArePut [] [] olds news = news ≡ olds
+AllArePut (page ∷ pages) (value ∷ values) olds news = (between : List ShelfValue) × IsPut page value olds between × AllArePut pages values between news
+AllArePut pages values olds news = ⊥
+
+-- PAGES ARE PUT: their records wait on the disk behind the others, each under the name that its page has on its line's shelf.
+pub record ArePut {D : Type 0} (seen : D → List ℕ) (may_leave : D → List ℕ → Type 0) (is_usable : D → Bool) (pages : List PageToKeep) (olds news : List ShelfValue) (before after : Spool D) : Type 0 where
+  pub values : List PageValue
+  pub shelved : AllArePut pages values olds news
+  pub wait : (waits : List PageValue) → PagesWait seen may_leave is_usable before waits → PagesWait seen may_leave is_usable after (waits ++ values)
+
+-- each page that one of the shelves says to be on the disk is among these
+abbrev pub AllAreAmong : List ShelfValue → List PageName → Type 0
+AllAreAmong [] names = Unit {0}
+AllAreAmong (shelf ∷ shelves) names = AreAmong shelf.line shelf.waits names × AllAreAmong shelves names
+
+-- no two lines have one name
+abbrev pub IsOther : List ℕ → List ShelfValue → Type 0
+IsOther line [] = Unit {0}
+IsOther line (shelf ∷ shelves) = (shelf.line ≢ line) × IsOther line shelves
+
+abbrev pub HaveOwnNames : List ShelfValue → Type 0
+HaveOwnNames [] = Unit {0}
+HaveOwnNames (shelf ∷ shelves) = IsOther shelf.line shelves × HaveOwnNames shelves
+
+-- THE SHELVES AND THE DISK AGREE: each page that a shelf says to be on the disk waits there, under its name.
+pub record Agree {D : Type 0} (seen : D → List ℕ) (may_leave : D → List ℕ → Type 0) (is_usable : D → Bool) (spool : Spool D) (shelves : List ShelfValue) : Type 0 where
+  pub pages : List PageValue
+  pub wait : PagesWait seen may_leave is_usable spool pages
+  pub among : AllAreAmong shelves (map name_of pages)

@@ -1,18 +1,24 @@
 -- LIVES OF A LINE'S PAGES: what is on the disk behind any history of pages put and not put, jobs ended, and crashes; and what the
 -- line is restored with then. Lists have the oldest first, but those of deeds and turns, which have the newest first. (This
 -- project's profile.)
-use Rattle.std.specs.Prelude.{◌≡◌, ℕ, Bool, true, false, not, ◌||◌, List, [], ◌∷◌, ◌++◌, map, take, drop, count_by, Option, if◌then◌else◌}
+use Rattle.std.specs.Prelude.{◌≡◌, ◌≢◌, ℕ, Bool, true, false, not, ◌||◌, List, [], ◌∷◌, ◌++◌, map, take, drop, count_by, Option, Some, if◌then◌else◌}
 use Rattle.std.specs.List.{filter, list_any}
 use Rattle.fax_hold.specs.Keeping as hold
 use Rattle.fax_hold.specs.Keeping.{went_out}
+use Rattle.fax_pagestore.specs.Pages.{IsPage, PageValue}
 use Rattle.fax_gateway.specs.Restored.{call_shown}
+use Rattle.fax_gateway.specs.declared.given.Kept.{Kept}
+use Rattle.fax_line.specs.Settling.{IsKeptAs}
+use Rattle.fax_line.specs.declared.settling.PageToKeep.{PageToKeep}
 use Rattle.fax_spool.specs.RecordOctets as spool
 use Rattle.fax_spool.specs.Opened.{closed, closing, same_call}
 use Rattle.fax_spool.specs.Waits.{without}
+use Rattle.fax_spool.specs.declared.kept_record.KeptRecord.TheVariants.{Page}
 use Rattle.fax_shelf.specs.declared.shelf.Waiting.{Waiting}
 use Rattle.fax_shelf.specs.declared.restored.Restored.{Restored}
 use Rattle.fax_shelf.specs.Restorations.{AreRead, Means, ReadPage, Restores, calls_of, own_pages, waiting_of}
-use Rattle.fax_shelf.specs.Shelves.{left_by}
+use Rattle.fax_shelf.specs.Keeping.{IsRecordOf, placed_as}
+use Rattle.fax_shelf.specs.Shelves.{IsShelved, ShelfValue, left_by}
 
 -- WHAT BEFALLS A LINE and its pages. A turn gives a datagram on the calling leg or none.
 pub data Deed : Type 0 where
@@ -180,3 +186,44 @@ abbrev pub PutFirst : Type 0
 PutFirst =
     (given : Option (List ℕ)) (page : ReadPage) (is_there : Bool) (deeds : List Deed)
     → (went_out (on_leg (Refuses given page is_there ∷ deeds)) ≡ went_out (on_leg deeds)) × (owed (Keeps given page ∷ deeds) ≡ owed deeds ++ page ∷ [])
+
+-- ---- the calls are deeds
+
+-- what is known and there of a line, by its shelf
+abbrev pub state_of : ShelfValue → Bool → List spool.PageValue → State
+state_of shelf notes pages = record { waits = shelf.waits; notes = notes; pages = pages }
+
+-- ends are noted behind a call only where they were, and the shelf is whole
+abbrev pub NotesStill : Bool → Bool → ShelfValue → Type 0
+NotesStill before after shelf = after ≡ true → (before ≡ true) × (shelf.is_whole ≡ true)
+
+-- a page is put, and is on the shelf: what `Keeping::keep` answers by an `Ok`
+abbrev pub PutsAreDeeds : Type 0
+PutsAreDeeds =
+    (given : Option (List ℕ)) (page : ReadPage) (old new : ShelfValue) (before after : Bool) (pages : List spool.PageValue) → page.waits.line ≡ old.line → Means page.waits page.page
+    → IsShelved (placed_as page.waits true) old new → NotesStill before after new
+    → Goes old.line (Keeps given page) (state_of old before pages) (state_of new after (pages ++ page.waits ∷ []))
+
+-- the end of a job is noted: what `Keeping::end` answers by an `Ok`
+abbrev pub EndsAreDeeds : Type 0
+EndsAreDeeds =
+    (count : ℕ) (ended : spool.EndedValue) (old new : ShelfValue) (after : Bool) (pages : List spool.PageValue) → ended.line ≡ old.line → new.waits ≡ drop count old.waits
+    → left_by ended old.line old.waits ≡ new.waits → Goes old.line (Ends count) (state_of old true pages) (state_of new after (without ended pages))
+
+-- the same of another line
+abbrev pub OthersAreBeside : Type 0
+OthersAreBeside =
+    (line : List ℕ) (shelf : ShelfValue) (notes : Bool) (pages : List spool.PageValue)
+    → ((page : spool.PageValue) → page.line ≢ line → Goes line Beside (state_of shelf notes pages) (state_of shelf notes (pages ++ page ∷ [])))
+    × ((ended : spool.EndedValue) → ended.line ≢ line → Goes line Beside (state_of shelf notes pages) (state_of shelf notes (without ended pages)))
+
+-- a life begins: what `restore_line` answers by an `Ok`, over the pages that `open_spool` tells
+abbrev pub RestartsAreDeeds : Type 0
+RestartsAreDeeds =
+    (line : List ℕ) (restored : Restored) (old : State) (after : Bool) → Restores line (closed old.pages) restored → Goes line Stops old (state_of restored.shelf after old.pages)
+
+-- A page that a turn hands over is read back: the text of its record means it.
+abbrev pub KeptPagesAreRead : Type 0
+KeptPagesAreRead =
+    (kept : Kept) (page : PageValue) (to_keep : PageToKeep) (value : spool.PageValue) → IsPage page → kept.format ≡ page.format → IsKeptAs kept (Some page) to_keep
+    → IsRecordOf to_keep (Page value) → Means value page

@@ -1,5 +1,5 @@
 -- What a server knows of the pages of a line that wait. Lists have the oldest first. (This project's profile.)
-use Rattle.std.specs.Prelude.{◌≡◌, ℕ, ◌<◌, ◌≤◌, ◌⊎◌, Bool, true, not, List, [], ◌∷◌, length, map, take, drop, count_by}
+use Rattle.std.specs.Prelude.{◌≡◌, ℕ, ◌<◌, ◌≤◌, ◌⊎◌, Bool, true, false, not, nat_eq, List, [], ◌∷◌, ◌++◌, length, map, take, drop, count_by}
 use Rattle.std.specs.List.{filter}
 use Rattle.fax_spool.specs.RecordOctets.{EndedValue, PageValue}
 use Rattle.fax_spool.specs.Waits.{PageName, ends, name_of, without}
@@ -11,6 +11,25 @@ pub record ShelfValue : Type 0 where
   pub line : List ℕ
   pub waits : List Waiting
   pub is_whole : Bool
+
+-- the names of the lines, in their order
+abbrev pub lines_of : List ShelfValue → List (List ℕ)
+lines_of shelves = map (λ shelf. shelf.line) shelves
+
+-- so many of these are on the disk
+abbrev pub kept_of : List Waiting → ℕ
+kept_of pages = count_by (λ page. page.is_kept) pages
+
+-- whether the first of these was confirmed in another life than this one
+abbrev pub is_of_earlier_life : ℕ → List Waiting → Bool
+is_of_earlier_life life [] = false
+is_of_earlier_life life (page ∷ pages) = not (nat_eq page.life life)
+
+-- One more page is on a shelf; or it could not be noted, and the shelf is not whole from then on.
+pub record IsShelved (page : Waiting) (old new : ShelfValue) : Type 0 where
+  pub line : new.line ≡ old.line
+  pub whole : new.is_whole ≡ true → (old.is_whole ≡ true) × (new.waits ≡ old.waits ++ page ∷ [])
+  pub waits : (new.waits ≡ old.waits ++ page ∷ []) ⊎ (new.waits ≡ old.waits)
 
 -- which page of all it is
 abbrev pub name_in : List ℕ → Waiting → PageName

@@ -1,7 +1,12 @@
 //! The pages of a server that are kept on a disk.
-ghost use Rattle.std.specs.Prelude.{◌≡◌, List, OnOk};
+ghost use Rattle.std.specs.Prelude.{◌≡◌, false, List, ◌++◌, MatchOption, OnErr, OnOk, slice_get};
 ghost use Rattle.fax_spool.specs.RecordOctets.{PageValue as SpoolPage};
+ghost use Rattle.fax_spool.specs.Spools.{epoch_now};
+ghost use Rattle.fax_spool.specs.Waits.{PageName};
+ghost use Rattle.fax_line.specs.declared.settling.PageToKeep.{PageToKeep as ToKeep};
 ghost use Rattle.fax_shelf.specs.Jobs.{EndsJob, EndsJobAt, PagesWait};
+ghost use Rattle.fax_shelf.specs.Keeping.{AddAll, AddsAt, Agree, AllAreAmong, ArePut, HaveOwnNames, KeepsPages};
+ghost use Rattle.fax_shelf.specs.Shelves.{is_of_earlier_life};
 
 use crate::putting::{CallTag, Names, put_pages};
 use crate::shelf::{Shelf, Waiting};
@@ -39,7 +44,11 @@ pub struct Keeping {
 
 impl Keeping {
     /// A life begins over this spool, in which these pages wait.
-    pub fn new(alloc: Global, spool: Spool<KeptFile>, shelves: Vec<Shelf>) -> Self {
+    pub fn new(alloc: Global, spool: Spool<KeptFile>, shelves: Vec<Shelf>) -> Self
+        ensures spool { result.spool ≡ spool }
+        ensures life { result.life ≡ epoch_now spool }
+        ensures shelves { result.shelves.items ≡ shelves.items }
+    {
         let life = spool.epoch();
         let mut kept: u64 = 0;
         for shelf in shelves.iter() {
@@ -57,17 +66,23 @@ impl Keeping {
     }
 
     /// What is known of the lines' pages.
-    pub fn shelves(&self) -> &[Shelf] {
+    pub fn shelves(&self) -> &[Shelf]
+        ensures { result.now ≡ self.now.shelves.items }
+    {
         self.shelves.as_slice()
     }
 
     /// How many pages wait on the disk.
-    pub fn kept(&self) -> u64 {
+    pub fn kept(&self) -> u64
+        ensures { result ≡ self.now.kept }
+    {
         self.kept
     }
 
     /// Whether the job of line i that is first in turn was confirmed in an earlier life.
-    pub fn is_restored(&self, i: usize) -> bool {
+    pub fn is_restored(&self, i: usize) -> bool
+        ensures { MatchOption (slice_get self.now.shelves.items i) (result ≡ false) (λ shelf. result ≡ is_of_earlier_life self.now.life shelf.waits) }
+    {
         match self.shelves.get(i) {
             Some(shelf) => shelf.is_restored(self.life),
             None => false,
@@ -83,26 +98,39 @@ impl Keeping {
     }
 
     /// The pages of another turn of a slot are kept next.
-    pub fn begin_slot(&mut self) {
+    pub fn begin_slot(&mut self)
+        ensures spool { self.new.spool ≡ self.old.spool }
+        ensures life { self.new.life ≡ self.old.life }
+        ensures shelves { self.new.shelves.items ≡ self.old.shelves.items }
+    {
         self.tags.clear();
     }
 
     /// One of them came in a call of line i that has this tag. Without memory for that the page is kept without one.
-    pub fn set_tag(&mut self, i: usize, tag: &str) {
+    pub fn set_tag(&mut self, i: usize, tag: &str)
+        ensures spool { self.new.spool ≡ self.old.spool }
+        ensures life { self.new.life ≡ self.old.life }
+        ensures shelves { self.new.shelves.items ≡ self.old.shelves.items }
+    {
         if let Ok(tag) = tag.as_bytes().to_vec(self.alloc) {
             let _ = self.tags.push(CallTag { line: i, tag });
         }
     }
 
     /// A page of line i that was confirmed in this call was not handed over, as for want of memory: it waits, and is not on the disk.
-    pub fn note(&mut self, i: usize, call: u32) {
+    pub fn note(&mut self, i: usize, call: u32)
+        ensures spool { self.new.spool ≡ self.old.spool }
+        ensures names { (names : List PageName) → AllAreAmong self.old.shelves.items names → AllAreAmong self.new.shelves.items names }
+    {
         let number = self.next_number(i, call);
         self.wait(i, call, number, false);
     }
 
     /// Which page of this call of line i the next one is, from 1 on.
     fn next_number(&mut self, i: usize, call: u32) -> u32
-        ensures { self.new.spool ≡ self.old.spool }
+        ensures spool { self.new.spool ≡ self.old.spool }
+        ensures life { self.new.life ≡ self.old.life }
+        ensures shelves { self.new.shelves.items ≡ self.old.shelves.items }
     {
         match self.shelves.get_mut(i) {
             Some(shelf) => shelf.number(call),
@@ -112,7 +140,9 @@ impl Keeping {
 
     /// A page of line i waits, which is on the disk or not.
     fn wait(&mut self, i: usize, call: u32, number: u32, is_kept: bool)
-        ensures { self.new.spool ≡ self.old.spool }
+        ensures spool { self.new.spool ≡ self.old.spool }
+        ensures life { self.new.life ≡ self.old.life }
+        ensures shelves { AddsAt (record { life = self.old.life; call = call; number = number; is_kept = is_kept }) i self.old.shelves.items self.new.shelves.items }
     {
         let life = self.life;
         if let Some(shelf) = self.shelves.get_mut(i) {
@@ -127,7 +157,9 @@ impl Keeping {
 
     /// Which pages of their calls these are, from 1 on: of the first of them, where memory is refused for more.
     fn numbers_of(&mut self, pages: &[PageToKeep]) -> Vec<u32>
-        ensures { self.new.spool ≡ self.old.spool }
+        ensures spool { self.new.spool ≡ self.old.spool }
+        ensures life { self.new.life ≡ self.old.life }
+        ensures shelves { self.new.shelves.items ≡ self.old.shelves.items }
     {
         let mut numbers = Vec::new(self.alloc);
         for page in pages {
@@ -142,7 +174,9 @@ impl Keeping {
 
     /// A page that was put waits; where it is not on the disk, it waits all the same.
     fn add(&mut self, page: &PageToKeep, number: u32, is_kept: bool)
-        ensures { self.new.spool ≡ self.old.spool }
+        ensures spool { self.new.spool ≡ self.old.spool }
+        ensures life { self.new.life ≡ self.old.life }
+        ensures shelves { AddsAt (record { life = self.old.life; call = page.now.kept.call; number = number; is_kept = is_kept }) page.now.line self.old.shelves.items self.new.shelves.items }
     {
         self.wait(page.line, page.kept.call, number, is_kept);
         if is_kept {
@@ -154,7 +188,8 @@ impl Keeping {
 
     /// The same of all that were put at once, with their numbers.
     fn add_all(&mut self, pages: &[PageToKeep], numbers: &[u32], is_kept: bool)
-        ensures { self.new.spool ≡ self.old.spool }
+        ensures spool { self.new.spool ≡ self.old.spool }
+        ensures shelves { AddAll self.old.life is_kept pages.now numbers.now self.old.shelves.items self.new.shelves.items }
     {
         for (k, page) in pages.iter().enumerate() {
             let number = match numbers.get(k) {
@@ -169,7 +204,8 @@ impl Keeping {
     /// the disk, or it could not be, so that they are restored at the next start, and sent again; or the disk failed behind it, and
     /// the spool refuses the pages from then on.
     pub fn end(&mut self, i: usize, report: Report) -> Result<(), KeepFault>
-        ensures { OnOk result (EndsJobAt ⟦<KeptFile as Disk>⟧.seen ⟦<KeptFile as Disk>⟧.may_leave ⟦<KeptFile as Disk>⟧.is_usable report.pages i self.old.shelves.items self.new.shelves.items self.old.spool self.new.spool) }
+        ensures agree { OnOk result (HaveOwnNames self.old.shelves.items → Agree ⟦<KeptFile as Disk>⟧.seen ⟦<KeptFile as Disk>⟧.may_leave ⟦<KeptFile as Disk>⟧.is_usable self.old.spool self.old.shelves.items → Agree ⟦<KeptFile as Disk>⟧.seen ⟦<KeptFile as Disk>⟧.may_leave ⟦<KeptFile as Disk>⟧.is_usable self.new.spool self.new.shelves.items) }
+        ensures ends { OnOk result (EndsJobAt ⟦<KeptFile as Disk>⟧.seen ⟦<KeptFile as Disk>⟧.may_leave ⟦<KeptFile as Disk>⟧.is_usable report.pages i self.old.shelves.items self.new.shelves.items self.old.spool self.new.spool) }
     {
         if i >= self.shelves.len() {
             return Err(KeepFault);
@@ -261,7 +297,13 @@ impl Keeper<PageToKeep> for Keeping {
 
     ghost keeps = { λ keeping pages. KeepsPages ⟦<KeptFile as Disk>⟧.seen ⟦<KeptFile as Disk>⟧.may_leave ⟦<KeptFile as Disk>⟧.is_usable keeping.spool pages };
 
-    fn keep_all(&mut self, pages: &[PageToKeep]) -> Result<(), KeepFault> {
+    fn keep_all(&mut self, pages: &[PageToKeep]) -> Result<(), KeepFault>
+        ensures kept { OnOk result ((before : List ToKeep) → KeepsPages ⟦<KeptFile as Disk>⟧.seen ⟦<KeptFile as Disk>⟧.may_leave ⟦<KeptFile as Disk>⟧.is_usable self.old.spool before
+            → KeepsPages ⟦<KeptFile as Disk>⟧.seen ⟦<KeptFile as Disk>⟧.may_leave ⟦<KeptFile as Disk>⟧.is_usable self.new.spool (before ++ pages.now)) }
+        ensures put { OnOk result (ArePut ⟦<KeptFile as Disk>⟧.seen ⟦<KeptFile as Disk>⟧.may_leave ⟦<KeptFile as Disk>⟧.is_usable pages.now self.old.shelves.items self.new.shelves.items self.old.spool self.new.spool) }
+        ensures agree { OnOk result (Agree ⟦<KeptFile as Disk>⟧.seen ⟦<KeptFile as Disk>⟧.may_leave ⟦<KeptFile as Disk>⟧.is_usable self.old.spool self.old.shelves.items → Agree ⟦<KeptFile as Disk>⟧.seen ⟦<KeptFile as Disk>⟧.may_leave ⟦<KeptFile as Disk>⟧.is_usable self.new.spool self.new.shelves.items) }
+        ensures names { OnErr result ((names : List PageName) → AllAreAmong self.old.shelves.items names → AllAreAmong self.new.shelves.items names) }
+    {
         let numbers = self.numbers_of(pages);
         let names = Names {
             life: self.life,

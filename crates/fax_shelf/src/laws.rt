@@ -1,8 +1,8 @@
 //! Laws of the definitions: functions that do nothing, each of whose contracts is a theorem.
-ghost use Rattle.fax_shelf.specs.Lives.{OwedIsRestored, OwedStays, PutFirst, WaitsAreOwed};
+ghost use Rattle.fax_shelf.specs.Lives.{EndsAreDeeds, KeptPagesAreRead, OthersAreBeside, OwedIsRestored, OwedStays, PutFirst, PutsAreDeeds, RestartsAreDeeds, WaitsAreOwed};
 ghost use Rattle.fax_shelf.specs.Shelves.{NoneIsForgotten};
 
-use fax_pagestore::laws::pages_are_unique;
+use fax_pagestore::laws::{pages_are_unique, written_pages_mean};
 
 /// The record of a job's end names no page but its own: each page that stays on the shelf waits on the disk as it did.
 pub fn ended_jobs_forget_no_other_page()
@@ -32,3 +32,18 @@ pub fn what_is_owed_stays()
 pub fn pages_are_put_first()
     ensures { PutFirst }
 {}
+
+/// What the calls of a server do with pages are deeds of its lines.
+pub fn calls_are_deeds()
+    ensures puts { PutsAreDeeds }
+    ensures ends { EndsAreDeeds }
+    ensures others { OthersAreBeside }
+    ensures restarts { RestartsAreDeeds }
+{}
+
+/// A page that a turn hands over is read back from its record.
+pub fn kept_pages_are_read()
+    ensures { KeptPagesAreRead }
+{
+    written_pages_mean();
+}

@@ -1,8 +1,7 @@
 //! The pages that the lines of a slot confirmed are put on the disk, all of them at once.
-ghost use Rattle.std.specs.Prelude.{List, ◌++◌, IfOk, OnOk, map};
-ghost use Rattle.fax_line.specs.declared.settling.PageToKeep.{PageToKeep as ToKeep};
-ghost use Rattle.fax_spool.specs.KeptRecords.{kept_of};
-ghost use Rattle.fax_shelf.specs.Keeping.{AreRecordsOf, IsRecordOf, KeepsPages};
+ghost use Rattle.std.specs.Prelude.{◌≡◌, Some, IfOk, IfSome, OnOk, slice_get};
+ghost use Rattle.fax_shelf.specs.Keeping.{AreRecordsUnder, IsRecordUnder, PutsRecords};
+ghost use Rattle.fax_shelf.specs.Shelves.{lines_of};
 
 use crate::shelf::Shelf;
 use fax_hold::KeepFault;
@@ -39,8 +38,7 @@ pub(crate) fn put_pages(
     pages: &[PageToKeep],
     names: &Names<'_>,
 ) -> Result<(), KeepFault>
-    ensures { OnOk result ((before : List ToKeep) → KeepsPages ⟦<KeptFile as Disk>⟧.seen ⟦<KeptFile as Disk>⟧.may_leave ⟦<KeptFile as Disk>⟧.is_usable spool.old before
-        → KeepsPages ⟦<KeptFile as Disk>⟧.seen ⟦<KeptFile as Disk>⟧.may_leave ⟦<KeptFile as Disk>⟧.is_usable spool.new (before ++ pages.now)) }
+    ensures { OnOk result (PutsRecords ⟦<KeptFile as Disk>⟧.seen ⟦<KeptFile as Disk>⟧.may_leave ⟦<KeptFile as Disk>⟧.is_usable names.now.life (lines_of names.now.shelves.now) pages.now names.now.numbers.now spool.old spool.new) }
 {
     let records = match records_of(alloc, pages, names) {
         Ok(records) => records,
@@ -58,7 +56,7 @@ fn records_of<'a>(
     pages: &'a [PageToKeep],
     names: &Names<'a>,
 ) -> Result<Vec<PageRecord<'a>>, KeepFault>
-    ensures { IfOk result (λ records. AreRecordsOf pages.now (map kept_of records.items)) }
+    ensures { IfOk result (λ records. AreRecordsUnder names.now.life (lines_of names.now.shelves.now) pages.now names.now.numbers.now records.items) }
 {
     let mut records = Vec::new(alloc);
     for (k, page) in pages.iter().enumerate() {
@@ -85,7 +83,8 @@ fn record_of<'a>(
     line: &'a [u8],
     tag: &'a [u8],
 ) -> PageRecord<'a>
-    ensures { IsRecordOf page.now (kept_of result) }
+    ensures under { IsRecordUnder life page.now number result }
+    ensures line { result.line ≡ line.now }
 {
     PageRecord {
         life,
@@ -100,7 +99,9 @@ fn record_of<'a>(
 }
 
 /// The name of line i.
-fn line_of(shelves: &[Shelf], i: usize) -> Option<&[u8]> {
+fn line_of(shelves: &[Shelf], i: usize) -> Option<&[u8]>
+    ensures { IfSome result (λ line. slice_get (lines_of shelves.now) i ≡ Some line.now) }
+{
     match shelves.get(i) {
         Some(shelf) => Some(shelf.line().as_bytes()),
         None => None,

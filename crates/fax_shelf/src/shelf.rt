@@ -1,6 +1,6 @@
 //! The pages of a line that wait, as a spool knows them.
-ghost use Rattle.std.specs.Prelude.{◌≡◌, ◌↔◌, [], ◌∷◌, ◌++◌, take, drop, count_by, true, IsTrue, IfOk, IfSome, OnOk};
-ghost use Rattle.fax_shelf.specs.Shelves.{AreInOrder, IsBehind, NamesFirst};
+ghost use Rattle.std.specs.Prelude.{◌≡◌, ◌↔◌, [], ◌∷◌, ◌++◌, take, drop, count_by, true, false, not, nat_eq, IsTrue, IfOk, IfSome, OnOk, OnErr};
+ghost use Rattle.fax_shelf.specs.Shelves.{AreInOrder, IsBehind, IsShelved, NamesFirst, is_of_earlier_life, kept_of};
 
 use fax_bits::NoMemory;
 use std::alloc::{AllocError, Global};
@@ -101,12 +101,16 @@ impl Shelf {
     }
 
     /// How many pages that are on the disk wait.
-    pub fn kept(&self) -> u64 {
+    pub fn kept(&self) -> u64
+        ensures { result ≡ kept_of self.now.waits }
+    {
         self.waits.iter().filter(|page| page.is_kept).count() as u64
     }
 
     /// Whether the job that is first in turn was confirmed in a life before this one.
-    pub fn is_restored(&self, life: u32) -> bool {
+    pub fn is_restored(&self, life: u32) -> bool
+        ensures { result ≡ is_of_earlier_life life self.now.waits }
+    {
         match self.waits.first() {
             Some(page) => page.life != life,
             None => false,
@@ -161,7 +165,7 @@ impl Shelf {
     /// One more page waits, behind the others. Without memory it is not noted, and from then on no job of the line is told to
     /// have ended: its pages are restored at the next start, and sent again.
     pub fn add(&mut self, page: Waiting)
-        ensures line { self.new.line ≡ self.old.line }
+        ensures { IsShelved page self.old self.new }
     {
         if self.push(page).is_err() {
             self.is_whole = false;
@@ -172,6 +176,8 @@ impl Shelf {
     pub fn push(&mut self, page: Waiting) -> Result<(), AllocError>
         ensures line { self.new.line ≡ self.old.line }
         ensures waits { OnOk result (self.new.waits ≡ self.old.waits ++ page ∷ []) }
+        ensures whole { self.new.is_whole ≡ true → self.old.is_whole ≡ true }
+        ensures none { OnErr result (self.new ≡ self.old) }
     {
         let is_behind = comes_behind(&page, self.waits.as_slice());
         self.waits.push(page)?;
@@ -185,8 +191,10 @@ impl Shelf {
     /// that is so of each job of the line.
     pub fn end(&mut self, pages: u32) -> Option<Ended>
         ensures line { self.new.line ≡ self.old.line }
+        ensures sure { IfSome result (λ _. self.old.is_whole ≡ true) }
         ensures names { IfSome result (λ ended. NamesFirst pages ended self.old.waits) }
         ensures left { IfSome result (λ _. self.new.waits ≡ drop pages self.old.waits) }
+        ensures unsure { result ≡ None → (self.new.waits ≡ self.old.waits) × (self.new.is_whole ≡ false) }
     {
         if !self.is_whole {
             return None;

@@ -1,4 +1,4 @@
-use Rattle.std.proofs.Common.{◌≡◌, ◌∙◌, ◌∷◌, ◌++◌, [], Bool, true, false, List, sym, ap, subst, map}
+use Rattle.std.proofs.Common.{◌≡◌, ◌∙◌, ◌∷◌, ◌++◌, [], Bool, List, sym, ap, subst, map}
 use Rattle.fax_spool.specs.RecordOctets as spool
 use Rattle.fax_gateway.specs.Restored.{call_shown}
 use Rattle.fax_shelf.specs.declared.restored.Restored.{Restored}

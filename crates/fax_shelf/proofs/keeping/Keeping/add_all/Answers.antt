@@ -1,0 +1,34 @@
+use Rattle.std.proofs.Common.{◌≡◌, ◌∙◌, ℕ, List, Some, None, MatchOption, arith, refl, slice_get, sym, subst}
+use Rattle.std.proofs.lemmas.Grind.{common_steps}
+use Rattle.std.proofs.lemmas.Option.{gets}
+use Rattle.std.specs.Bool.{⊤}
+use Rattle.fax_shelf.specs.Keeping.{AddsAt, noted_as}
+use Rattle.fax_shelf.specs.Shelves.{ShelfValue}
+use Rattle.fax_shelf.proofs.Shelving.{next_added}
+use Rattle.fax_shelf.proofs.keeping.Keeping.add_all.Goals as goal
+use Rattle.fax_shelf.proofs.keeping.Keeping.add_all.Goals.{in-Some, in-None}
+
+pub loop-k-preserved : goal.loop-k-preserved
+loop-k-preserved c =
+    let numbers = c.args.numbers.now in
+    let is = c.loop-k.invariant in
+    let page = c.index-pages-k.result in
+    let between = c.match-get.self in
+    let same : (between.spool ≡ c.loop-k.self.spool) × (between.life ≡ c.loop-k.self.life) × (between.shelves.items ≡ c.loop-k.self.shelves.items) =
+    elim c.match-get.branch [ in-Some w ↦ grind (arith, w.self-is) | in-None w ↦ grind (arith, w.self-is, w.next_number-number.ensures) ] in
+    let told : MatchOption (slice_get numbers c.loop-k.k) ⊤ (λ said. c.match-get.number ≡ said) =
+    elim c.match-get.branch [
+      | in-Some w ↦ let at : slice_get numbers c.loop-k.k ≡ Some c.match-get.number = grind (arith, common_steps, gets, w.in-Some.ensures.lookup, w.number-is) in
+          subst (λ o. MatchOption o ⊤ (λ said. c.match-get.number ≡ said)) (sym at) refl
+      | in-None w ↦ let at : slice_get numbers c.loop-k.k ≡ None = grind (arith, common_steps, gets, w.in-None.ensures.lookup) in
+          subst (λ o. MatchOption o ⊤ (λ said. c.match-get.number ≡ said)) (sym at) tt
+    ] in
+    let life : between.life ≡ c.args.self.now.life = same.1 ∙ is.1 in
+    let adds : AddsAt (noted_as c.args.self.now.life c.match-get.number c.args.is_kept page) page.line c.loop-k.self.shelves.items c.add.new.self.shelves.items =
+    subst (λ (m : ℕ). AddsAt (noted_as m c.match-get.number c.args.is_kept page) page.line c.loop-k.self.shelves.items c.add.new.self.shelves.items) life
+    (subst (λ (l : List ShelfValue). AddsAt (noted_as between.life c.match-get.number c.args.is_kept page) page.line l c.add.new.self.shelves.items) same.2 c.add.ensures.shelves) in (
+      c.add.ensures.spool ∙ same.0 ∙ is.0,
+      c.add.ensures.life ∙ life,
+      next_added c.args.self.now.life c.args.is_kept c.args.pages.now numbers c.loop-k.k page c.match-get.number c.args.self.now.shelves.items c.loop-k.self.shelves.items c.add.new.self.shelves.items
+          c.loop-k-test.true c.index-pages-k.is told is.2 adds,
+    )

@@ -1,0 +1,21 @@
+use Rattle.std.proofs.Common.{refl, arith}
+use Rattle.fax_shelf.proofs.Shelving.{end_agrees, get_at, set_at}
+use Rattle.fax_shelf.proofs.Waits.{job_stays}
+use Rattle.fax_shelf.proofs.keeping.Keeping.end.Goals as goal
+
+pub returns-clause-ends : goal.returns-clause-ends
+returns-clause-ends c =
+    let olds = c.args.self.now.shelves.items in
+    let old = c.index_mut.result.now in
+    let new = c.put_end.new.shelf in
+    record {
+      old = old;
+      new = new;
+      was = get_at olds c.args.i old (omega (arith, c.if-i-len.false, c.len.ensures)) c.index_mut.ensures.value;
+      is = set_at olds c.args.i new (omega (arith, c.if-i-len.false, c.len.ensures));
+      are = refl;
+      ends = job_stays c.args.report.pages old new c.args.self.now.spool c.put_end.new.spool c.change_files.new.spool c.in_ok-kept.ensures c.in_ok-self.ensures;
+    }
+
+pub returns-clause-agree : goal.returns-clause-agree
+returns-clause-agree c = end_agrees _ _ _ _ _ _ _ _ _ (returns-clause-ends c)

@@ -1,0 +1,13 @@
+use Rattle.std.proofs.Common.{false, List, refl, sym, subst}
+use Rattle.fax_shelf.specs.declared.shelf.Waiting.{Waiting}
+use Rattle.fax_shelf.specs.Keeping.{AllAreAmong}
+use Rattle.fax_shelf.specs.Shelves.{ShelfValue}
+use Rattle.fax_shelf.proofs.Shelving.{adds_none}
+use Rattle.fax_shelf.proofs.keeping.Keeping.note.Goals as goal
+
+pub returns-clause-names : goal.returns-clause-names
+returns-clause-names c = λ names are.
+    let page : Waiting = record { life = c.next_number-number.new.self.life; call = c.args.call; number = c.next_number-number.result; is_kept = false } in
+    let between = c.next_number-number.new.self in
+    adds_none page c.args.i between.shelves.items c.wait.new.self.shelves.items refl c.wait.ensures.shelves names
+    (subst (λ (l : List ShelfValue). AllAreAmong l names) (sym c.next_number-number.ensures.shelves) are)
