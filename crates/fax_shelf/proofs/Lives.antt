@@ -1,5 +1,5 @@
 -- What is owed waits on the disk, and is restored.
-use Rattle.std.proofs.Common.{◌≡◌, ◌≢◌, ◌∙◌, ℕ, zero, suc, ◌+◌, inl, inr, Bool, true, false, not, ◌||◌, ◌&&◌, rules, cond, if◌then◌else◌, List, [], ◌∷◌, ◌++◌, map, take, drop, count_by, Some, nat_eq, bytes_eq, refl, sym, ap, subst, arith, append_assoc}
+use Rattle.std.proofs.Common.{◌≡◌, ◌≢◌, ◌∙◌, ℕ, zero, suc, ◌+◌, ◌⊎◌, inl, inr, Bool, true, false, not, ◌||◌, ◌&&◌, rules, cond, if◌then◌else◌, List, [], ◌∷◌, ◌++◌, map, take, drop, count_by, Some, nat_eq, bytes_eq, refl, sym, ap, subst, arith, append_assoc}
 use Rattle.std.specs.List.{filter, list_any}
 use Rattle.std.proofs.lemmas.List.Sums.{sum_by-cons}
 use Rattle.std.proofs.lemmas.List.{append-nil, drop-map, map-append}
@@ -20,11 +20,11 @@ use Rattle.fax_gateway.specs.declared.given.Kept.{Kept}
 use Rattle.fax_spool.specs.declared.kept_record.KeptRecord.TheVariants.{Page}
 use Rattle.fax_spool.specs.RecordOctets as spool
 use Rattle.fax_spool.specs.Opened.{closed, closing, same_call}
-use Rattle.fax_spool.specs.Waits.{ends, name_of, without}
+use Rattle.fax_spool.specs.Waits.{PageName, ends, name_of, without}
 use Rattle.fax_shelf.specs.declared.shelf.Waiting.{Waiting}
 use Rattle.fax_shelf.specs.Restorations.{AreRead, Means, ReadPage, calls_of, own_pages, waiting_of}
-use Rattle.fax_shelf.specs.Shelves.{left_by, name_in}
-use Rattle.fax_shelf.specs.Lives.{Deed, EndsAreDeeds, Entry, Goes, KeptPagesAreRead, OthersAreBeside, OwedIsRestored, OwedStays, PutFirst, Puts, PutsAreDeeds, RestartsAreDeeds, State, WaitsAreOwed, WasDone, are_there, closed_read, owed, placed, on_leg, queue}
+use Rattle.fax_shelf.specs.Shelves.{AreAmong, IsAmong, left_by, name_in}
+use Rattle.fax_shelf.specs.Lives.{Deed, EndsAreDeeds, Entry, Goes, KeptPagesAreRead, OthersAreBeside, OwedIsRestored, OwedStays, PutFirst, Puts, PutsAreDeeds, RestartsAreDeeds, RestoredShelvesAgree, State, WaitsAreOwed, WasDone, are_there, closed_read, owed, placed, on_leg, queue}
 use Rattle.fax_shelf.specs.Lives.{Turns, Begins, Keeps, Refuses, Ends, Leaves, Lets, Beside, Stops}
 use Rattle.fax_shelf.proofs.Calls.{own_more}
 use Rattle.fax_shelf.proofs.Cut.{none_before, none_behind}
@@ -461,3 +461,60 @@ kept_pages_are_read mean kept page to_keep value is_page format is recorded =
     let same : page.format ≡ value.format = sym format ∙ ap (λ (k : Kept). k.format) (sym is.told) ∙ sym recorded.format ∙ ap (λ (v : spool.PageValue). v.format) its_value in
     let text : to_keep.text ≡ value.text = sym recorded.text ∙ ap (λ (v : spool.PageValue). v.text) its_value in
     (same, subst (λ (f : Format). MeansRows (elements_of f.width) Mr value.text page.rows) same (subst (λ (t : List ℕ). MeansRows (elements_of page.format.width) Mr t page.rows) text meant))
+
+-- ---- as a life begins
+
+own_among_if : (name : PageName) (page : spool.PageValue) (own pages : List spool.PageValue) (b : Bool) → (IsAmong name (map name_of own) → IsAmong name (map name_of pages))
+    → IsAmong name (map name_of (cond b (page ∷ own) own)) → (name_of page ≡ name) ⊎ IsAmong name (map name_of pages)
+own_among_if name page own pages true rest (inl same) = inl same
+own_among_if name page own pages true rest (inr among) = inr (rest among)
+own_among_if name page own pages false rest among = inr (rest among)
+
+own_among : (line : List ℕ) (name : PageName) (pages : List spool.PageValue) → IsAmong name (map name_of (own_pages line pages)) → IsAmong name (map name_of pages)
+own_among line name [] among = among
+own_among line name (page ∷ pages) among = own_among_if name page (own_pages line pages) pages (bytes_eq page.line line) (own_among line name pages) among
+
+all_among : (line : List ℕ) (waits : List Waiting) (pages : List spool.PageValue) → AreAmong line waits (map name_of (own_pages line pages)) → AreAmong line waits (map name_of pages)
+all_among line [] pages are = tt
+all_among line (w ∷ waits) pages are = (λ kept. own_among line (name_in line w) pages (are.0 kept), all_among line waits pages are.1)
+
+abbrev AreNamed : List ℕ → List spool.PageValue → Type 0
+AreNamed line [] = Unit {0}
+AreNamed line (page ∷ pages) = (page.line ≡ line) × AreNamed line pages
+
+own_named_if : (line : List ℕ) (page : spool.PageValue) (own : List spool.PageValue) (b : Bool) → bytes_eq page.line line ≡ b → AreNamed line own → AreNamed line (cond b (page ∷ own) own)
+own_named_if line page own true is named = ((bytes_eq-Decides page.line line).0 is, named)
+own_named_if line page own false is named = named
+
+own_named : (line : List ℕ) (pages : List spool.PageValue) → AreNamed line (own_pages line pages)
+own_named line [] = tt
+own_named line (page ∷ pages) = own_named_if line page (own_pages line pages) (bytes_eq page.line line) refl (own_named line pages)
+
+among_behind : (line : List ℕ) (waits : List Waiting) (name : PageName) (names : List PageName) → AreAmong line waits names → AreAmong line waits (name ∷ names)
+among_behind line [] name names are = tt
+among_behind line (w ∷ waits) name names are = (λ kept. inr (are.0 kept), among_behind line waits name names are.1)
+
+same_name : (line : List ℕ) (r : ReadPage) (w : spool.PageValue) → r.waits ≡ w → w.line ≡ line → name_of w ≡ name_in line (waiting_of r)
+same_name line r w is named =
+    ap (λ (l : List ℕ). record { life = w.life; call = w.call; number = w.number; line = l }) named
+    ∙ ap (λ (v : spool.PageValue). record { life = v.life; call = v.call; number = v.number; line = line }) (sym is)
+
+read_among : (line : List ℕ) (waits : List spool.PageValue) (read : List ReadPage) → AreNamed line waits → AreRead waits read → AreAmong line (map waiting_of read) (map name_of waits)
+read_among line [] [] named are = tt
+read_among line [] (r ∷ read) named are = absurd (cc)
+read_among line (w ∷ waits) [] named are = tt
+read_among line (w ∷ waits) (r ∷ read) named (inl is) =
+    (λ kept. inl (same_name line r w is.0 named.0), among_behind line (map waiting_of read) (name_of w) (map name_of waits) (read_among line waits read named.1 is.2))
+read_among line (w ∷ waits) (r ∷ read) named (inr none) = among_behind line (map waiting_of (r ∷ read)) (name_of w) (map name_of waits) (read_among line waits (r ∷ read) named.1 none.1)
+
+names_closed : (pages : List spool.PageValue) → map name_of (closed pages) ≡ map name_of pages
+names_closed [] = refl
+names_closed (page ∷ pages) = ap (λ (l : List PageName). name_of page ∷ l) (names_closed pages)
+
+pub restored_shelves_agree : RestoredShelvesAgree
+restored_shelves_agree line pages restored is =
+    let names : List PageName = map name_of pages in
+    subst (λ (l : List ℕ). AreAmong l restored.shelf.waits names) (sym is.are.named)
+    (subst (λ (w : List Waiting). AreAmong line w names) (sym is.are.waits)
+    (subst (λ (n : List PageName). AreAmong line (map waiting_of is.read) n) (names_closed pages)
+    (all_among line (map waiting_of is.read) (closed pages) (read_among line (own_pages line (closed pages)) is.read (own_named line (closed pages)) is.own))))

@@ -12,13 +12,13 @@ use Rattle.fax_line.specs.Settling.{IsKeptAs}
 use Rattle.fax_line.specs.declared.settling.PageToKeep.{PageToKeep}
 use Rattle.fax_spool.specs.RecordOctets as spool
 use Rattle.fax_spool.specs.Opened.{closed, closing, same_call}
-use Rattle.fax_spool.specs.Waits.{without}
+use Rattle.fax_spool.specs.Waits.{name_of, without}
 use Rattle.fax_spool.specs.declared.kept_record.KeptRecord.TheVariants.{Page}
 use Rattle.fax_shelf.specs.declared.shelf.Waiting.{Waiting}
 use Rattle.fax_shelf.specs.declared.restored.Restored.{Restored}
 use Rattle.fax_shelf.specs.Restorations.{AreRead, Means, ReadPage, Restores, calls_of, own_pages, waiting_of}
 use Rattle.fax_shelf.specs.Keeping.{IsRecordOf, placed_as}
-use Rattle.fax_shelf.specs.Shelves.{IsShelved, ShelfValue, left_by}
+use Rattle.fax_shelf.specs.Shelves.{AreAmong, IsShelved, ShelfValue, left_by}
 
 -- WHAT BEFALLS A LINE and its pages. A turn gives a datagram on the calling leg or none.
 pub data Deed : Type 0 where
@@ -227,3 +227,10 @@ abbrev pub KeptPagesAreRead : Type 0
 KeptPagesAreRead =
     (kept : Kept) (page : PageValue) (to_keep : PageToKeep) (value : spool.PageValue) → IsPage page → kept.format ≡ page.format → IsKeptAs kept (Some page) to_keep
     → IsRecordOf to_keep (Page value) → Means value page
+
+-- A line that is restored has no page on its shelf but those that wait on the disk: so the shelves and the disk agree as a life
+-- begins.
+abbrev pub RestoredShelvesAgree : Type 0
+RestoredShelvesAgree =
+    (line : List ℕ) (pages : List spool.PageValue) (restored : Restored) → Restores line (closed pages) restored
+    → AreAmong restored.shelf.line restored.shelf.waits (map name_of pages)

@@ -1,5 +1,5 @@
 //! Laws of the definitions: functions that do nothing, each of whose contracts is a theorem.
-ghost use Rattle.fax_shelf.specs.Lives.{EndsAreDeeds, KeptPagesAreRead, OthersAreBeside, OwedIsRestored, OwedStays, PutFirst, PutsAreDeeds, RestartsAreDeeds, WaitsAreOwed};
+ghost use Rattle.fax_shelf.specs.Lives.{EndsAreDeeds, KeptPagesAreRead, OthersAreBeside, OwedIsRestored, OwedStays, PutFirst, PutsAreDeeds, RestartsAreDeeds, RestoredShelvesAgree, WaitsAreOwed};
 ghost use Rattle.fax_shelf.specs.Shelves.{NoneIsForgotten};
 
 use fax_pagestore::laws::{pages_are_unique, written_pages_mean};
@@ -47,3 +47,8 @@ pub fn kept_pages_are_read()
 {
     written_pages_mean();
 }
+
+/// As a life begins, each page on the shelf of a line waits on the disk.
+pub fn restored_shelves_agree()
+    ensures { RestoredShelvesAgree }
+{}
