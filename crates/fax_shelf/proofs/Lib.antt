@@ -4,4 +4,5 @@ mod Lives
 mod Naming
 mod Records
 mod Shelving
+mod Slots
 mod Waits

@@ -1,7 +1,7 @@
 -- LIVES OF A LINE'S PAGES: what is on the disk behind any history of pages put and not put, jobs ended, and crashes; and what the
 -- line is restored with then. Lists have the oldest first, but those of deeds and turns, which have the newest first. (This
 -- project's profile.)
-use Rattle.std.specs.Prelude.{◌≡◌, ◌≢◌, ℕ, Bool, true, false, not, ◌||◌, List, [], ◌∷◌, ◌++◌, map, take, drop, count_by, Option, Some, if◌then◌else◌}
+use Rattle.std.specs.Prelude.{◌≡◌, ◌≢◌, ℕ, ◌<◌, Bool, true, false, not, ◌||◌, List, [], ◌∷◌, ◌++◌, map, take, drop, count_by, slice_get, All, AllPairs, Option, Some, if◌then◌else◌}
 use Rattle.std.specs.List.{filter, list_any}
 use Rattle.fax_hold.specs.Keeping as hold
 use Rattle.fax_hold.specs.Keeping.{went_out}
@@ -17,7 +17,7 @@ use Rattle.fax_spool.specs.declared.kept_record.KeptRecord.TheVariants.{Page}
 use Rattle.fax_shelf.specs.declared.shelf.Waiting.{Waiting}
 use Rattle.fax_shelf.specs.declared.restored.Restored.{Restored}
 use Rattle.fax_shelf.specs.Restorations.{AreRead, Means, ReadPage, Restores, calls_of, own_pages, waiting_of}
-use Rattle.fax_shelf.specs.Keeping.{IsRecordOf, placed_as}
+use Rattle.fax_shelf.specs.Keeping.{AllArePut, IsRecordOf, placed_as}
 use Rattle.fax_shelf.specs.Shelves.{AreAmong, IsShelved, ShelfValue, left_by}
 
 -- WHAT BEFALLS A LINE and its pages. A turn gives a datagram on the calling leg or none.
@@ -197,12 +197,34 @@ state_of shelf notes pages = record { waits = shelf.waits; notes = notes; pages 
 abbrev pub NotesStill : Bool → Bool → ShelfValue → Type 0
 NotesStill before after shelf = after ≡ true → (before ≡ true) × (shelf.is_whole ≡ true)
 
--- a page is put, and is on the shelf: what `Keeping::keep` answers by an `Ok`
+-- a page is put, and is on the shelf: what `Keeping::keep_all` answers by an `Ok`, of each page (`SlotsArePuts`)
 abbrev pub PutsAreDeeds : Type 0
 PutsAreDeeds =
     (given : Option (List ℕ)) (page : ReadPage) (old new : ShelfValue) (before after : Bool) (pages : List spool.PageValue) → page.waits.line ≡ old.line → Means page.waits page.page
     → IsShelved (placed_as page.waits true) old new → NotesStill before after new
     → Goes old.line (Keeps given page) (state_of old before pages) (state_of new after (pages ++ page.waits ∷ []))
+
+-- each is on its line's shelf, by what that was before all of them and is behind them
+pub record IsShelvedOf (page : PageToKeep) (value : spool.PageValue) (olds news : List ShelfValue) : Type 0 where
+  pub old : ShelfValue
+  pub new : ShelfValue
+  pub was : slice_get olds page.line ≡ Some old
+  pub is : slice_get news page.line ≡ Some new
+  pub is_record : IsRecordOf page (Page value)
+  pub line_is : value.line ≡ old.line
+  pub shelved : IsShelved (placed_as value true) old new
+
+abbrev pub EachIsShelved : List PageToKeep → List spool.PageValue → List ShelfValue → List ShelfValue → Type 0
+EachIsShelved [] [] olds news = Unit {0}
+EachIsShelved (page ∷ pages) (value ∷ values) olds news = IsShelvedOf page value olds news × EachIsShelved pages values olds news
+EachIsShelved pages values olds news = ⊥
+
+-- Pages of lines one each, as a slot's turn hands them over (`ArePagesOf`): each is put as if it were alone, and no other shelf changes.
+abbrev pub SlotsArePuts : Type 0
+SlotsArePuts =
+    (pages : List PageToKeep) (values : List spool.PageValue) (olds news : List ShelfValue) → AllArePut pages values olds news
+    → (AllPairs (λ page behind. page.line < behind.line) pages → EachIsShelved pages values olds news)
+    × ((place : ℕ) → All (λ page. page.line ≢ place) pages → slice_get news place ≡ slice_get olds place)
 
 -- the end of a job is noted: what `Keeping::end` answers by an `Ok`
 abbrev pub EndsAreDeeds : Type 0

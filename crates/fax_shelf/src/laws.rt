@@ -1,5 +1,5 @@
 //! Laws of the definitions: functions that do nothing, each of whose contracts is a theorem.
-ghost use Rattle.fax_shelf.specs.Lives.{EndsAreDeeds, KeptPagesAreRead, OthersAreBeside, OwedIsRestored, OwedStays, PutFirst, PutsAreDeeds, RestartsAreDeeds, RestoredShelvesAgree, WaitsAreOwed};
+ghost use Rattle.fax_shelf.specs.Lives.{EndsAreDeeds, KeptPagesAreRead, OthersAreBeside, OwedIsRestored, OwedStays, PutFirst, PutsAreDeeds, RestartsAreDeeds, RestoredShelvesAgree, SlotsArePuts, WaitsAreOwed};
 ghost use Rattle.fax_shelf.specs.Shelves.{NoneIsForgotten};
 
 use fax_pagestore::laws::{pages_are_unique, written_pages_mean};
@@ -36,6 +36,7 @@ pub fn pages_are_put_first()
 /// What the calls of a server do with pages are deeds of its lines.
 pub fn calls_are_deeds()
     ensures puts { PutsAreDeeds }
+    ensures slots { SlotsArePuts }
     ensures ends { EndsAreDeeds }
     ensures others { OthersAreBeside }
     ensures restarts { RestartsAreDeeds }
