@@ -501,14 +501,15 @@ fn a_page_that_was_confirmed_is_a_picture(rt: HostRuntime) -> Result<(), Fail> {
     let zeros = [b'0'; 600];
     let zeros = std::str::from_utf8(zeros.as_slice()).unwrap_or("");
     let script = format!(in rt.alloc(); "{SCRIPT_FRONT}{zeros}{SCRIPT_BACK}")?;
-    let script = script.as_str().as_bytes();
     let words = ["faxgate", "explain", "--pages", "seen"];
-    let ran = run(&rt, Desk::new(rt.alloc(), &words, script));
+    let desk = Desk::new(rt.alloc(), &words, script.as_str().as_bytes());
+    let ran = run(&rt, desk);
     let picture = fs::read(&rt, "seen-0-1.pbm")?;
     fs::remove_file(&rt, "seen-0-1.pbm")?;
     assert!(rt; ran.status == 0 && is_white_row(picture.as_slice()));
     let words = ["faxgate", "explain", "--pages", "no-folder/seen"];
-    let ran = run(&rt, Desk::new(rt.alloc(), &words, script));
+    let desk = Desk::new(rt.alloc(), &words, script.as_str().as_bytes());
+    let ran = run(&rt, desk);
     assert!(rt; ran.is_told_as(4, "faxgate: no-folder/seen-0-1.pbm: "));
     Ok(())
 }
