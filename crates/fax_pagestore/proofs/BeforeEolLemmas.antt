@@ -15,7 +15,7 @@ use Rattle.fax_pagestore.proofs.EndsLemmas.{ends_at}
 -- ---- parts of bits
 
 -- what stands behind a front that is not longer than another
-behind_front : (before left front rest : List Bool) → before ++ left ≡ front ++ rest → length before ≤ length front → left ≡ drop (length before) front ++ rest
+pub behind_front : (before left front rest : List Bool) → before ++ left ≡ front ++ rest → length before ≤ length front → left ≡ drop (length before) front ++ rest
 behind_front before left front rest e le =
     sym (drop_at before left (length before) refl) ∙ ap (drop (length before)) e ∙ drop-append-le (length before) front rest le
 
@@ -27,7 +27,7 @@ within bits more front rest e le =
     sym (take-append-drop (length front) bits) ∙ ap (λ b. b ++ drop (length front) bits) begins
 
 -- bits behind a place are those up to another, and those behind that
-between : (bits : List Bool) (used place : ℕ) → used ≤ place → drop used bits ≡ take (place - used) (drop used bits) ++ drop place bits
+pub between : (bits : List Bool) (used place : ℕ) → used ≤ place → drop used bits ≡ take (place - used) (drop used bits) ++ drop place bits
 between bits used place le =
     let whole : used + (place - used) ≡ place = omega arith in
     sym (take-append-drop (place - used) (drop used bits)) ∙ ap (λ b. take (place - used) (drop used bits) ++ b) (drop-drop (place - used) used bits ∙ ap (λ n. drop n bits) whole)

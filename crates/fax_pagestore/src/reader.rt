@@ -19,7 +19,7 @@ use crate::{Coding, Format, Page, PageFault, RowStore};
 use fax_bits::NoMemory;
 use judging::judge;
 pub use mark::Mark;
-use rows::{Lines, read_up_to};
+use rows::{Lines, read_up_to, unread_from};
 use settled::Settled;
 use std::alloc::Global;
 use std::marker::Model;
@@ -112,7 +112,7 @@ impl<S: RowStore> PageReader<S> {
             &mut lines,
             &mut self.rows,
             self.octets.as_slice(),
-            self.used,
+            unread_from(self.octets.as_slice(), self.used, self.tag),
             self.format.width,
             self.coding,
             self.tag,

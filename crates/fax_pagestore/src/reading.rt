@@ -24,7 +24,7 @@ use std::mem;
 pub const MOST_ROWS: u32 = 65_535;
 
 /// The fewest zeros before the 1 of an EOL (ITU-T T.4, 4.1.2).
-const EOL_ZEROS: u32 = 11;
+pub(crate) const EOL_ZEROS: u32 = 11;
 
 /// The bits of a reader's window.
 pub(crate) const WINDOW_BITS: u32 = 56;

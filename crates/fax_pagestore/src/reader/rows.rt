@@ -11,6 +11,7 @@ ghost use Rattle.fax_pagestore.specs.Ends.{HoldsEol, HoldsNoTaggedEol};
 ghost use Rattle.fax_pagestore.specs.Readers.{ReadsOne, IsReadUpTo, NoMoreIsWhole, AreJudged, fault_of};
 
 use super::settled::{Settled, settle};
+use crate::ends::bits_before_eol;
 use crate::reading::{MOST_ROWS, line_ahead, pass_front, read_row};
 use crate::white::pass_white_row;
 use crate::{Coding, PageFault, RowStore};
@@ -109,6 +110,19 @@ pub(super) fn read_up_to<S: RowStore>(
         tag: Some(halt.tag),
         settled: None,
     })
+}
+
+/// From which bit on octets are read of which so many are used: before the first EOL those are passed before which none begins.
+pub(super) fn unread_from(octets: &[u8], used: u32, tag: Option<bool>) -> u32
+    requires { used ≤ 8 * length octets.now }
+    ensures within { result ≤ 8 * length octets.now }
+    ensures read { (coding : Coding) (width : ℕ) (all : List ℕ) (rows : List Elements) → IsReadUpTo coding width all rows tag (drop used (bits_of octets.now))
+        → IsReadUpTo coding width all rows tag (drop result (bits_of octets.now)) }
+{
+    match tag {
+        Some(_) => used,
+        None => used.max(bits_before_eol(octets)),
+    }
 }
 
 /// The tag of the last separator: that of the front, which is passed where none was.
