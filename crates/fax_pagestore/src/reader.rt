@@ -15,6 +15,7 @@ mod settled;
 mod tests;
 
 use crate::ends::behind_eols;
+use crate::front::drop_front;
 use crate::{Coding, Format, Page, PageFault, RowStore};
 use fax_bits::NoMemory;
 use judging::judge;
@@ -228,22 +229,4 @@ fn append(octets: &mut Vec<u8>, piece: &[u8]) -> Result<(), NoMemory>
 {
     octets.extend_from_slice(piece)?;
     Ok(())
-}
-
-/// Takes away the first n octets. It takes no memory.
-fn drop_front(octets: &mut Vec<u8>, n: usize)
-    requires { n ≤ length octets.old.items }
-    ensures { octets.new.items ≡ drop n octets.old.items }
-{
-    if n == 0 {
-        return;
-    }
-    let left = octets.len() - n;
-    if left <= n {
-        let (front, back) = octets.split_at_mut(n);
-        front[..left].copy_from_slice(back);
-    } else {
-        octets.rotate_left(n);
-    }
-    octets.truncate(left);
 }
