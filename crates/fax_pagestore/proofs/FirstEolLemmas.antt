@@ -94,9 +94,9 @@ bits_with octets place inside =
     ap bits_of (take_more octets place 0 inside) ∙ bits_of-append (take place octets) (octet ∷ [])
     ∙ ap (λ b. bits_of (take place octets) ++ b) (bits_of-cons octet [] ∙ ap (λ b. word_bits 8 octet ++ b) bits_of-nil ∙ append-nil (word_bits 8 octet))
 
-NoneSoFar-more : (octets : List ℕ) (place zeros next : ℕ) → place < length octets → NoneSoFar octets place zeros → next ≤ 11
-    → ((bits : List Bool) → FewZeros next bits → FewZeros zeros (word_bits 8 (get_or octets place 0) ++ bits)) → NoneSoFar octets (place + 1) next
-NoneSoFar-more octets place zeros next inside so few step = record {
+NoneSoFar-more : (octets : List ℕ) (place count next : ℕ) → place < length octets → NoneSoFar octets place count → next ≤ 11
+    → ((bits : List Bool) → FewZeros next bits → FewZeros count (word_bits 8 (get_or octets place 0) ++ bits)) → NoneSoFar octets (place + 1) next
+NoneSoFar-more octets place count next inside so few step = record {
   few = few;
   free = λ bits h.
       let octet : ℕ = get_or octets place 0 in
@@ -125,8 +125,8 @@ NoneSoFar-octet octets place zeros inside fits some few le so =
     FewZeros-append zeros (word_bits 8 octet) bits (octet_few zeros octet fits some few)
     (subst (λ n. FewZeros n bits) (sym (zeros_of_word 8 octet zeros some (omega arith))) h))
 
-pub NoneSoFar-no_eol : (octets : List ℕ) (place zeros : ℕ) → NoneSoFar octets place zeros → HoldsEol (bits_of (take place octets)) → ⊥
-NoneSoFar-no_eol octets place zeros so (before, rest, e) =
+pub NoneSoFar-no_eol : (octets : List ℕ) (place count : ℕ) → NoneSoFar octets place count → HoldsEol (bits_of (take place octets)) → ⊥
+NoneSoFar-no_eol octets place count so (before, rest, e) =
     let text : List Bool = bits_of (take place octets) in
     FewZeros-no_eol text (before ++ end_of_line) rest (subst (FewZeros 0) (append-nil text) (so.free [] tt)) (before, refl) (e ∙ sym (append_assoc before end_of_line rest))
 

@@ -14,7 +14,7 @@ pub(crate) fn drop_front(octets: &mut Vec<u8>, n: usize)
         let (front, back) = octets.split_at_mut(n);
         front[..left].copy_from_slice(back);
     } else {
-        octets.rotate_left(n);
+        octets.copy_within(n.., 0);
     }
     octets.truncate(left);
 }

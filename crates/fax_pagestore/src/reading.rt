@@ -11,6 +11,7 @@ ghost use Rattle.fax_pagestore.specs.PageTexts.{IsTag, IsFront, IsSeparator, InA
 ghost use Rattle.fax_pagestore.specs.Ends.{HoldsNoTaggedEol};
 ghost use Rattle.fax_pagestore.specs.PageFaults.{RunsOut, LineBegins, BreaksReturn, BreaksOff, StopsInReturn, FailsRow, WantsLine, Stops, FailsBehindFront, HasNoEol, FailsPage, last_of, row_before};
 
+use crate::ends::bits_before_eol;
 use crate::white::pass_white_row;
 use crate::{Coding, Format, Page, PageFault, RowStore};
 use fax_bits::BitReader;
@@ -50,6 +51,7 @@ pub fn read_page<S: RowStore>(
     ensures no_eol { HasNoEol coding octets.now → result ≡ Err PageFault.NoEol }
 {
     let mut reader = BitReader::new(octets);
+    reader.skip(bits_before_eol(octets));
     let Some(tag) = pass_front(&mut reader, coding) else {
         return Err(PageFault::NoEol);
     };
