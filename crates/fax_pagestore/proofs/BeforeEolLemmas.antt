@@ -45,12 +45,6 @@ front_tagged coding tag text rest bits is e =
       ends_at text before is.tag_text rest bits (is.text_is ∙ ap (λ b. b ++ is.tag_text) is.ends.1 ∙ append_assoc before end_of_line is.tag_text) e,
     )
 
--- so bits that hold none have no front
-pub no_front_in : (coding : Coding) (bits : List Bool) → HoldsNoTaggedEol coding bits → (tag : Bool) (front rest : List Bool) → IsFront coding tag front → bits ≡ front ++ rest → ⊥
-no_front_in coding bits none tag front rest is e =
-    let t = front_tagged coding tag front rest bits is e in
-    none tag t.0 t.1 rest t.2 t.3
-
 -- the front of what is left is that of all, where no EOL begins before it
 pub front_behind : (coding : Coding) (tag : Bool) (before left front rest : List Bool) → BeginNoEol before left → IsFront coding tag front → left ≡ front ++ rest → IsFront coding tag (before ++ front)
 front_behind coding tag before left front rest begin is e = record {
