@@ -1,6 +1,8 @@
 -- Readers of images as they go on, and runs of zero octets as they are counted.
-use Rattle.std.proofs.Common.{◌≡◌, ℕ, ◌+◌, max, List, [], ◌∷◌, ◌++◌, length, take, get_or, ◌<◌, refl, sym, ◌∙◌, ap, subst, append_assoc}
-use Rattle.std.proofs.lemmas.List.{take_more, append-nil}
+use Rattle.std.proofs.Common.{◌≡◌, ℕ, zero, suc, ◌+◌, min, max, List, [], ◌∷◌, ◌++◌, length, take, drop, get_or, replicate, ◌<◌, ◌≤◌, refl, sym, ◌∙◌, ap, ap₂, subst, arith, append_assoc}
+use Rattle.std.proofs.Math.Seq.{take-add}
+use Rattle.std.proofs.lemmas.List.{take_more, append-nil, take-append-drop}
+use Rattle.std.proofs.lemmas.Simd.{length-chunk, get_or-chunk}
 use Rattle.fax_runcodes.specs.Rows.{Elements}
 use Rattle.fax_frames.specs.Capabilities.{format_of, coding_of}
 use Rattle.fax_pagestore.specs.Readers.{ReaderValue, new_reader}
@@ -24,6 +26,76 @@ run_more run i xs h = ap (run_behind run) (take_more xs i 0 h) ∙ run_behind-ap
 pub longest_more : (run longest i : ℕ) (xs : List ℕ) → i < length xs →
     longest_behind run longest (take (i + 1) xs) ≡ max (longest_behind run longest (take i xs)) (run_with (run_behind run (take i xs)) (get_or xs i 0))
 longest_more run longest i xs h = ap (longest_behind run longest) (take_more xs i 0 h) ∙ longest_behind-append run longest (take i xs) (get_or xs i 0 ∷ [])
+
+-- so many more octets
+pub run_on : (run place n : ℕ) (xs : List ℕ) → run_behind run (take (place + n) xs) ≡ run_behind (run_behind run (take place xs)) (take n (drop place xs))
+run_on run place n xs = ap (run_behind run) (take-add place n xs) ∙ run_behind-append run (take place xs) (take n (drop place xs))
+
+pub longest_on : (run longest place n : ℕ) (xs : List ℕ) →
+    longest_behind run longest (take (place + n) xs) ≡ longest_behind (run_behind run (take place xs)) (longest_behind run longest (take place xs)) (take n (drop place xs))
+longest_on run longest place n xs = ap (longest_behind run longest) (take-add place n xs) ∙ longest_behind-append run longest (take place xs) (take n (drop place xs))
+
+-- all octets
+pub run_all : (run place : ℕ) (xs : List ℕ) → run_behind run xs ≡ run_behind (run_behind run (take place xs)) (drop place xs)
+run_all run place xs = ap (run_behind run) (sym (take-append-drop place xs)) ∙ run_behind-append run (take place xs) (drop place xs)
+
+pub longest_all : (run longest place : ℕ) (xs : List ℕ) → longest_behind run longest xs ≡ longest_behind (run_behind run (take place xs)) (longest_behind run longest (take place xs)) (drop place xs)
+longest_all run longest place xs = ap (longest_behind run longest) (sym (take-append-drop place xs)) ∙ longest_behind-append run longest (take place xs) (drop place xs)
+
+-- octets of which none is 0
+abbrev AreNotZero : List ℕ → Type 0
+AreNotZero xs = (i : ℕ) → i < length xs → 0 < get_or xs i 0
+
+run_with-other : (run octet : ℕ) → 0 < octet → run_with run octet ≡ 0
+run_with-other run zero some = absurd (omega arith)
+run_with-other run (suc octet) some = refl
+
+pub run_of_others : (run : ℕ) (xs : List ℕ) → 0 < length xs → AreNotZero xs → run_behind run xs ≡ 0
+run_of_others run [] some others = absurd (omega arith)
+run_of_others run (x ∷ []) some others = run_with-other run x (others 0 (omega arith))
+run_of_others run (x ∷ y ∷ xs) some others = run_of_others (run_with run x) (y ∷ xs) (omega arith) (λ i h. others (suc i) (omega arith))
+
+pub longest_of_others : (run longest : ℕ) (xs : List ℕ) → AreNotZero xs → longest_behind run longest xs ≡ longest
+longest_of_others run longest [] others = refl
+longest_of_others run longest (x ∷ xs) others =
+    let none : run_with run x ≡ 0 = run_with-other run x (others 0 (omega arith)) in
+    longest_of_others (run_with run x) (max longest (run_with run x)) xs (λ i h. others (suc i) (omega arith)) ∙ omega (arith, none)
+
+-- zero octets alone
+zeros_are : (xs : List ℕ) → ((i : ℕ) → i < length xs → get_or xs i 0 ≡ 0) → xs ≡ replicate (length xs) 0
+zeros_are [] zeros = refl
+zeros_are (x ∷ xs) zeros = ap₂ (λ (o : ℕ) (os : List ℕ). o ∷ os) (zeros 0 (omega arith)) (zeros_are xs (λ i h. zeros (suc i) (omega arith)))
+
+run_of_zeros : (n run : ℕ) → run ≤ 65535 → run_behind run (replicate n 0) ≡ min (run + n) 65535
+run_of_zeros zero run few = omega arith
+run_of_zeros (suc n) run few = run_of_zeros n (min (run + 1) 65535) (omega arith) ∙ omega arith
+
+longest_of_zeros : (n run longest : ℕ) → run ≤ 65535 → longest_behind run longest (replicate (suc n) 0) ≡ max longest (min (run + suc n) 65535)
+longest_of_zeros zero run longest few = omega arith
+longest_of_zeros (suc n) run longest few = longest_of_zeros n (min (run + 1) 65535) (max longest (min (run + 1) 65535)) (omega arith) ∙ omega arith
+
+-- A BLOCK of octets, eight of them
+pub length-block : (xs : List ℕ) (first : ℕ) → first + 8 ≤ length xs → length (take 8 (drop first xs)) ≡ 8
+length-block xs first within = length-chunk first 8 xs within
+
+pub others_in_block : (xs : List ℕ) (first : ℕ) → first + 8 ≤ length xs → ((i : ℕ) → first ≤ i → i < first + 8 → 0 < get_or xs i 0) → AreNotZero (take 8 (drop first xs))
+others_in_block xs first within others = λ i h.
+    let long = length-block xs first within in
+    omega (arith, get_or-chunk first 8 xs i 0 (omega arith), others (first + i) (omega arith) (omega arith))
+
+zeros_in_block : (xs : List ℕ) (first : ℕ) → first + 8 ≤ length xs → ((i : ℕ) → first ≤ i → i < first + 8 → get_or xs i 0 ≡ 0) → take 8 (drop first xs) ≡ replicate 8 0
+zeros_in_block xs first within zeros =
+    let long = length-block xs first within in
+    zeros_are (take 8 (drop first xs)) (λ i h. get_or-chunk first 8 xs i 0 (omega arith) ∙ zeros (first + i) (omega arith) (omega arith))
+    ∙ ap (λ (n : ℕ). replicate n 0) long
+
+pub run_of_block : (run first : ℕ) (xs : List ℕ) → run ≤ 65535 → first + 8 ≤ length xs → ((i : ℕ) → first ≤ i → i < first + 8 → get_or xs i 0 ≡ 0)
+    → run_behind run (take 8 (drop first xs)) ≡ min (run + 8) 65535
+run_of_block run first xs few within zeros = ap (run_behind run) (zeros_in_block xs first within zeros) ∙ run_of_zeros 8 run few
+
+pub longest_of_block : (run longest first : ℕ) (xs : List ℕ) → run ≤ 65535 → first + 8 ≤ length xs → ((i : ℕ) → first ≤ i → i < first + 8 → get_or xs i 0 ≡ 0)
+    → longest_behind run longest (take 8 (drop first xs)) ≡ max longest (min (run + 8) 65535)
+longest_of_block run longest first xs few within zeros = ap (longest_behind run longest) (zeros_in_block xs first within zeros) ∙ longest_of_zeros 7 run longest few
 
 -- READERS that go on
 extends_itself : (r : ReaderValue) → Extends r r

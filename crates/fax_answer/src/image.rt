@@ -1,5 +1,5 @@
 //! The images of a call: what is read of them, and their zero octets.
-ghost use Rattle.std.specs.Prelude.{◌≡◌, ◌+◌, ◌-◌, ◌++◌, ◌∷◌, ◌<◌, ◌≤◌, ℕ, List, [], Some, None, take, length, IfOk, IfErr, OnOk, OnErr, is_some, if◌then◌else◌};
+ghost use Rattle.std.specs.Prelude.{◌≡◌, ◌+◌, ◌-◌, ◌++◌, ◌∷◌, ◌<◌, ◌≤◌, ℕ, List, [], Some, None, take, drop, get_or, length, IfOk, IfErr, OnOk, OnErr, IsTrue, is_some, if◌then◌else◌};
 ghost use Rattle.fax_runcodes.specs.Widths.{elements_of};
 ghost use Rattle.fax_frames.specs.Capabilities.{format_of, coding_of};
 ghost use Rattle.fax_pagestore.specs.Pages.{PageValue};
@@ -220,9 +220,41 @@ impl<S: RowStore> Image<S> {
     }
 }
 
+/// How many octets are looked at side by side.
+const BLOCK: usize = 8;
+
 impl Zeros {
-    /// Counts the zero octets of more octets.
+    /// Counts the zero octets of more octets, of those that stand in whole blocks block by block.
     fn count(&mut self, octets: &[u8])
+        ensures { self.new ≡ record self.old { run = run_behind self.old.run octets.now; longest = longest_behind self.old.run self.old.longest octets.now } }
+    {
+        let mut place = 0;
+        while octets.len() - place >= BLOCK {
+            self.count_block(octets, place);
+            place += BLOCK;
+        }
+        self.count_each(&octets[place..]);
+    }
+
+    /// Counts the zero octets of the block that begins here: none, all, or some.
+    #[inline]
+    fn count_block(&mut self, octets: &[u8], first: usize)
+        requires { first + 8 ≤ length octets.now }
+        ensures { let block = take 8 (drop first octets.now) in
+            self.new ≡ record self.old { run = run_behind self.old.run block; longest = longest_behind self.old.run self.old.longest block } }
+    {
+        if has_no_zero(octets, first) {
+            self.run = 0;
+        } else if has_zeros_alone(octets, first) {
+            self.run = self.run.saturating_add(BLOCK as u16);
+            self.longest = self.longest.max(self.run);
+        } else {
+            self.count_each(&octets[first..first + BLOCK]);
+        }
+    }
+
+    /// Counts the zero octets of more octets, octet by octet.
+    fn count_each(&mut self, octets: &[u8])
         ensures { self.new ≡ record self.old { run = run_behind self.old.run octets.now; longest = longest_behind self.old.run self.old.longest octets.now } }
     {
         for octet in octets {
@@ -230,6 +262,32 @@ impl Zeros {
             self.longest = self.longest.max(self.run);
         }
     }
+}
+
+/// Whether none of the octets of the block that begins here is 0, all looked at side by side.
+#[inline]
+fn has_no_zero(octets: &[u8], first: usize) -> bool
+    requires { first + 8 ≤ length octets.now }
+    ensures { IsTrue result → (i : ℕ) → first ≤ i → i < first + 8 → 0 < get_or octets.now i 0 }
+{
+    let mut found = false;
+    for place in first..first + BLOCK {
+        found |= octets[place] == 0;
+    }
+    !found
+}
+
+/// Whether each of the octets of the block that begins here is 0, all looked at side by side.
+#[inline]
+fn has_zeros_alone(octets: &[u8], first: usize) -> bool
+    requires { first + 8 ≤ length octets.now }
+    ensures { IsTrue result → (i : ℕ) → first ≤ i → i < first + 8 → get_or octets.now i 0 ≡ 0 }
+{
+    let mut found = false;
+    for place in first..first + BLOCK {
+        found |= octets[place] != 0;
+    }
+    !found
 }
 
 /// How many zero octets stand at the end with one more octet.

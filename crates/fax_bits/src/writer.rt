@@ -1,7 +1,7 @@
 //! A writer of bits.
 ghost use Rattle.std.specs.Prelude.{ℕ, ◌≡◌, IfOk, ◌+◌, ◌-◌, ◌*◌, ◌<◌, ◌≤◌, ◌^◌, ◌++◌, [], false, length, replicate, take, vec_len, vec_capacity, OnOk, OnErr};
 ghost use Rattle.std.specs.Int.{to_be_bytes, w32};
-ghost use Rattle.fax_bits.specs.Bits.{word_bits};
+ghost use Rattle.fax_bits.specs.Bits.{bits_of, word_bits};
 ghost use Rattle.fax_bits.specs.Writing.{IsPadded};
 
 use crate::memory::NoMemory;
@@ -36,8 +36,16 @@ impl BitWriter {
     pub fn new(alloc: Global) -> Self
         ensures { result ≡ [] }
     {
+        BitWriter::of_octets(Octets::from_vec(Vec::new(alloc)))
+    }
+
+    /// A writer of the bits of octets, in the memory that they have. It takes none.
+    #[inline]
+    pub fn of_octets(octets: Octets) -> Self
+        ensures { result ≡ bits_of octets }
+    {
         BitWriter {
-            octets: Vec::new(alloc),
+            octets: octets.into_vec(),
             pending: 0,
             count: 0,
         }

@@ -15,7 +15,7 @@ use Rattle.fax_pagestore.proofs.EndsLemmas.{ends_at}
 -- ---- parts of bits
 
 -- what stands behind a front that is not longer than another
-behind_front : (before left front rest : List Bool) → before ++ left ≡ front ++ rest → length before ≤ length front → left ≡ drop (length before) front ++ rest
+pub behind_front : (before left front rest : List Bool) → before ++ left ≡ front ++ rest → length before ≤ length front → left ≡ drop (length before) front ++ rest
 behind_front before left front rest e le =
     sym (drop_at before left (length before) refl) ∙ ap (drop (length before)) e ∙ drop-append-le (length before) front rest le
 
@@ -27,7 +27,7 @@ within bits more front rest e le =
     sym (take-append-drop (length front) bits) ∙ ap (λ b. b ++ drop (length front) bits) begins
 
 -- bits behind a place are those up to another, and those behind that
-between : (bits : List Bool) (used place : ℕ) → used ≤ place → drop used bits ≡ take (place - used) (drop used bits) ++ drop place bits
+pub between : (bits : List Bool) (used place : ℕ) → used ≤ place → drop used bits ≡ take (place - used) (drop used bits) ++ drop place bits
 between bits used place le =
     let whole : used + (place - used) ≡ place = omega arith in
     sym (take-append-drop (place - used) (drop used bits)) ∙ ap (λ b. take (place - used) (drop used bits) ++ b) (drop-drop (place - used) used bits ∙ ap (λ n. drop n bits) whole)
@@ -44,12 +44,6 @@ front_tagged coding tag text rest bits is e =
       is.is_tag,
       ends_at text before is.tag_text rest bits (is.text_is ∙ ap (λ b. b ++ is.tag_text) is.ends.1 ∙ append_assoc before end_of_line is.tag_text) e,
     )
-
--- so bits that hold none have no front
-pub no_front_in : (coding : Coding) (bits : List Bool) → HoldsNoTaggedEol coding bits → (tag : Bool) (front rest : List Bool) → IsFront coding tag front → bits ≡ front ++ rest → ⊥
-no_front_in coding bits none tag front rest is e =
-    let t = front_tagged coding tag front rest bits is e in
-    none tag t.0 t.1 rest t.2 t.3
 
 -- the front of what is left is that of all, where no EOL begins before it
 pub front_behind : (coding : Coding) (tag : Bool) (before left front rest : List Bool) → BeginNoEol before left → IsFront coding tag front → left ≡ front ++ rest → IsFront coding tag (before ++ front)

@@ -117,7 +117,7 @@ FewZeros n (true ∷ bits) = (n < 11) × FewZeros 0 bits
 FewZeros n (false ∷ bits) = FewZeros (suc n) bits
 
 -- how many zeros bits end with, where so many come before them
-abbrev zeros_behind : ℕ → List Bool → ℕ
+abbrev pub zeros_behind : ℕ → List Bool → ℕ
 zeros_behind n [] = n
 zeros_behind n (true ∷ bits) = zeros_behind 0 bits
 zeros_behind n (false ∷ bits) = zeros_behind (suc n) bits
@@ -133,7 +133,7 @@ FewZeros-behind_zeros n (suc zeros) t h =
     let same : suc n + zeros ≡ n + suc zeros = omega arith in
     subst (λ k. FewZeros k t) same (FewZeros-behind_zeros (suc n) zeros t h)
 
-FewZeros-zeros : (n zeros : ℕ) (t : List Bool) → FewZeros (n + zeros) t → FewZeros n (replicate zeros false ++ t)
+pub FewZeros-zeros : (n zeros : ℕ) (t : List Bool) → FewZeros (n + zeros) t → FewZeros n (replicate zeros false ++ t)
 FewZeros-zeros n zero t h = subst (λ k. FewZeros k t) (add-zero n) h
 FewZeros-zeros n (suc zeros) t h =
     let same : n + suc zeros ≡ suc n + zeros = omega arith in

@@ -1,5 +1,6 @@
 pub mod BeforeEolLemmas
 pub mod EndsLemmas
+pub mod FirstEolLemmas
 pub mod FrontLemmas
 pub mod PackedLemmas
 pub mod PageLaws

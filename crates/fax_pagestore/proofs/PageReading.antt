@@ -2,7 +2,6 @@
 use Rattle.std.proofs.Common.{◌≡◌, ◌≢◌, ℕ, zero, suc, ◌<◌, ◌≤◌, Bool, true, false, List, [], ◌∷◌, ◌++◌, All, Option, Some, None, length, refl, sym, ◌∙◌, ap, subst, arith, append_assoc, append-nil, inl, inr, ◌⊎◌, Result, Ok, Err, IfOk, IfErr}
 use Rattle.std.proofs.lemmas.List.{nil_from_length, length_push}
 use Rattle.std.proofs.lemmas.List.Elements.{All-push, All-head, All-tail}
-use Rattle.fax_bits.specs.Bits.{bits_of}
 use Rattle.fax_bits.specs.Reading.{Place, Passes}
 use Rattle.fax_runcodes.specs.declared.format.Coding.{Coding}
 use Rattle.fax_runcodes.specs.declared.format.Format.{Format}
@@ -13,7 +12,7 @@ use Rattle.fax_pagestore.specs.declared.fault.PageFault.{PageFault}
 use Rattle.fax_pagestore.specs.declared.fault.PageFault.TheVariants.{NoEol, BadLine, NoRtc, Empty, TooManyRows, NoMemory}
 use Rattle.fax_pagestore.specs.PageRows.{most_rows}
 use Rattle.fax_pagestore.specs.Pages.{PageValue}
-use Rattle.fax_pagestore.specs.PageTexts.{IsFront, IsSeparator, InARow, SpellsRow, SpellsRows, ReadSoFar, MeansRows, MeansPage}
+use Rattle.fax_pagestore.specs.PageTexts.{IsSeparator, InARow, SpellsRow, SpellsRows, ReadSoFar, MeansRows, MeansPage}
 use Rattle.fax_pagestore.specs.PageFaults.{RunsOut, LineBegins, BreaksReturn, BreaksOff, StopsInReturn, last_of, FailsRow, WantsLine, Stops, FailsBehindFront, FailsPage, row_before}
 use Rattle.fax_pagestore.proofs.ReadLemmas.{HasWidth, SpellsRow-length, row_behind, row_behind-last}
 use Rattle.fax_pagestore.proofs.PageLaws.{pages_are_unique, pages_dont_fail, faults_are_unique}
@@ -89,21 +88,6 @@ SpellsRows-push coding width tag last next before (first ∷ rows) row text line
 )
 
 -- ---- what is read of octets
-
--- Behind the front nothing more is read yet.
-pub ReadSoFar-front : (coding : Coding) (width : ℕ) (octets : List ℕ) (tag : Bool) (start new : Place) → start ≡ record { passed = 0; left = bits_of octets }
-    → (front : List Bool) × IsFront coding tag front × Passes start new front → ReadSoFar coding width octets [] 0 tag new.left
-ReadSoFar-front coding width octets tag start new at (front, is, p) = record {
-  front = front;
-  lines = [];
-  separators = [];
-  front_tag = tag;
-  row_tag = tag;
-  is_front = is;
-  spelt = (refl, refl);
-  in_a_row = (refl, refl);
-  bits_are = sym (ap (λ (place : Place). place.left) at) ∙ p.bits;
-}
 
 -- one more row
 pub ReadSoFar-row : (coding : Coding) (width : ℕ) (octets : List ℕ) (rows : List Elements) (row : Elements) (tag next : Bool) (bits line separator rest : List Bool)

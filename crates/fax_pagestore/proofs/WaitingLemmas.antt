@@ -1,12 +1,12 @@
 -- Bits that wait as octets, of which some are given.
-use Rattle.std.proofs.Common.{◌≡◌, ◌⊎◌, ℕ, ◌+◌, ◌-◌, ◌*◌, ◌<◌, ◌≤◌, min, Bool, false, List, [], ◌∷◌, ◌++◌, length, take, drop, get_or, replicate, refl, sym, ◌∙◌, ap, subst, inl, inr, arith, append-nil, length-append, length-drop}
+use Rattle.std.proofs.Common.{◌≡◌, ◌⊎◌, ℕ, ◌+◌, ◌-◌, ◌*◌, ◌<◌, ◌≤◌, min, Bool, false, List, [], ◌∷◌, ◌++◌, length, take, drop, replicate, refl, sym, ◌∙◌, ap, subst, inl, inr, arith, append-nil, length-append, length-drop}
 use Rattle.std.proofs.lemmas.Bool.{cases_lt}
-use Rattle.std.proofs.lemmas.List.{take_at, take-append-le, drop-append-le, drop-take, drop-drop, drop_all, drop_min, take_rest, take_more, take_all, length-replicate, length-take-le}
+use Rattle.std.proofs.lemmas.List.{take_at, take-append-le, drop-append-le, drop-take, drop-drop, drop_all, drop_min, take_rest, length-replicate, length-take-le}
 use Rattle.std.proofs.lemmas.List.Elements.{All-take}
-use Rattle.fax_bits.specs.Bits.{bits_of, word_bits}
+use Rattle.fax_bits.specs.Bits.{bits_of}
 use Rattle.fax_bits.specs.Laws.{AreOctets}
 use Rattle.fax_bits.specs.Writing.{IsPadded}
-use Rattle.fax_bits.proofs.BitsLemmas.{length-bits_of, bits_of-nil, bits_of-cons, bits_of-append, drop-bits_of, take-bits_of}
+use Rattle.fax_bits.proofs.BitsLemmas.{length-bits_of, bits_of-nil, drop-bits_of, take-bits_of}
 use Rattle.fax_bits.proofs.PaddingLemmas.{bits_of-one, padding_one}
 
 -- ---- octets that hold bits
@@ -124,18 +124,3 @@ held_passed octets given bits n count rest is =
 -- the octets from one on, as a slice
 pub rest_is : (now items : List ℕ) (given : ℕ) → now ≡ items → take (length now - given) (drop given now) ≡ drop given items
 rest_is now items given e = take_rest now given ∙ ap (drop given) e
-
--- one octet more
-pub bits_of_more : (octets : List ℕ) (i o : ℕ) (writer new : List Bool) → i < length octets → o ≡ get_or octets i 0
-    → writer ≡ bits_of (take i octets) → new ≡ writer ++ word_bits 8 o → new ≡ bits_of (take (i + 1) octets)
-bits_of_more octets i o writer new lt is e f =
-    f ∙ ap (λ b. b ++ word_bits 8 o) e
-    ∙ ap (λ n. bits_of (take i octets) ++ word_bits 8 n) is
-    ∙ ap (λ b. bits_of (take i octets) ++ b) (sym (bits_of-cons (get_or octets i 0) [] ∙ ap (λ b. word_bits 8 (get_or octets i 0) ++ b) bits_of-nil ∙ append-nil (word_bits 8 (get_or octets i 0))))
-    ∙ sym (bits_of-append (take i octets) (get_or octets i 0 ∷ []))
-    ∙ ap bits_of (sym (take_more octets i 0 lt))
-
--- all of them
-pub bits_of_all : (octets held : List ℕ) (i : ℕ) (writer : List Bool) → length octets ≤ i → octets ≡ held
-    → writer ≡ bits_of (take i octets) → writer ≡ bits_of held
-bits_of_all octets held i writer le same e = e ∙ ap bits_of (take_all i octets le ∙ same)

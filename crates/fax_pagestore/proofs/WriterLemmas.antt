@@ -1,7 +1,7 @@
 -- Pages that are written step by step.
-use Rattle.std.proofs.Common.{◌≡◌, ◌⊎◌, ℕ, zero, suc, ◌+◌, ◌-◌, ◌*◌, ◌<◌, ◌≤◌, Bool, true, false, List, [], ◌∷◌, ◌++◌, length, drop, Option, Some, None, is_none, slice_get, refl, sym, ◌∙◌, ap, subst, inl, inr, arith, append_assoc, append-nil, length-append, add-one}
+use Rattle.std.proofs.Common.{◌≡◌, ◌⊎◌, ℕ, zero, suc, ◌+◌, ◌-◌, ◌*◌, ◌<◌, ◌≤◌, Bool, true, false, List, [], ◌∷◌, ◌++◌, length, take, drop, Option, Some, None, Result, Ok, Err, OnErr, is_none, slice_get, refl, sym, ◌∙◌, ap, subst, inl, inr, arith, append_assoc, append-nil, length-append, add-one}
 use Rattle.std.proofs.Math.Seq.{drop-cons}
-use Rattle.std.proofs.lemmas.List.{drop_all, drop-append-le, nil_from_length}
+use Rattle.std.proofs.lemmas.List.{drop_all, drop-append-le, nil_from_length, take_at}
 use Rattle.std.proofs.lemmas.List.Elements.{All-drop}
 use Rattle.std.proofs.lemmas.Option.{get_or_from_slice_get}
 use Rattle.fax_bits.specs.Writing.{IsPadded}
@@ -37,6 +37,35 @@ WritesOn-more coding least page first second third old now new one two = record 
       let b = two.rest a.0 a.2 in
       (b.0, a.1 ∙ ap (λ m. one.bits ++ m) b.1 ∙ sym (append_assoc one.bits two.bits b.0), b.2));
 }
+
+-- where the last step failed, bits were put too
+pub goes_on : (coding : Coding) (least : ℕ) (page : PageValue) (first second : Place) (old now new : List Bool) → WritesOn coding least page first second old now
+    → (bits : List Bool) × (new ≡ now ++ bits) → (bits : List Bool) × (new ≡ old ++ bits)
+goes_on coding least page first second old now new on (bits, e) = (on.bits ++ bits, e ∙ ap (λ b. b ++ bits) on.put ∙ append_assoc old on.bits bits)
+
+-- nothing was put
+pub none_put : (old new : List Bool) → new ≡ old → (bits : List Bool) × (new ≡ old ++ bits)
+none_put old new e = ([], e ∙ sym (append-nil old))
+
+-- the bits before which bits were put
+pub within_more : (n : ℕ) (old new : List Bool) → n ≡ length old → (bits : List Bool) × (new ≡ old ++ bits) → n ≤ length new
+within_more n old new is (bits, e) = omega (arith, ap length e, length-append old bits)
+
+pub first_kept : (n : ℕ) (old new : List Bool) → n ≡ length old → (bits : List Bool) × (new ≡ old ++ bits) → take n new ≡ old
+first_kept n old new is (bits, e) = ap (take n) e ∙ take_at old bits n (sym is)
+
+-- the same, said of bits that were before and of bits that are
+pub put_behind : (old start new held : List Bool) → start ≡ old → held ≡ new → (bits : List Bool) × (new ≡ start ++ bits) → (bits : List Bool) × (held ≡ old ++ bits)
+put_behind old start new held is are (bits, e) = (bits, are ∙ e ∙ ap (λ b. b ++ bits) is)
+
+-- a writer that lets no more bits wait than before
+pub as_before : (w : WriterValue) (n : ℕ) (new : List Bool) → n ≡ length w.waiting → (bits : List Bool) × (new ≡ w.waiting ++ bits) → record w { waiting = take n new } ≡ w
+as_before w n new is put = ap (λ (b : List Bool). let v : WriterValue = record w { waiting = b } in v) (first_kept n w.waiting new is put)
+
+-- what holds whatever the result
+pub on_err : {T E P : Type 0} (r : Result T E) → P → OnErr r P
+on_err (Ok x) p = tt
+on_err (Err e) p = p
 
 -- more bits are there
 pub longer_by : (old bits new : List Bool) → new ≡ old ++ bits → 0 < length bits → length old < length new

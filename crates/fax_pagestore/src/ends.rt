@@ -1,7 +1,9 @@
 //! Where in octets no EOL stands.
-ghost use Rattle.std.specs.Prelude.{ℕ, ◌≡◌, ◌<◌, ◌≤◌, ◌+◌, ◌-◌, ◌*◌, IsTrue, false, drop, get_or, length};
+ghost use Rattle.std.specs.Prelude.{ℕ, ◌≡◌, ◌<◌, ◌≤◌, ◌+◌, ◌-◌, ◌*◌, IsTrue, false, drop, take, get_or, length};
 ghost use Rattle.fax_bits.specs.Bits.{bits_of};
-ghost use Rattle.fax_pagestore.specs.Ends.{HoldsEol, CountsNot};
+ghost use Rattle.fax_pagestore.specs.Ends.{HoldsEol, BeginNoEol, CountsNot};
+
+use crate::reading::EOL_ZEROS;
 
 #[cfg(test)]
 mod tests;
@@ -57,6 +59,40 @@ fn block_is_clear(octets: &[u8], first: usize) -> bool
         found |= counts(octets[place], octets[place + 1]);
     }
     !found
+}
+
+/// Before which octet no EOL ends: that in which the first one does, which has the 1 behind its 11 zeros (ITU-T T.4, 4.1.2),
+/// or the end.
+fn place_of_eol(octets: &[u8]) -> usize
+    ensures within { result ≤ length octets.now }
+    ensures none { HoldsEol (bits_of (take result octets.now)) → ⊥ }
+{
+    // those at the end of the octets so far, of which no more matter
+    let mut zeros = 0;
+    for place in 0..octets.len() {
+        let octet = octets[place];
+        if octet == 0 {
+            zeros = (zeros + u8::BITS).min(EOL_ZEROS);
+        } else if zeros + octet.leading_zeros() >= EOL_ZEROS {
+            return place;
+        } else {
+            zeros = octet.trailing_zeros();
+        }
+    }
+    octets.len()
+}
+
+/// The most octets that are passed at once.
+const MOST_PASSED: usize = 1 << 28;
+
+/// How many bits stand before the first EOL of octets at least. They are those of whole octets: an EOL begins in the two before
+/// the one in which it ends.
+pub(crate) fn bits_before_eol(octets: &[u8]) -> u32
+    ensures within { result ≤ 8 * length octets.now }
+    ensures none { BeginNoEol (take result (bits_of octets.now)) (drop result (bits_of octets.now)) }
+{
+    let passed = place_of_eol(octets).saturating_sub(2);
+    8 * passed.min(MOST_PASSED) as u32
 }
 
 /// Whether an octet counts as an EOL, before this one.

@@ -4,6 +4,7 @@
 
 mod ends;
 mod fault;
+mod front;
 pub mod laws;
 mod reader;
 mod reading;

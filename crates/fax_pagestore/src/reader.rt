@@ -15,11 +15,12 @@ mod settled;
 mod tests;
 
 use crate::ends::behind_eols;
+use crate::front::drop_front;
 use crate::{Coding, Format, Page, PageFault, RowStore};
 use fax_bits::NoMemory;
 use judging::judge;
 pub use mark::Mark;
-use rows::{Lines, read_up_to};
+use rows::{read_up_to, unread_from};
 use settled::Settled;
 use std::alloc::Global;
 use std::marker::Model;
@@ -27,7 +28,8 @@ use std::mem;
 
 /// Reads a page whose octets come in pieces, as [`crate::read_page`] reads them at once. It keeps the rows
 /// that are read, and the octets behind the last separator, until it is settled what they all are; before the
-/// first EOL two octets at most. A line is read once the EOL behind it is there.
+/// first EOL two octets at most. A line is read once the EOL behind it is there, and room for lines is taken only while some
+/// are read.
 #[derive(Drop)]
 pub struct PageReader<S: RowStore> {
     format: Format,
@@ -41,8 +43,6 @@ pub struct PageReader<S: RowStore> {
     tag: Option<bool>,
     /// What the octets are, where that stays so whatever follows.
     settled: Option<Settled>,
-    /// Room for lines, from the first piece on.
-    lines: Option<Lines>,
 }
 
 impl<S: RowStore> Model for PageReader<S> {
@@ -77,7 +77,6 @@ impl<S: RowStore> PageReader<S> {
             used: 0,
             tag: None,
             settled: None,
-            lines: None,
         }
     }
 
@@ -96,23 +95,18 @@ impl<S: RowStore> PageReader<S> {
             return Ok(());
         }
         let (alloc, len, count) = (*self.octets.allocator(), self.octets.len(), self.rows.len());
-        let mut lines = match self.lines.take() {
-            Some(lines) => lines,
-            None => Lines::new(alloc)?,
-        };
         append(&mut self.octets, piece)?;
         // an EOL that ends in the piece begins at most two octets before it
         let from = len.saturating_sub(2);
         let end = behind_eols(self.octets.as_slice(), from);
         if self.tag.is_some() && end == from {
-            self.lines = Some(lines);
             return Ok(());
         }
         let Ok(reached) = read_up_to(
-            &mut lines,
+            alloc,
             &mut self.rows,
             self.octets.as_slice(),
-            self.used,
+            unread_from(self.octets.as_slice(), self.used, self.tag),
             self.format.width,
             self.coding,
             self.tag,
@@ -126,7 +120,6 @@ impl<S: RowStore> PageReader<S> {
         self.used = (reached.place % 8) as u32;
         self.tag = reached.tag;
         self.settled = reached.settled;
-        self.lines = Some(lines);
         Ok(())
     }
 
@@ -228,22 +221,4 @@ fn append(octets: &mut Vec<u8>, piece: &[u8]) -> Result<(), NoMemory>
 {
     octets.extend_from_slice(piece)?;
     Ok(())
-}
-
-/// Takes away the first n octets. It takes no memory.
-fn drop_front(octets: &mut Vec<u8>, n: usize)
-    requires { n ≤ length octets.old.items }
-    ensures { octets.new.items ≡ drop n octets.old.items }
-{
-    if n == 0 {
-        return;
-    }
-    let left = octets.len() - n;
-    if left <= n {
-        let (front, back) = octets.split_at_mut(n);
-        front[..left].copy_from_slice(back);
-    } else {
-        octets.rotate_left(n);
-    }
-    octets.truncate(left);
 }

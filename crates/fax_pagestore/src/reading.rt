@@ -11,6 +11,7 @@ ghost use Rattle.fax_pagestore.specs.PageTexts.{IsTag, IsFront, IsSeparator, InA
 ghost use Rattle.fax_pagestore.specs.Ends.{HoldsNoTaggedEol};
 ghost use Rattle.fax_pagestore.specs.PageFaults.{RunsOut, LineBegins, BreaksReturn, BreaksOff, StopsInReturn, FailsRow, WantsLine, Stops, FailsBehindFront, HasNoEol, FailsPage, last_of, row_before};
 
+use crate::ends::bits_before_eol;
 use crate::white::pass_white_row;
 use crate::{Coding, Format, Page, PageFault, RowStore};
 use fax_bits::BitReader;
@@ -24,7 +25,7 @@ use std::mem;
 pub const MOST_ROWS: u32 = 65_535;
 
 /// The fewest zeros before the 1 of an EOL (ITU-T T.4, 4.1.2).
-const EOL_ZEROS: u32 = 11;
+pub(crate) const EOL_ZEROS: u32 = 11;
 
 /// The bits of a reader's window.
 pub(crate) const WINDOW_BITS: u32 = 56;
@@ -50,6 +51,7 @@ pub fn read_page<S: RowStore>(
     ensures no_eol { HasNoEol coding octets.now → result ≡ Err PageFault.NoEol }
 {
     let mut reader = BitReader::new(octets);
+    reader.skip(bits_before_eol(octets));
     let Some(tag) = pass_front(&mut reader, coding) else {
         return Err(PageFault::NoEol);
     };

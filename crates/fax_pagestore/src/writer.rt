@@ -1,5 +1,5 @@
 //! Pages written as their octets are due.
-ghost use Rattle.std.specs.Prelude.{ℕ, List, false, [], ◌≡◌, ◌<◌, ◌≤◌, ◌+◌, ◌*◌, ◌⊎◌, ◌↔◌, ◌≢◌, ◌++◌, take, drop, length, IfOk, OnOk, OnErr, IsTrue};
+ghost use Rattle.std.specs.Prelude.{ℕ, List, Bool, false, [], ◌≡◌, ◌<◌, ◌≤◌, ◌+◌, ◌*◌, ◌⊎◌, ◌↔◌, ◌≢◌, ◌++◌, take, drop, length, IfOk, OnOk, OnErr, IsTrue};
 ghost use Rattle.fax_bits.specs.Laws.{AreOctets};
 ghost use Rattle.fax_bits.specs.Writing.{IsPadded};
 ghost use Rattle.fax_pagestore.specs.Pages.{PageValue};
@@ -96,14 +96,31 @@ impl PageWriter {
         ensures some { IfOk result (λ given. 1 ≤ n → HasMore self.old → 1 ≤ length given) }
         ensures err { OnErr result (self.new ≡ self.old) }
     {
-        let mut writer = self.waiting.to_writer()?;
-        let place = self.write_up_to(&mut writer, page, 8 * n as u128)?;
+        let bits = self.waiting.bits();
+        let mut writer = self.waiting.take().into_writer();
+        let written = self.write_up_to(&mut writer, page, 8 * n as u128);
         let mut waiting = Waiting::of(writer);
-        let given = waiting.front(n)?;
+        let Ok(place) = written else {
+            self.keep(waiting, bits);
+            return Err(NoMemory);
+        };
+        let Ok(given) = waiting.front(n) else {
+            self.keep(waiting, bits);
+            return Err(NoMemory);
+        };
         waiting.pass(n);
         self.place = place;
         self.waiting = waiting;
         Ok(given)
+    }
+
+    /// Lets the first n of these bits wait, and no more. It takes no memory.
+    fn keep(&mut self, mut waiting: Waiting, n: u128)
+        requires { n ≤ length waiting }
+        ensures { self.new ≡ record self.old { waiting = take n waiting } }
+    {
+        waiting.cut(n);
+        self.waiting = waiting;
     }
 
     /// Writes on until the writer has so many bits or all is written, and answers the place.
@@ -116,6 +133,7 @@ impl PageWriter {
         ensures on { IfOk result (λ place. WritesOn self.now.coding self.now.least page.now self.now.place place writer.old writer.new) }
         ensures enough { IfOk result (λ place. (wanted ≤ length writer.new) ⊎ (place ≡ Place.End)) }
         ensures more { IfOk result (λ place. (self.now.place ≡ Place.End → writer.old ≢ []) → place ≡ Place.End → writer.new ≢ []) }
+        ensures err { OnErr result ((bits : List Bool) × (writer.new ≡ writer.old ++ bits)) }
     {
         let mut place = self.place;
         while writer.bits() < wanted {
@@ -138,6 +156,7 @@ fn write_step<S: RowStore>(
 ) -> Result<Place, NoMemory>
     ensures on { IfOk result (λ next. WritesOn coding least_bits page.now place next writer.old writer.new) }
     ensures more { OnOk result (place ≢ Place.End → length writer.old < length writer.new) }
+    ensures err { OnErr result ((bits : List Bool) × (writer.new ≡ writer.old ++ bits)) }
 {
     match place {
         Place::Front => {
@@ -168,6 +187,7 @@ fn write_row<S: RowStore>(
     requires { n < length page.now.rows }
     ensures on { OnOk result (WritesOn coding least_bits page.now (Place.Row n) (Place.Row (n + 1)) writer.old writer.new) }
     ensures more { OnOk result (length writer.old < length writer.new) }
+    ensures err { OnErr result ((bits : List Bool) × (writer.new ≡ writer.old ++ bits)) }
 {
     let (rows, fine) = (page.rows(), page.format().fine);
     let (row, count) = (rows.lend(n), rows.len());

@@ -1,5 +1,5 @@
 //! Pages written as texts.
-ghost use Rattle.std.specs.Prelude.{Bool, List, ◌++◌, ◌≡◌, ◌+◌, ◌-◌, None, length, is_none, option_copied, IfOk, OnOk};
+ghost use Rattle.std.specs.Prelude.{Bool, List, ◌++◌, ◌≡◌, ◌+◌, ◌-◌, None, length, is_none, option_copied, IfOk, OnOk, OnErr};
 ghost use Rattle.std.specs.Option.{ForSome};
 ghost use Rattle.fax_bits.specs.Writing.{IsPadded};
 ghost use Rattle.fax_pagestore.specs.PageTexts.{end_of_line};
@@ -75,7 +75,8 @@ pub(crate) fn write_filled_line(
     least_bits: u32,
 ) -> Result<(), NoMemory>
     requires { ForSome (option_copied reference) (λ before. length row.now ≡ length before) }
-    ensures { OnOk result ((line : List Bool) × WritesRow (is_none (option_copied reference.entry)) (option_copied reference.entry) row.now line × (writer.new ≡ writer.old ++ (line ++ fill least_bits line))) }
+    ensures ok { OnOk result ((line : List Bool) × WritesRow (is_none (option_copied reference.entry)) (option_copied reference.entry) row.now line × (writer.new ≡ writer.old ++ (line ++ fill least_bits line))) }
+    ensures err { OnErr result ((bits : List Bool) × (writer.new ≡ writer.old ++ bits)) }
 {
     let before = writer.bits();
     write_line(writer, reference, row)?;
@@ -94,7 +95,8 @@ fn write_line(
     row: &RowRef<'_>,
 ) -> Result<(), NoMemory>
     requires { ForSome (option_copied reference) (λ before. length row.now ≡ length before) }
-    ensures { OnOk result ((line : List Bool) × WritesRow (is_none (option_copied reference.entry)) (option_copied reference.entry) row.now line × (writer.new ≡ writer.old ++ line)) }
+    ensures ok { OnOk result ((line : List Bool) × WritesRow (is_none (option_copied reference.entry)) (option_copied reference.entry) row.now line × (writer.new ≡ writer.old ++ line)) }
+    ensures err { OnErr result (writer.new ≡ writer.old) }
 {
     match reference {
         None => write_lent_line_1d(writer, row),
@@ -139,7 +141,8 @@ pub(crate) fn write_ends_of_line(
     coding: Coding,
     count: u32,
 ) -> Result<(), NoMemory>
-    ensures { OnOk result (writer.new ≡ writer.old ++ ends_of_line coding count) }
+    ensures ok { OnOk result (writer.new ≡ writer.old ++ ends_of_line coding count) }
+    ensures err { OnErr result ((bits : List Bool) × (writer.new ≡ writer.old ++ bits)) }
 {
     for _ in 0..count {
         write_end_of_line(writer, coding, true)?;
@@ -153,7 +156,8 @@ pub(crate) fn write_end_of_line(
     coding: Coding,
     tag: bool,
 ) -> Result<(), NoMemory>
-    ensures { OnOk result (writer.new ≡ writer.old ++ (end_of_line ++ tag_bits coding tag)) }
+    ensures ok { OnOk result (writer.new ≡ writer.old ++ (end_of_line ++ tag_bits coding tag)) }
+    ensures err { OnErr result (writer.new ≡ writer.old) }
 {
     match coding {
         Coding::Mh => writer.put(END_OF_LINE, END_OF_LINE_BITS),

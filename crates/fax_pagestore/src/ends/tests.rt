@@ -1,5 +1,5 @@
 //! Octets in which EOLs stand, spelt by hand.
-use super::behind_eols;
+use super::{behind_eols, bits_before_eol};
 use std::rt::HostRuntime;
 
 /// Octets, a place in them, and from where on behind it no EOL stands.
@@ -52,4 +52,28 @@ fn an_eol_is_found_at_each_place(rt: HostRuntime) {
     }
     assert_eq!(rt; behind_eols(&[0x55; 60], 0), 0);
     assert_eq!(rt; behind_eols(&[0x50; 60], 7), 7);
+}
+
+/// Octets, and how many of their bits are passed before the first EOL.
+const FRONTS: [(&[u8], u32); 9] = [
+    (&[], 0),
+    (&[0x00, 0x1f], 0),
+    (&[0x11, 0x22, 0x33, 0x44], 16),
+    // the 1 behind the zeros stands in the last octet
+    (&[0xff, 0xff, 0b0000_0000, 0b0001_1111], 8),
+    (&[0xff, 0xff, 0b1111_1000, 0b0000_0000, 0b1111_1111], 16),
+    (&[0xff, 0xff, 0b1111_1110, 0b0000_0000, 0b0011_1111], 16),
+    // zeros to which the 1 is missing, and more zeros than an EOL wants
+    (&[0x00, 0x00, 0x00, 0x00], 16),
+    (&[0xff, 0x00, 0x00, 0x00, 0x01], 16),
+    // ten zeros in two octets are none
+    (&[0xff, 0b1000_0000, 0b0001_1111, 0xff, 0xff], 24),
+];
+
+/// Octets in which no EOL begins are passed, and no others.
+#[test]
+fn octets_before_an_eol_are_passed(rt: HostRuntime) {
+    for (octets, bits) in FRONTS {
+        assert_eq!(rt; bits_before_eol(octets), bits, "{octets:?}");
+    }
 }

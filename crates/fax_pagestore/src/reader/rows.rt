@@ -11,6 +11,7 @@ ghost use Rattle.fax_pagestore.specs.Ends.{HoldsEol, HoldsNoTaggedEol};
 ghost use Rattle.fax_pagestore.specs.Readers.{ReadsOne, IsReadUpTo, NoMoreIsWhole, AreJudged, fault_of};
 
 use super::settled::{Settled, settle};
+use crate::ends::bits_before_eol;
 use crate::reading::{MOST_ROWS, line_ahead, pass_front, read_row};
 use crate::white::pass_white_row;
 use crate::{Coding, PageFault, RowStore};
@@ -23,22 +24,6 @@ use std::mem;
 /// T.4, 4.1.2 and 4.2.2).
 const BEFORE_EOL: usize = 2;
 
-/// Room for the line that is read, and for the row before.
-#[derive(Drop)]
-pub(super) struct Lines {
-    line: RowBuilder,
-    kept: RowBuilder,
-}
-
-impl Lines {
-    pub fn new(alloc: Global) -> Result<Self, NoMemory> {
-        Ok(Lines {
-            line: RowBuilder::new(alloc)?,
-            kept: RowBuilder::new(alloc)?,
-        })
-    }
-}
-
 /// How far octets were read, behind a piece: how many of their bits, or all where it is settled what they are; the tag of
 /// the last separator; and what they are, where that is settled.
 #[derive(Clone, Copy)]
@@ -50,7 +35,7 @@ pub(super) struct Reached {
 
 /// Reads on from the bits of octets that are not used, as long as an EOL stands before this octet.
 pub(super) fn read_up_to<S: RowStore>(
-    lines: &mut Lines,
+    alloc: Global,
     rows: &mut S,
     octets: &[u8],
     used: u32,
@@ -87,7 +72,7 @@ pub(super) fn read_up_to<S: RowStore>(
         });
     };
     let halt = read_rows_on(
-        lines,
+        alloc,
         rows,
         &mut reader,
         width,
@@ -109,6 +94,19 @@ pub(super) fn read_up_to<S: RowStore>(
         tag: Some(halt.tag),
         settled: None,
     })
+}
+
+/// From which bit on octets are read of which so many are used: before the first EOL those are passed before which none begins.
+pub(super) fn unread_from(octets: &[u8], used: u32, tag: Option<bool>) -> u32
+    requires { used ≤ 8 * length octets.now }
+    ensures within { result ≤ 8 * length octets.now }
+    ensures read { (coding : Coding) (width : ℕ) (all : List ℕ) (rows : List Elements) → IsReadUpTo coding width all rows tag (drop used (bits_of octets.now))
+        → IsReadUpTo coding width all rows tag (drop result (bits_of octets.now)) }
+{
+    match tag {
+        Some(_) => used,
+        None => used.max(bits_before_eol(octets)),
+    }
 }
 
 /// The tag of the last separator: that of the front, which is passed where none was.
@@ -145,7 +143,7 @@ pub(super) struct Halt {
 
 /// Reads the rows behind this tag of which the lines and the separators are whole, up to this place.
 fn read_rows_on<S: RowStore>(
-    lines: &mut Lines,
+    alloc: Global,
     rows: &mut S,
     reader: &mut BitReader,
     width: Width,
@@ -165,11 +163,13 @@ fn read_rows_on<S: RowStore>(
     ensures no_line { IfOk result (λ halt. halt.stop ≡ Stop.NoLine → LineBegins reader.new.left → ⊥) }
     ensures no_eol { IfOk result (λ halt. halt.stop ≡ Stop.NoEols → end ≤ reader.new.passed) }
 {
-    let Lines { line, kept } = lines;
-    keep_last(kept, rows, width, first);
+    let mut line = RowBuilder::new(alloc)?;
+    // the row before, where the next line is two-dimensional
+    let mut kept = RowBuilder::new(alloc)?;
+    keep_last(&mut kept, rows, width, first);
     let mut tag = first;
     loop {
-        match read_next(rows, line, kept, reader, width, coding, tag, end)? {
+        match read_next(rows, &mut line, &mut kept, reader, width, coding, tag, end)? {
             Ok(next) => tag = next,
             Err(stop) => return Ok(Halt { tag, stop }),
         }

@@ -3,13 +3,11 @@ ghost use Rattle.std.specs.Prelude.{ℕ, List, Bool, [], ◌≡◌, ◌≢◌, �
 ghost use Rattle.fax_bits.specs.Laws.{AreOctets};
 ghost use Rattle.fax_bits.specs.Writing.{IsPadded};
 
+use crate::front::drop_front;
 use fax_bits::{BitWriter, NoMemory, Octets};
 use std::alloc::Global;
 use std::marker::Model;
-
-/// For how many octets room is made behind the bits that wait: for a line of text, and a packet of lines. A longer
-/// line makes its own.
-const ROOM: usize = 512;
+use std::mem;
 
 /// Bits in order. Those in front that were given are kept until more bits are written.
 #[derive(Drop)]
@@ -65,19 +63,38 @@ impl Waiting {
         self.bits
     }
 
-    /// A writer of the same bits, with room for a line of text.
-    pub fn to_writer(&self) -> Result<BitWriter, NoMemory>
-        ensures { IfOk result (λ writer. writer ≡ self.now) }
+    /// Takes the bits out. It takes no memory.
+    pub fn take(&mut self) -> Self
+        ensures taken { result ≡ self.old }
+        ensures none { self.new ≡ [] }
     {
-        let octets = &self.octets[self.given..];
-        let mut writer = BitWriter::new(*self.octets.allocator());
-        let mut roomy = writer.take_with_room(octets.len() + ROOM)?;
-        for octet in octets {
-            roomy.put(u32::from(*octet), 8);
-        }
-        let mut writer = roomy.into_writer();
-        writer.cut(self.bits);
-        Ok(writer)
+        let none = Waiting::none(*self.octets.allocator());
+        mem::replace(self, none)
+    }
+
+    /// A writer of these bits, in the memory that they have. It takes none.
+    pub fn into_writer(self) -> BitWriter
+        ensures { result ≡ self }
+    {
+        let Waiting {
+            mut octets,
+            given,
+            bits,
+        } = self;
+        drop_front(&mut octets, given);
+        let mut writer = BitWriter::of_octets(Octets::from_vec(octets));
+        writer.cut(bits);
+        writer
+    }
+
+    /// Keeps the first n bits. It takes no memory.
+    pub fn cut(&mut self, n: u128)
+        requires { n ≤ length self.old }
+        ensures { self.new ≡ take n self.old }
+    {
+        let mut writer = self.take().into_writer();
+        writer.cut(n);
+        *self = Waiting::of(writer);
     }
 
     /// The first n octets of these bits and others behind them, where there are as many bits here or none

@@ -50,7 +50,7 @@ returns-clause-on g c =
       | else-next-count w ↦ tag_behind_inner c.args.coding c.args.page.now.format.fine c.args.n c.args.page.now.rows c.if-next-count.tag (omega arith)
           (w.tag-is ∙ w.is_one_dimensional-tag.ensures ∙ ap (λ f. is_one_dimensional c.args.coding f.fine (c.args.n + 1)) c.format.ensures)
     ] in
-    let line = c.in_ok-write_filled_line.ensures in
+    let line = c.in_ok-write_filled_line.ensures.ok in
     on_ok_weaker c.write_end_of_line.result
     (λ end. row_written c.args.coding c.args.least_bits c.args.page.now c.args.n c.args.writer.now c.write_filled_line.new.writer c.write_end_of_line.new.writer record {
       row = c.lend-row.result;
@@ -66,11 +66,11 @@ returns-clause-on g c =
       line_put = line.2;
       end_put = end;
     })
-    c.write_end_of_line.ensures
+    c.write_end_of_line.ensures.ok
 
 pub returns-clause-more : goal.returns-clause-more
 returns-clause-more g c =
-    let line = c.in_ok-write_filled_line.ensures in
+    let line = c.in_ok-write_filled_line.ensures.ok in
     on_ok_weaker c.write_end_of_line.result
     (λ end. row_longer c.args.coding c.if-next-count.tag c.args.writer.now _ c.write_filled_line.new.writer c.write_end_of_line.new.writer line.2 end)
-    c.write_end_of_line.ensures
+    c.write_end_of_line.ensures.ok

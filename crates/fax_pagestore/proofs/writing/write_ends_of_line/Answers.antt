@@ -7,9 +7,9 @@ pub loop-init : goal.loop-init
 loop-init c = ends_of_line-none c.args.coding c.args.writer.now
 
 pub loop-preserved : goal.loop-preserved
-loop-preserved c = ends_of_line-more c.args.coding _ _ _ _ c.loop.invariant c.in_ok-write_end_of_line.ensures
+loop-preserved c = ends_of_line-more c.args.coding _ _ _ _ c.loop.invariant c.in_ok-write_end_of_line.ensures.ok
 
-pub returns : goal.returns
-returns c =
+pub returns-clause-ok : goal.returns-clause-ok
+returns-clause-ok c =
     let all : c.loop.counter ≡ c.args.count = omega arith in
     c.loop.invariant ∙ ap (λ n. c.args.writer.now ++ ends_of_line c.args.coding n) all

@@ -3,9 +3,9 @@ use Rattle.std.proofs.lemmas.Result.{on_ok_weaker}
 use Rattle.fax_pagestore.proofs.WritingLemmas.{filled_line, no_fill}
 use Rattle.fax_pagestore.proofs.writing.write_filled_line.Goals as goal
 
-pub returns : goal.returns
-returns c =
-    let line = c.in_ok-write_line.ensures in
+pub returns-clause-ok : goal.returns-clause-ok
+returns-clause-ok c =
+    let line = c.in_ok-write_line.ensures.ok in
     on_ok_weaker c.zeros.result
     (λ zeros. (
       line.0,
@@ -15,7 +15,7 @@ returns c =
     ))
     c.zeros.ensures.ok
 
-pub returns-then-least_bits-le-END_OF_LINE_BITS : goal.returns-then-least_bits-le-END_OF_LINE_BITS
-returns-then-least_bits-le-END_OF_LINE_BITS c =
-    let line = c.in_ok-write_line.ensures in
+pub returns-then-least_bits-le-END_OF_LINE_BITS-clause-ok : goal.returns-then-least_bits-le-END_OF_LINE_BITS-clause-ok
+returns-then-least_bits-le-END_OF_LINE_BITS-clause-ok c =
+    let line = c.in_ok-write_line.ensures.ok in
     (line.0, line.1, no_fill c.args.least_bits c.args.writer.now line.0 c.write_line.new.writer (omega arith) line.2)

@@ -33,13 +33,13 @@ loop-index-preserved g c =
       | then-next-count w ↦ tag_behind_last c.args.coding c.format.result.fine c.loop-index.index c.args.page.now.rows c.if-next-count.tag (omega arith) (w.tag-is ∙ eq-eqb (c.loop-index.index + 1) c.len-count.result (omega arith))
       | else-next-count w ↦ tag_behind_inner c.args.coding c.format.result.fine c.loop-index.index c.args.page.now.rows c.if-next-count.tag (omega arith) (w.tag-is ∙ w.is_one_dimensional-tag.ensures)
     ] in
-    let line = c.in_ok-write_filled_line.ensures in
+    let line = c.in_ok-write_filled_line.ensures.ok in
     let writes : WritesRow (is_none c.loop-index.reference) c.loop-index.reference c.lend-row.result line.0 =
     subst (λ r. WritesRow (is_none r) r c.lend-row.result line.0) c.as_ref.ensures.value line.1 in
     RowsSoFar-more (elements_of c.args.page.now.format.width) c.args.coding c.format.result.fine c.args.least_bits c.args.page.now.rows c.loop-index.index
     c.loop-index.reference c.then_some-reference.result c.lend-row.result c.if-next-count.tag line.0 c.args.writer.now c.loop-index.writer
     c.write_filled_line.new.writer c.write_end_of_line.new.writer inside row_is size tag c.then_some-reference.ensures writes line.2
-    c.in_ok-write_end_of_line.ensures c.loop-index.invariant
+    c.in_ok-write_end_of_line.ensures.ok c.loop-index.invariant
 
 pub returns : goal.returns
 returns g c =

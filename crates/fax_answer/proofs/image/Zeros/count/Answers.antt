@@ -1,19 +1,30 @@
-use Rattle.std.proofs.Common.{◌≡◌, ◌<◌, length, ℕ, List, take, get_or, sym, ◌∙◌, ap, max}
-use Rattle.fax_answer.specs.Images.{run_behind, longest_behind, run_with}
-use Rattle.fax_answer.proofs.ImageLemmas.{run_more, longest_more}
+use Rattle.std.proofs.Common.{ℕ, List, take, drop, sym, ◌∙◌, ap, ap₂, arith}
+use Rattle.std.proofs.lemmas.List.{take_rest}
+use Rattle.fax_answer.specs.declared.image.Zeros.{Zeros}
+use Rattle.fax_answer.specs.Images.{run_behind, longest_behind}
+use Rattle.fax_answer.proofs.ImageLemmas.{run_on, longest_on, run_all, longest_all}
 use Rattle.fax_answer.proofs.image.Zeros.count.Goals as goal
 
-pub loop-octet-preserved : goal.loop-octet-preserved
-loop-octet-preserved c =
-    let i : ℕ = c.loop-octet.octet-index in
+pub loop-place-preserved : goal.loop-place-preserved
+loop-place-preserved c =
+    let place : ℕ = c.loop-place.place in
     let octets : List ℕ = c.args.octets.now in
-    let within : i < length octets = c.loop-octet-test.true in
-    let run = run_more c.args.self.now.run i octets within in
-    let longest = longest_more c.args.self.now.run c.args.self.now.longest i octets within in
-    let octet : ℕ = get_or octets i 0 in
-    let now : c.run_with-self.result ≡ run_with (run_behind c.args.self.now.run (take i octets)) octet =
-    c.run_with-self.ensures ∙ ap (λ (n : ℕ). run_with n octet) c.loop-octet.invariant.run in
+    let block : List ℕ = take 8 (drop place octets) in
     record {
-      run = now ∙ sym run;
-      longest = c.max-self.ensures ∙ ap (λ (n : ℕ). max n c.run_with-self.result) c.loop-octet.invariant.longest ∙ ap (λ (n : ℕ). max (longest_behind c.args.self.now.run c.args.self.now.longest (take i octets)) n) now ∙ sym longest;
+      within = omega arith;
+      run = ap (λ (z : Zeros). z.run) c.count_block.ensures ∙ ap (λ r. run_behind r block) c.loop-place.invariant.run ∙ sym (run_on c.args.self.now.run place 8 octets);
+      longest = ap (λ (z : Zeros). z.longest) c.count_block.ensures ∙ ap₂ (λ r l. longest_behind r l block) c.loop-place.invariant.run c.loop-place.invariant.longest
+          ∙ sym (longest_on c.args.self.now.run c.args.self.now.longest place 8 octets);
     }
+
+pub returns : goal.returns
+returns c =
+    let place : ℕ = c.loop-place.place in
+    let octets : List ℕ = c.args.octets.now in
+    let rest = take_rest octets place in
+    c.count_each.ensures
+    ∙ ap₂ (λ (r l : ℕ). let z : Zeros = record { run = r; longest = l } in z)
+    (ap₂ (λ (r : ℕ) (xs : List ℕ). run_behind r xs) c.loop-place.invariant.run rest ∙ sym (run_all c.args.self.now.run place octets))
+    (ap (λ (xs : List ℕ). longest_behind c.loop-place.self.run c.loop-place.self.longest xs) rest
+    ∙ ap₂ (λ r l. longest_behind r l (drop place octets)) c.loop-place.invariant.run c.loop-place.invariant.longest
+    ∙ sym (longest_all c.args.self.now.run c.args.self.now.longest place octets))

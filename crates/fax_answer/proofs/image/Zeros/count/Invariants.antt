@@ -1,10 +1,14 @@
-use Rattle.std.proofs.Common.{◌≡◌, take}
+use Rattle.std.proofs.Common.{◌≡◌, ◌≤◌, ◌-◌, take, length}
 use Rattle.fax_answer.specs.Images.{run_behind, longest_behind}
 use Rattle.fax_answer.proofs.image.Zeros.count.Given as goal
 
--- the octets so far are counted
-abbrev pub invariant-loop-octet : goal.invariant-loop-octet
-invariant-loop-octet l = record {
-  run : l.self.run ≡ run_behind l.fn.self.run (take l.octet-index l.octets);
-  longest : l.self.longest ≡ longest_behind l.fn.self.run l.fn.self.longest (take l.octet-index l.octets);
+-- the blocks so far are counted
+abbrev pub invariant-loop-place : goal.invariant-loop-place
+invariant-loop-place l = record {
+  within : l.place ≤ length l.octets;
+  run : l.self.run ≡ run_behind l.fn.self.run (take l.place l.octets);
+  longest : l.self.longest ≡ longest_behind l.fn.self.run l.fn.self.longest (take l.place l.octets);
 }
+
+abbrev pub decreases-loop-place : goal.decreases-loop-place
+decreases-loop-place l = length l.octets - l.place

@@ -1,7 +1,7 @@
-use Rattle.std.proofs.Common.{refl}
-use Rattle.fax_bits.specs.Bits.{bits_of, word_bits}
+use Rattle.std.proofs.Common.{ap, ◌∙◌}
+use Rattle.fax_bits.specs.Bits.{bits_of}
+use Rattle.fax_bits.proofs.BitsLemmas.{bits_of-nil}
 use Rattle.fax_bits.proofs.writer.BitWriter.new.Goals as goal
 
 pub returns : goal.returns
-unfolding bits_of word_bits
-returns c = rw c.new.ensures.items refl
+returns c = c.of_octets.ensures ∙ ap bits_of (c.from_vec.ensures ∙ c.new.ensures.items) ∙ bits_of-nil

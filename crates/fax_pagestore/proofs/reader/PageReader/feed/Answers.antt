@@ -36,15 +36,19 @@ returns-clause-read g c = λ octets has.
     let all : c.as_slice-2.result.now ≡ c.self.inside.octets.items ++ c.args.piece.now = c.as_slice-2.ensures.value ∙ c.in_ok-append.ensures.ok in
     let more = IsReadUpTo-more c.self.inside.coding (elements_of c.self.inside.format.width) octets c.args.piece.now c.self.inside.octets.items c.as_slice-2.result.now c.self.inside.used
     (g.S.RowStore.rows c.self.inside.rows) c.self.inside.tag c.self.invariant.0 all (before.read not_yet) in
+    let same : c.as_slice-2.result.now ≡ c.as_slice-3.result.now = c.as_slice-2.ensures.value ∙ sym c.as_slice-3.ensures.value in
+    let unread = subst (λ (o : List ℕ). IsReadUpTo c.self.inside.coding (elements_of c.self.inside.format.width) (octets ++ c.args.piece.now) (g.S.RowStore.rows c.self.inside.rows) c.self.inside.tag (drop c.unread_from.result (bits_of o))) (sym same)
+    (c.unread_from.ensures.read c.self.inside.coding (elements_of c.self.inside.format.width) (octets ++ c.args.piece.now) (g.S.RowStore.rows c.self.inside.rows)
+    (subst (λ (o : List ℕ). IsReadUpTo c.self.inside.coding (elements_of c.self.inside.format.width) (octets ++ c.args.piece.now) (g.S.RowStore.rows c.self.inside.rows) c.self.inside.tag (drop c.self.inside.used (bits_of o))) same more)) in
     let left : drop c.in-Ok.reached.place (bits_of c.as_slice-2.result.now) ≡ drop (c.in-Ok.reached.place % 8) (bits_of c.drop_front.new.octets.items) =
     sym (drop_place c.as_slice-2.result.now c.in-Ok.reached.place c.in-Ok.ensures.place)
     ∙ ap (λ (o : List ℕ). drop (c.in-Ok.reached.place % 8) (bits_of o)) (ap (drop (c.in-Ok.reached.place / 8)) c.as_slice-2.ensures.value ∙ sym c.drop_front.ensures) in
     record {
       read = λ later. subst (IsReadUpTo c.self.inside.coding (elements_of c.self.inside.format.width) (octets ++ c.args.piece.now) (g.S.RowStore.rows c.read_up_to.new.rows) c.in-Ok.reached.tag) left
-          (c.in-Ok.ensures.read later (octets ++ c.args.piece.now) more);
+          (c.in-Ok.ensures.read later (octets ++ c.args.piece.now) unread);
       waits = λ later. subst (NoMoreIsWhole c.self.inside.coding (elements_of c.self.inside.format.width) (g.S.RowStore.rows c.read_up_to.new.rows) c.in-Ok.reached.tag) left (c.in-Ok.ensures.waits later);
       settled = λ what is. (
         sym left ∙ nothing_left c.as_slice-2.result.now c.in-Ok.reached.place (c.in-Ok.ensures.all (some_if c.in-Ok.reached.settled what is)),
-        λ behind. c.in-Ok.ensures.settled what is (octets ++ c.args.piece.now) behind more,
+        λ behind. c.in-Ok.ensures.settled what is (octets ++ c.args.piece.now) behind unread,
       );
     }
