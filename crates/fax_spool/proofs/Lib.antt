@@ -8,3 +8,4 @@ mod SpoolSteps
 mod Loops
 mod Shares
 mod Openings
+mod Told

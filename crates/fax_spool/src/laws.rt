@@ -1,10 +1,17 @@
 //! Laws of spools: functions that do nothing, each of whose contracts is a theorem.
 ghost use Rattle.fax_spool.specs.Waits.{SharesWhatWaits};
 ghost use Rattle.fax_spool.specs.Records.{StandsForOneList};
+ghost use Rattle.fax_spool.specs.Spools.{TellsOneList};
 
 /// A file stands for one list of records.
 pub fn files_stand_for_one_list()
     ensures { StandsForOneList }
+{}
+
+/// A file tells one list of records. So what is read of a file behind a crash is what the clauses `crash` of a spool's calls tell
+/// of it, each number as it was put.
+pub fn records_are_read_back()
+    ensures { TellsOneList }
 {}
 
 /// What waits by the records of both files is what is left of the older one's pages behind the newer one's records, and then what
