@@ -9,3 +9,4 @@ mod Loops
 mod Shares
 mod Openings
 mod Told
+mod Doing

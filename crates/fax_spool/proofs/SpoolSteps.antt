@@ -40,7 +40,7 @@ left_pages waits [] (p ∷ pages) = left_pages waits [] pages
 left_pages waits (q ∷ records) pages = left_pages (left_of waits q) records pages
 
 -- and each of them waits
-waiting_pages : (waits : List PageValue) (records : List KeptRecord) (pages : List PageValue) → waiting_behind waits (records ++ map kept_of pages) ≡ waiting_behind waits records ++ pages
+pub waiting_pages : (waits : List PageValue) (records : List KeptRecord) (pages : List PageValue) → waiting_behind waits (records ++ map kept_of pages) ≡ waiting_behind waits records ++ pages
 waiting_pages waits [] [] = sym (append-nil waits)
 waiting_pages waits [] (p ∷ pages) = waiting_pages (waits ++ p ∷ []) [] pages ∙ append_assoc waits (p ∷ []) pages
 waiting_pages waits (q ∷ records) pages = waiting_pages (after waits q) records pages
