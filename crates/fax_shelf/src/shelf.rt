@@ -187,6 +187,13 @@ impl Shelf {
         Ok(())
     }
 
+    /// Pages of a job that ended may be on the disk: from then on no job of the line is told to have ended.
+    pub(crate) fn doubt(&mut self)
+        ensures { self.new ≡ record self.old { is_whole = false } }
+    {
+        self.is_whole = false;
+    }
+
     /// The job that is first in turn ended: so many pages wait no more. `None`: which ones they are is not known, and from then on
     /// that is so of each job of the line.
     pub fn end(&mut self, pages: u32) -> Option<Ended>
