@@ -1,5 +1,5 @@
 //! The pages of a server that are kept on a disk.
-ghost use Rattle.std.specs.Prelude.{◌≡◌, ◌<◌, false, true, List, ◌++◌, All, IsErr, MatchOption, OnErr, OnOk, is_ok, length, slice_get};
+ghost use Rattle.std.specs.Prelude.{ℕ, ◌≡◌, ◌<◌, false, true, List, ◌++◌, All, IsErr, MatchOption, None, Some, OnErr, OnOk, is_ok, length, slice_get};
 ghost use Rattle.fax_spool.specs.Calls.{Refuses};
 ghost use Rattle.fax_spool.specs.RecordOctets.{PageValue as SpoolPage};
 ghost use Rattle.fax_spool.specs.Spools.{epoch_now};
@@ -8,7 +8,7 @@ ghost use Rattle.fax_line.specs.declared.settling.PageToKeep.{PageToKeep as ToKe
 ghost use Rattle.fax_shelf.specs.Jobs.{EndsJob, EndsJobAt, PagesWait};
 ghost use Rattle.fax_shelf.specs.Keeping.{AddAll, AddsAt, Agree, AllAreAmong, ArePut, HaveOwnNames, KeepsPages};
 ghost use Rattle.fax_shelf.specs.Refusals.{AreRefused, EndsSomehow, EndsSomehowAt, PutsEnd, WaitSo, notes_of};
-ghost use Rattle.fax_shelf.specs.Shelves.{is_of_earlier_life};
+ghost use Rattle.fax_shelf.specs.Shelves.{first_tag, is_of_earlier_life};
 
 use crate::putting::{CallTag, Names, put_pages};
 use crate::shelf::{Ended, Shelf, Waiting};
@@ -95,7 +95,9 @@ impl Keeping {
     }
 
     /// The tag of the job of line i that is first in turn, where that was confirmed in an earlier life.
-    pub fn restored_tag(&self, i: usize) -> Option<&str> {
+    pub fn restored_tag(&self, i: usize) -> Option<&str>
+        ensures { MatchOption (slice_get self.now.shelves.items i) (result ≡ None) (λ shelf. MatchOption result (first_tag shelf ≡ None) (λ tag. first_tag shelf ≡ Some tag.now)) }
+    {
         match self.shelves.get(i) {
             Some(shelf) => shelf.restored_tag(),
             None => None,
@@ -125,6 +127,7 @@ impl Keeping {
     /// A page of line i that was confirmed in this call was not handed over, as for want of memory: it waits, and is not on the disk.
     pub fn note(&mut self, i: usize, call: u32)
         ensures spool { self.new.spool ≡ self.old.spool }
+        ensures waits { (number : ℕ) × AddsAt (record { life = self.old.life; call = call; number = number; is_kept = false }) i self.old.shelves.items self.new.shelves.items }
         ensures names { (names : List PageName) → AllAreAmong self.old.shelves.items names → AllAreAmong self.new.shelves.items names }
     {
         let number = self.next_number(i, call);
