@@ -26,6 +26,11 @@ impl From<io::Error> for FolderFault {
 }
 
 impl From<AllocError> for FolderFault {
+    ghost use Rattle.std.specs.Prelude.{◌≡◌};
+    ghost use Rattle.fax_keep.specs.declared.fault.FolderFault.TheVariants as faults;
+
+    ghost from_gives = { λ _ fault. fault ≡ faults.NoMemory };
+
     fn from(_error: AllocError) -> FolderFault {
         FolderFault::NoMemory
     }

@@ -1,5 +1,6 @@
 //! Both files of a spool in a folder.
 ghost use Rattle.std.specs.Prelude.{◌≡◌, IfOk};
+ghost use Rattle.fax_spool.specs.Calls.{Accepts};
 ghost use Rattle.fax_spool.specs.Spools.{AreClean, files_of};
 ghost use Rattle.fax_spool.specs.Opened.{IsOpened};
 
@@ -20,6 +21,7 @@ pub fn open_folder<S: Start>(
 ) -> Result<Opened<FileFrom<S>>, FolderFault>
     ensures opened { IfOk result (λ opened. AreClean ⟦<FileFrom<S> as Disk>⟧.is_clean (files_of opened.spool)
         → IsOpened ⟦<FileFrom<S> as Disk>⟧.seen ⟦<FileFrom<S> as Disk>⟧.may_leave ⟦<FileFrom<S> as Disk>⟧.is_usable S.db S.log opened) }
+    ensures accepts { IfOk result (λ opened. Accepts opened.spool) }
 {
     let path = format!(in rt.alloc(); "{folder}/pages")?;
     let files = open(rt, path.as_str(), start)?;
@@ -30,7 +32,8 @@ pub fn open_folder<S: Start>(
 /// A system that has spools in folders.
 pub trait Folders {
     /// Opens the spool of a folder, as `open_folder`.
-    fn open_spool(&self, folder: &str) -> Result<Opened<KeptFile>, FolderFault>;
+    fn open_spool(&self, folder: &str) -> Result<Opened<KeptFile>, FolderFault>
+        ensures accepts { IfOk result (λ opened. Accepts opened.spool) };
 }
 
 impl Folders for HostRuntime {

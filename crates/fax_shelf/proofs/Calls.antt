@@ -8,7 +8,6 @@ use Rattle.fax_spool.specs.RecordOctets as spool
 use Rattle.fax_gateway.specs.Restored.{RestoredCall, call_shown, confirmation_shown}
 use Rattle.fax_gateway.specs.declared.restored.RestoredCall as shown
 use Rattle.std.proofs.lemmas.List.{append-nil, map-append}
-use Rattle.fax_shelf.specs.Shelves.{ShelfValue}
 use Rattle.fax_shelf.specs.declared.shelf.Waiting.{Waiting}
 use Rattle.fax_shelf.specs.declared.restored.Restored.{Restored}
 use Rattle.fax_shelf.specs.Restorations.{AreIn, AreRead, Means, MeansNone, ReadPage, Restores, before, before_all, begins, begun, call_with, calls_of, confirmation_of, in_one_call, onto_last, own_pages, waiting_of}
@@ -171,15 +170,15 @@ restores_more line pages w page old new is means more was = record {
 }
 
 pub restores_aside : (line : List ℕ) (pages : List spool.PageValue) (w : spool.PageValue) (old new : Restored) → bytes_eq w.line line ≡ true → MeansNone w
-    → map call_shown new.calls.items ≡ map call_shown old.calls.items → new.shelf ≡ old.shelf → Restores line pages old → Restores line (pages ++ w ∷ []) new
-restores_aside line pages w old new is none calls shelf was = record {
+    → map call_shown new.calls.items ≡ map call_shown old.calls.items → new.shelf.line ≡ old.shelf.line → new.shelf.waits ≡ old.shelf.waits → Restores line pages old → Restores line (pages ++ w ∷ []) new
+restores_aside line pages w old new is none calls named waits was = record {
   read = was.read;
   own = subst (λ (l : List spool.PageValue). AreRead l was.read) (sym (own_more line pages w ∙ ap (λ (l : List spool.PageValue). own_pages line pages ++ l) (own_one line w true is)))
       (read_aside (own_pages line pages) was.read w was.own none);
   are = record {
-    named = ap (λ (s : ShelfValue). s.line) shelf ∙ was.are.named;
+    named = named ∙ was.are.named;
     calls = calls ∙ was.are.calls;
-    waits = ap (λ (s : ShelfValue). s.waits) shelf ∙ was.are.waits;
+    waits = waits ∙ was.are.waits;
   };
 }
 
@@ -199,9 +198,9 @@ taken (Ok u) line w page old new is means more = λ pages was. restores_more lin
 taken (Err e) line w page old new is means more = more
 
 pub put_aside : {E : Type 0} (answer : Result (Unit {0}) E) (line : List ℕ) (w : spool.PageValue) (old new : Restored) → bytes_eq w.line line ≡ true → MeansNone w
-    → map call_shown new.calls.items ≡ map call_shown old.calls.items → new.shelf ≡ old.shelf → OnOk answer ((pages : List spool.PageValue) → Restores line pages old → Restores line (pages ++ w ∷ []) new)
-put_aside (Ok u) line w old new is none calls waits = λ pages was. restores_aside line pages w old new is none calls waits was
-put_aside (Err e) line w old new is none calls waits = tt
+    → map call_shown new.calls.items ≡ map call_shown old.calls.items → new.shelf.line ≡ old.shelf.line → new.shelf.waits ≡ old.shelf.waits → OnOk answer ((pages : List spool.PageValue) → Restores line pages old → Restores line (pages ++ w ∷ []) new)
+put_aside (Ok u) line w old new is none calls named waits = λ pages was. restores_aside line pages w old new is none calls named waits was
+put_aside (Err e) line w old new is none calls named waits = tt
 
 -- where no page waits there is no call
 pub no_calls : (line : List ℕ) (pages : List spool.PageValue) (restored : Restored) → Restores line pages restored → pages ≡ [] → map call_shown restored.calls.items ≡ []

@@ -6,3 +6,4 @@ mod Records
 mod Shelving
 mod Slots
 mod Waits
+mod Refusing

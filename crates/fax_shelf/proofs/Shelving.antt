@@ -13,12 +13,11 @@ use Rattle.fax_spool.specs.Spools.{Keeps}
 use Rattle.fax_spool.specs.KeptRecords.{kept_of}
 use Rattle.fax_spool.specs.Waits.{PageName, ends, name_of, waiting, without}
 use Rattle.fax_spool.specs.declared.kept_record.KeptRecord.{KeptRecord}
-use Rattle.fax_spool.specs.declared.kept_record.KeptRecord.TheVariants.{Page}
 use Rattle.fax_spool.specs.declared.spool.Spool.{Spool}
 use Rattle.fax_shelf.specs.declared.shelf.Waiting.{Waiting}
 use Rattle.fax_shelf.specs.Shelves.{AreAmong, IsAmong, IsShelved, ShelfValue, left_by, lines_of, name_in}
 use Rattle.fax_shelf.specs.Jobs.{EndsJobAt, PagesWait}
-use Rattle.fax_shelf.specs.Keeping.{AddAll, AddsAt, AddsTo, Agree, AllAreAmong, AllArePut, ArePut, AreRecordsUnder, HaveOwnNames, IsOther, IsPut, IsRecordUnder, PutsRecords, noted_as, placed_as}
+use Rattle.fax_shelf.specs.Keeping.{AddAll, AddsAt, AddsTo, Agree, AllAreAmong, AllArePlaced, AllArePut, ArePut, AreRecordsUnder, HaveOwnNames, IsOther, IsPlaced, IsPut, IsRecordUnder, PutsRecords, noted_as, placed_as}
 use Rattle.fax_shelf.proofs.Waits.{ends_none_of, none_is_forgotten, put_behind}
 
 -- ---- what waits
@@ -47,15 +46,15 @@ lines_stay page place olds news (Some old) at adds = ap lines_of adds.1 ∙ set_
 
 -- ---- pages that are put
 
-placed_so : (page : PageValue) (life call number : ℕ) → page.life ≡ life → page.call ≡ call → page.number ≡ number → record { life = life; call = call; number = number; is_kept = true } ≡ placed_as page true
-placed_so page life call number a b c = cc
+placed_so : (b : Bool) (page : PageValue) (life call number : ℕ) → page.life ≡ life → page.call ≡ call → page.number ≡ number → record { life = life; call = call; number = number; is_kept = b } ≡ placed_as page b
+placed_so b page life call number lives calls numbers = cc
 
-put_at :
-    (life number : ℕ) (page : PageToKeep) (value : PageValue) (olds news : List ShelfValue) (o : Option ShelfValue) → slice_get olds page.line ≡ o → slice_get (lines_of olds) page.line ≡ Some value.line
-    → IsRecordUnder life page number value → AddsTo (noted_as life number true page) page.line olds news o → IsPut page value olds news
-put_at life number page value olds news None at line is adds =
+placed_at :
+    (b : Bool) (life number : ℕ) (page : PageToKeep) (value : PageValue) (olds news : List ShelfValue) (o : Option ShelfValue) → slice_get olds page.line ≡ o → slice_get (lines_of olds) page.line ≡ Some value.line
+    → IsRecordUnder life page number value → AddsTo (noted_as life number b page) page.line olds news o → IsPlaced b page value olds news
+placed_at b life number page value olds news None at line is adds =
     let none : None ≡ Some value.line = sym (slice_get-map (λ (s : ShelfValue). s.line) olds page.line ∙ ap (option_map (λ (s : ShelfValue). s.line)) at) ∙ line in cc
-put_at life number page value olds news (Some old) at line is adds =
+placed_at b life number page value olds news (Some old) at line is adds =
     let its : Some old.line ≡ Some value.line = sym (slice_get-map (λ (s : ShelfValue). s.line) olds page.line ∙ ap (option_map (λ (s : ShelfValue). s.line)) at) ∙ line in record {
       is_record = is.is_record;
       old = old;
@@ -63,23 +62,23 @@ put_at life number page value olds news (Some old) at line is adds =
       was = at;
       are = adds.1;
       line_is = cc;
-      shelved = subst (λ (w : Waiting). IsShelved w old adds.0) (placed_so value life page.kept.call number is.life_is is.call_is is.number_is) adds.2;
+      shelved = subst (λ (w : Waiting). IsShelved w old adds.0) (placed_so b value life page.kept.call number is.life_is is.call_is is.number_is) adds.2;
     }
 
-all_put :
-    (life : ℕ) (pages : List PageToKeep) (numbers : List ℕ) (values : List PageValue) (olds news : List ShelfValue) → AreRecordsUnder life (lines_of olds) pages numbers values
-    → AddAll life true pages numbers olds news → AllArePut pages values olds news
-all_put life [] [] [] olds news are adds = adds
-all_put life [] (n ∷ numbers) [] olds news are adds = adds
-all_put life [] [] (v ∷ values) olds news are adds = absurd are
-all_put life [] (n ∷ numbers) (v ∷ values) olds news are adds = absurd are
-all_put life (p ∷ pages) [] values olds news are adds = absurd are
-all_put life (p ∷ pages) (n ∷ numbers) [] olds news are adds = absurd are
-all_put life (p ∷ pages) (n ∷ numbers) (v ∷ values) olds news are adds =
-    let same : lines_of adds.0 ≡ lines_of olds = lines_stay (noted_as life n true p) p.line olds adds.0 (slice_get olds p.line) refl adds.1 in (
+pub all_placed :
+    (life : ℕ) (b : Bool) (pages : List PageToKeep) (numbers : List ℕ) (values : List PageValue) (olds news : List ShelfValue) → AreRecordsUnder life (lines_of olds) pages numbers values
+    → AddAll life b pages numbers olds news → AllArePlaced b pages values olds news
+all_placed life b [] [] [] olds news are adds = adds
+all_placed life b [] (n ∷ numbers) [] olds news are adds = adds
+all_placed life b [] [] (v ∷ values) olds news are adds = absurd are
+all_placed life b [] (n ∷ numbers) (v ∷ values) olds news are adds = absurd are
+all_placed life b (p ∷ pages) [] values olds news are adds = absurd are
+all_placed life b (p ∷ pages) (n ∷ numbers) [] olds news are adds = absurd are
+all_placed life b (p ∷ pages) (n ∷ numbers) (v ∷ values) olds news are adds =
+    let same : lines_of adds.0 ≡ lines_of olds = lines_stay (noted_as life n b p) p.line olds adds.0 (slice_get olds p.line) refl adds.1 in (
       adds.0,
-      put_at life n p v olds adds.0 (slice_get olds p.line) refl are.0 are.1 adds.1,
-      all_put life pages numbers values adds.0 news (subst (λ (l : List (List ℕ)). AreRecordsUnder life l pages numbers values) (sym same) are.2) adds.2,
+      placed_at b life n p v olds adds.0 (slice_get olds p.line) refl are.0 are.1 adds.1,
+      all_placed life b pages numbers values adds.0 news (subst (λ (l : List (List ℕ)). AreRecordsUnder life l pages numbers values) (sym same) are.2) adds.2,
     )
 
 -- what else changes of a server's keeping leaves the pages put
@@ -92,7 +91,7 @@ pub put_through :
     → OnOk answer (ArePut seen may_leave is_usable pages olds news before last)
 put_through {D = D} seen may_leave is_usable (Ok u) life pages numbers numbers_1 numbers_2 b olds olds_1 olds_2 news before before_1 put last e1 e2 e3 e4 e5 e6 kept puts adds = record {
   values = puts.values;
-  shelved = all_put life pages numbers puts.values olds news
+  shelved = all_placed life true pages numbers puts.values olds news
       (subst (λ (l : List ShelfValue). AreRecordsUnder life (lines_of l) pages numbers puts.values) e3 (subst (λ (n : List ℕ). AreRecordsUnder life (lines_of olds_1) pages n puts.values) e1 puts.are))
       (subst (λ (l : List ShelfValue). AddAll life true pages numbers l news) e4
       (subst (λ (n : List ℕ). AddAll life true pages n olds_2 news) e2

@@ -1,18 +1,14 @@
 -- The pages that wait on a disk, and what the end of a job makes of them. (This project's profile.)
-use Rattle.std.specs.Prelude.{◌≡◌, ℕ, Bool, List, ◌++◌, drop, Some, slice_get, slice_set}
+use Rattle.std.specs.Prelude.{◌≡◌, ℕ, Bool, List, drop, Some, slice_get, slice_set}
 use Rattle.fax_spool.specs.RecordOctets.{EndedValue, PageValue}
-use Rattle.fax_spool.specs.Spools.{Keeps}
-use Rattle.fax_spool.specs.Waits.{waiting, without}
-use Rattle.fax_spool.specs.declared.kept_record.KeptRecord.{KeptRecord}
+use Rattle.fax_spool.specs.Calls.{Rests}
+use Rattle.fax_spool.specs.Waits.{without}
 use Rattle.fax_spool.specs.declared.spool.Spool.{Spool}
 use Rattle.fax_shelf.specs.Shelves.{ShelfValue, left_by}
 
 -- THESE PAGES WAIT ON THE DISK, in the order in which they were put, whatever crash follows.
-pub record PagesWait {D : Type 0} (seen : D → List ℕ) (may_leave : D → List ℕ → Type 0) (is_usable : D → Bool) (spool : Spool D) (pages : List PageValue) : Type 0 where
-  pub olds : List KeptRecord
-  pub news : List KeptRecord
-  pub kept : Keeps seen may_leave is_usable spool olds news
-  pub wait : waiting (olds ++ news) ≡ pages
+abbrev pub PagesWait : {D : Type 0} → (D → List ℕ) → (D → List ℕ → Type 0) → (D → Bool) → Spool D → List PageValue → Type 0
+PagesWait seen may_leave is_usable spool pages = Rests seen may_leave is_usable spool pages
 
 -- A JOB OF SO MANY PAGES ENDED: they are the first of its line's shelf, and leave it; and the record of its end is on the disk,
 -- which names no page that stays on the shelf.

@@ -81,21 +81,29 @@ AddAll life is_kept (page ∷ pages) (number ∷ numbers) olds news =
 AddAll life is_kept (page ∷ pages) [] olds news =
     (number : ℕ) × (between : List ShelfValue) × AddsAt (noted_as life number is_kept page) page.line olds between × AddAll life is_kept pages [] between news
 
--- A page whose record is this is on its line's shelf, under the name of the record; the others are as they were.
-pub record IsPut (page : PageToKeep) (value : PageValue) (olds news : List ShelfValue) : Type 0 where
+-- A page whose record is this is on its line's shelf, under the name of the record, as one that is on the disk or not; the others
+-- are as they were.
+pub record IsPlaced (is_there : Bool) (page : PageToKeep) (value : PageValue) (olds news : List ShelfValue) : Type 0 where
   pub is_record : IsRecordOf page (Page value)
   pub old : ShelfValue
   pub new : ShelfValue
   pub was : slice_get olds page.line ≡ Some old
   pub are : news ≡ slice_set olds page.line new
   pub line_is : value.line ≡ old.line
-  pub shelved : IsShelved (placed_as value true) old new
+  pub shelved : IsShelved (placed_as value is_there) old new
+
+abbrev pub IsPut : PageToKeep → PageValue → List ShelfValue → List ShelfValue → Type 0
+IsPut page value olds news = IsPlaced true page value olds news
 
 -- one after another
+abbrev pub AllArePlaced : Bool → List PageToKeep → List PageValue → List ShelfValue → List ShelfValue → Type 0
+AllArePlaced is_there [] [] olds news = news ≡ olds
+AllArePlaced is_there (page ∷ pages) (value ∷ values) olds news =
+    (between : List ShelfValue) × IsPlaced is_there page value olds between × AllArePlaced is_there pages values between news
+AllArePlaced is_there pages values olds news = ⊥
+
 abbrev pub AllArePut : List PageToKeep → List PageValue → List ShelfValue → List ShelfValue → Type 0
-AllArePut [] [] olds news = news ≡ olds
-AllArePut (page ∷ pages) (value ∷ values) olds news = (between : List ShelfValue) × IsPut page value olds between × AllArePut pages values between news
-AllArePut pages values olds news = ⊥
+AllArePut pages values olds news = AllArePlaced true pages values olds news
 
 -- PAGES ARE PUT: their records wait on the disk behind the others, each under the name that its page has on its line's shelf.
 pub record ArePut {D : Type 0} (seen : D → List ℕ) (may_leave : D → List ℕ → Type 0) (is_usable : D → Bool) (pages : List PageToKeep) (olds news : List ShelfValue) (before after : Spool D) : Type 0 where

@@ -1,5 +1,6 @@
 pub mod Jobs
 pub mod Keeping
 pub mod Lives
+pub mod Refusals
 pub mod Restorations
 pub mod Shelves

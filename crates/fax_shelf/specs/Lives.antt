@@ -205,19 +205,25 @@ PutsAreDeeds =
     → Goes old.line (Keeps given page) (state_of old before pages) (state_of new after (pages ++ page.waits ∷ []))
 
 -- each is on its line's shelf, by what that was before all of them and is behind them
-pub record IsShelvedOf (page : PageToKeep) (value : spool.PageValue) (olds news : List ShelfValue) : Type 0 where
+pub record IsPlacedOf (is_there : Bool) (page : PageToKeep) (value : spool.PageValue) (olds news : List ShelfValue) : Type 0 where
   pub old : ShelfValue
   pub new : ShelfValue
   pub was : slice_get olds page.line ≡ Some old
   pub is : slice_get news page.line ≡ Some new
   pub is_record : IsRecordOf page (Page value)
   pub line_is : value.line ≡ old.line
-  pub shelved : IsShelved (placed_as value true) old new
+  pub shelved : IsShelved (placed_as value is_there) old new
+
+abbrev pub EachIsPlaced : Bool → List PageToKeep → List spool.PageValue → List ShelfValue → List ShelfValue → Type 0
+EachIsPlaced is_there [] [] olds news = Unit {0}
+EachIsPlaced is_there (page ∷ pages) (value ∷ values) olds news = IsPlacedOf is_there page value olds news × EachIsPlaced is_there pages values olds news
+EachIsPlaced is_there pages values olds news = ⊥
+
+abbrev pub IsShelvedOf : PageToKeep → spool.PageValue → List ShelfValue → List ShelfValue → Type 0
+IsShelvedOf page value olds news = IsPlacedOf true page value olds news
 
 abbrev pub EachIsShelved : List PageToKeep → List spool.PageValue → List ShelfValue → List ShelfValue → Type 0
-EachIsShelved [] [] olds news = Unit {0}
-EachIsShelved (page ∷ pages) (value ∷ values) olds news = IsShelvedOf page value olds news × EachIsShelved pages values olds news
-EachIsShelved pages values olds news = ⊥
+EachIsShelved pages values olds news = EachIsPlaced true pages values olds news
 
 -- Pages of lines one each, as a slot's turn hands them over (`ArePagesOf`): each is put as if it were alone, and no other shelf changes.
 abbrev pub SlotsArePuts : Type 0

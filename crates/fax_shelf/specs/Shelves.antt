@@ -1,16 +1,38 @@
 -- What a server knows of the pages of a line that wait. Lists have the oldest first. (This project's profile.)
-use Rattle.std.specs.Prelude.{◌≡◌, ℕ, ◌<◌, ◌≤◌, ◌⊎◌, Bool, true, false, not, nat_eq, List, [], ◌∷◌, ◌++◌, length, map, take, drop, count_by}
+use Rattle.std.specs.Prelude.{◌≡◌, ℕ, ◌<◌, ◌≤◌, ◌⊎◌, Bool, true, false, not, ◌&&◌, nat_eq, List, [], ◌∷◌, ◌++◌, length, map, take, drop, count_by, Option, None, Some, if◌then◌else◌}
 use Rattle.std.specs.List.{filter}
 use Rattle.fax_spool.specs.RecordOctets.{EndedValue, PageValue}
 use Rattle.fax_spool.specs.Waits.{PageName, ends, name_of, without}
 use Rattle.fax_shelf.specs.declared.shelf.Waiting.{Waiting}
 use Rattle.fax_shelf.specs.declared.shelf.Ended.{Ended}
 
--- the name of the line, its pages that wait, and whether these are all of them, in the order in which they came
+-- the tag of a call of an earlier life
+pub record TagValue : Type 0 where
+  pub life : ℕ
+  pub call : ℕ
+  pub tag : List ℕ
+
+-- The name of the line, its pages that wait, and whether these are all of them, in the order in which they came; the tags of calls
+-- of earlier lives; and which pages of earlier lives mean none, by their calls and numbers.
 pub record ShelfValue : Type 0 where
   pub line : List ℕ
   pub waits : List Waiting
   pub is_whole : Bool
+  pub tags : List TagValue
+  pub aside : List (ℕ × ℕ)
+
+-- the tag of a call, where one of these is
+abbrev pub tag_in : List TagValue → ℕ → ℕ → Option (List ℕ)
+tag_in [] life call = None
+tag_in (t ∷ tags) life call = if nat_eq t.life life && nat_eq t.call call then Some t.tag else tag_in tags life call
+
+-- the tag of the job that is first in turn, where its call has one
+abbrev pub first_tag_of : List TagValue → List Waiting → Option (List ℕ)
+first_tag_of tags [] = None
+first_tag_of tags (page ∷ pages) = tag_in tags page.life page.call
+
+abbrev pub first_tag : ShelfValue → Option (List ℕ)
+first_tag shelf = first_tag_of shelf.tags shelf.waits
 
 -- the names of the lines, in their order
 abbrev pub lines_of : List ShelfValue → List (List ℕ)
@@ -30,6 +52,8 @@ pub record IsShelved (page : Waiting) (old new : ShelfValue) : Type 0 where
   pub line : new.line ≡ old.line
   pub whole : new.is_whole ≡ true → (old.is_whole ≡ true) × (new.waits ≡ old.waits ++ page ∷ [])
   pub waits : (new.waits ≡ old.waits ++ page ∷ []) ⊎ (new.waits ≡ old.waits)
+  pub tags : new.tags ≡ old.tags
+  pub aside : new.aside ≡ old.aside
 
 -- which page of all it is
 abbrev pub name_in : List ℕ → Waiting → PageName

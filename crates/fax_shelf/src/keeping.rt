@@ -1,15 +1,17 @@
 //! The pages of a server that are kept on a disk.
-ghost use Rattle.std.specs.Prelude.{◌≡◌, false, List, ◌++◌, MatchOption, OnErr, OnOk, slice_get};
+ghost use Rattle.std.specs.Prelude.{ℕ, ◌≡◌, ◌<◌, false, true, List, ◌++◌, All, IsErr, MatchOption, None, Some, OnErr, OnOk, is_ok, length, slice_get};
+ghost use Rattle.fax_spool.specs.Calls.{Refuses};
 ghost use Rattle.fax_spool.specs.RecordOctets.{PageValue as SpoolPage};
 ghost use Rattle.fax_spool.specs.Spools.{epoch_now};
 ghost use Rattle.fax_spool.specs.Waits.{PageName};
 ghost use Rattle.fax_line.specs.declared.settling.PageToKeep.{PageToKeep as ToKeep};
 ghost use Rattle.fax_shelf.specs.Jobs.{EndsJob, EndsJobAt, PagesWait};
 ghost use Rattle.fax_shelf.specs.Keeping.{AddAll, AddsAt, Agree, AllAreAmong, ArePut, HaveOwnNames, KeepsPages};
-ghost use Rattle.fax_shelf.specs.Shelves.{is_of_earlier_life};
+ghost use Rattle.fax_shelf.specs.Refusals.{AreRefused, EndsSomehow, EndsSomehowAt, PutsEnd, WaitSo, notes_of};
+ghost use Rattle.fax_shelf.specs.Shelves.{first_tag, is_of_earlier_life};
 
 use crate::putting::{CallTag, Names, put_pages};
-use crate::shelf::{Shelf, Waiting};
+use crate::shelf::{Ended, Shelf, Waiting};
 use fax_hold::{KeepFault, Keeper};
 use fax_jobs::Report;
 use fax_keep::KeptFile;
@@ -21,6 +23,9 @@ use std::alloc::Global;
 
 /// Where so many octets were put into a file, the other one is taken into use once it is empty.
 const MOST_OCTETS: usize = 16 * 1024 * 1024;
+
+/// The most octets of the name of a line.
+const MOST_NAME: usize = 255;
 
 /// What the record of a page has beside its text and its names, in octets, at most.
 const RECORD_OCTETS: usize = 64;
@@ -90,7 +95,9 @@ impl Keeping {
     }
 
     /// The tag of the job of line i that is first in turn, where that was confirmed in an earlier life.
-    pub fn restored_tag(&self, i: usize) -> Option<&str> {
+    pub fn restored_tag(&self, i: usize) -> Option<&str>
+        ensures { MatchOption (slice_get self.now.shelves.items i) (result ≡ None) (λ shelf. MatchOption result (first_tag shelf ≡ None) (λ tag. first_tag shelf ≡ Some tag.now)) }
+    {
         match self.shelves.get(i) {
             Some(shelf) => shelf.restored_tag(),
             None => None,
@@ -120,6 +127,7 @@ impl Keeping {
     /// A page of line i that was confirmed in this call was not handed over, as for want of memory: it waits, and is not on the disk.
     pub fn note(&mut self, i: usize, call: u32)
         ensures spool { self.new.spool ≡ self.old.spool }
+        ensures waits { (number : ℕ) × AddsAt (record { life = self.old.life; call = call; number = number; is_kept = false }) i self.old.shelves.items self.new.shelves.items }
         ensures names { (names : List PageName) → AllAreAmong self.old.shelves.items names → AllAreAmong self.new.shelves.items names }
     {
         let number = self.next_number(i, call);
@@ -201,11 +209,13 @@ impl Keeping {
     }
 
     /// The job of line i that was first in turn ended: its pages wait no more. An `Err`: that was not noted, since none of them is on
-    /// the disk, or it could not be, so that they are restored at the next start, and sent again; or the disk failed behind it, and
-    /// the spool refuses the pages from then on.
+    /// the disk; or it could not be, so that they are restored at the next start, and sent again, and no later end of the line is
+    /// noted in this life; or the disk failed, so that it is noted or not, and the spool refuses everything from then on.
     pub fn end(&mut self, i: usize, report: Report) -> Result<(), KeepFault>
         ensures agree { OnOk result (HaveOwnNames self.old.shelves.items → Agree ⟦<KeptFile as Disk>⟧.seen ⟦<KeptFile as Disk>⟧.may_leave ⟦<KeptFile as Disk>⟧.is_usable self.old.spool self.old.shelves.items → Agree ⟦<KeptFile as Disk>⟧.seen ⟦<KeptFile as Disk>⟧.may_leave ⟦<KeptFile as Disk>⟧.is_usable self.new.spool self.new.shelves.items) }
         ensures ends { OnOk result (EndsJobAt ⟦<KeptFile as Disk>⟧.seen ⟦<KeptFile as Disk>⟧.may_leave ⟦<KeptFile as Disk>⟧.is_usable report.pages i self.old.shelves.items self.new.shelves.items self.old.spool self.new.spool) }
+        ensures deed { OnErr result (i < length self.old.shelves.items → EndsSomehowAt ⟦<KeptFile as Disk>⟧.seen ⟦<KeptFile as Disk>⟧.may_leave ⟦<KeptFile as Disk>⟧.is_usable report.pages i self.old.shelves.items self.new.shelves.items self.old.spool self.new.spool) }
+        ensures refuses { Refuses self.old.spool → IsErr result × (self.new.spool ≡ self.old.spool) }
     {
         if i >= self.shelves.len() {
             return Err(KeepFault);
@@ -225,15 +235,41 @@ fn put_end(
     shelf: &mut Shelf,
     report: Report,
 ) -> Result<u64, KeepFault>
-    ensures { OnOk result (EndsJob ⟦<KeptFile as Disk>⟧.seen ⟦<KeptFile as Disk>⟧.may_leave ⟦<KeptFile as Disk>⟧.is_usable report.pages shelf.old shelf.new spool.old spool.new) }
+    ensures ends { OnOk result (EndsJob ⟦<KeptFile as Disk>⟧.seen ⟦<KeptFile as Disk>⟧.may_leave ⟦<KeptFile as Disk>⟧.is_usable report.pages shelf.old shelf.new spool.old spool.new) }
+    ensures sure { OnOk result (notes_of spool.old shelf.old ≡ true) }
+    ensures deed { OnErr result (EndsSomehow ⟦<KeptFile as Disk>⟧.seen ⟦<KeptFile as Disk>⟧.may_leave ⟦<KeptFile as Disk>⟧.is_usable report.pages shelf.old shelf.new spool.old spool.new) }
+    ensures refuses { Refuses spool.old → IsErr result × (spool.new ≡ spool.old) }
 {
     let Some(ended) = shelf.end(report.pages) else {
         return Err(KeepFault);
     };
-    let line = shelf.line().as_bytes();
-    if ended.kept == 0 || line.len() > 255 {
+    if ended.kept == 0 {
         return Err(KeepFault);
     }
+    if shelf.line().len() > MOST_NAME {
+        shelf.doubt();
+        return Err(KeepFault);
+    }
+    match put_ended(alloc, spool, shelf.line(), &ended, report) {
+        Ok(()) => Ok(ended.kept),
+        Err(fault) => {
+            shelf.doubt();
+            Err(fault)
+        }
+    }
+}
+
+/// Puts the record of the end of these pages into a spool.
+fn put_ended(
+    alloc: Global,
+    spool: &mut Spool<KeptFile>,
+    line: &str,
+    ended: &Ended,
+    report: Report,
+) -> Result<(), KeepFault>
+    requires { length line.now < 256 }
+    ensures { PutsEnd ⟦<KeptFile as Disk>⟧.seen ⟦<KeptFile as Disk>⟧.may_leave ⟦<KeptFile as Disk>⟧.is_usable ended.now line.now (is_ok result) spool.old spool.new }
+{
     let record = EndedRecord {
         life: ended.life,
         call: ended.call,
@@ -242,12 +278,12 @@ fn put_end(
         delivered: report.delivered,
         format: report.format,
         outcome: report.outcome,
-        line,
+        line: line.as_bytes(),
     };
-    let Ok(()) = spool.end(alloc, &record) else {
-        return Err(KeepFault);
-    };
-    Ok(ended.kept)
+    match spool.end(alloc, &record) {
+        Ok(()) => Ok(()),
+        Err(_) => Err(KeepFault),
+    }
 }
 
 /// The older file is cleared where nothing in it waits; and where so many octets were put into the newer one that they are enough,
@@ -257,8 +293,10 @@ fn change_files(
     spool: &mut Spool<KeptFile>,
     octets: usize,
 ) -> Result<usize, KeepFault>
-    ensures { OnOk result ((waits : List SpoolPage) → PagesWait ⟦<KeptFile as Disk>⟧.seen ⟦<KeptFile as Disk>⟧.may_leave ⟦<KeptFile as Disk>⟧.is_usable spool.old waits
+    ensures stays { OnOk result ((waits : List SpoolPage) → PagesWait ⟦<KeptFile as Disk>⟧.seen ⟦<KeptFile as Disk>⟧.may_leave ⟦<KeptFile as Disk>⟧.is_usable spool.old waits
         → PagesWait ⟦<KeptFile as Disk>⟧.seen ⟦<KeptFile as Disk>⟧.may_leave ⟦<KeptFile as Disk>⟧.is_usable spool.new waits) }
+    ensures told { OnErr result ((waits : List SpoolPage) → PagesWait ⟦<KeptFile as Disk>⟧.seen ⟦<KeptFile as Disk>⟧.may_leave ⟦<KeptFile as Disk>⟧.is_usable spool.old waits
+        → WaitSo ⟦<KeptFile as Disk>⟧.seen ⟦<KeptFile as Disk>⟧.may_leave ⟦<KeptFile as Disk>⟧.is_usable spool.new (λ told. told ≡ waits)) }
 {
     clear_older(spool)?;
     if octets < MOST_OCTETS {
@@ -270,25 +308,29 @@ fn change_files(
 
 /// The older file is cleared where nothing in it waits.
 fn clear_older(spool: &mut Spool<KeptFile>) -> Result<bool, KeepFault>
-    ensures { OnOk result ((waits : List SpoolPage) → PagesWait ⟦<KeptFile as Disk>⟧.seen ⟦<KeptFile as Disk>⟧.may_leave ⟦<KeptFile as Disk>⟧.is_usable spool.old waits
+    ensures stays { OnOk result ((waits : List SpoolPage) → PagesWait ⟦<KeptFile as Disk>⟧.seen ⟦<KeptFile as Disk>⟧.may_leave ⟦<KeptFile as Disk>⟧.is_usable spool.old waits
         → PagesWait ⟦<KeptFile as Disk>⟧.seen ⟦<KeptFile as Disk>⟧.may_leave ⟦<KeptFile as Disk>⟧.is_usable spool.new waits) }
+    ensures told { OnErr result ((waits : List SpoolPage) → PagesWait ⟦<KeptFile as Disk>⟧.seen ⟦<KeptFile as Disk>⟧.may_leave ⟦<KeptFile as Disk>⟧.is_usable spool.old waits
+        → WaitSo ⟦<KeptFile as Disk>⟧.seen ⟦<KeptFile as Disk>⟧.may_leave ⟦<KeptFile as Disk>⟧.is_usable spool.new (λ told. told ≡ waits)) }
 {
     files_share_what_waits();
-    let Ok(was) = spool.clear() else {
-        return Err(KeepFault);
-    };
-    Ok(was)
+    match spool.clear() {
+        Ok(was) => Ok(was),
+        Err(_) => Err(KeepFault),
+    }
 }
 
 /// The other file is taken into use where it is empty.
 fn change(alloc: Global, spool: &mut Spool<KeptFile>) -> Result<bool, KeepFault>
-    ensures { OnOk result ((waits : List SpoolPage) → PagesWait ⟦<KeptFile as Disk>⟧.seen ⟦<KeptFile as Disk>⟧.may_leave ⟦<KeptFile as Disk>⟧.is_usable spool.old waits
+    ensures stays { OnOk result ((waits : List SpoolPage) → PagesWait ⟦<KeptFile as Disk>⟧.seen ⟦<KeptFile as Disk>⟧.may_leave ⟦<KeptFile as Disk>⟧.is_usable spool.old waits
         → PagesWait ⟦<KeptFile as Disk>⟧.seen ⟦<KeptFile as Disk>⟧.may_leave ⟦<KeptFile as Disk>⟧.is_usable spool.new waits) }
+    ensures told { OnErr result ((waits : List SpoolPage) → PagesWait ⟦<KeptFile as Disk>⟧.seen ⟦<KeptFile as Disk>⟧.may_leave ⟦<KeptFile as Disk>⟧.is_usable spool.old waits
+        → WaitSo ⟦<KeptFile as Disk>⟧.seen ⟦<KeptFile as Disk>⟧.may_leave ⟦<KeptFile as Disk>⟧.is_usable spool.new (λ told. told ≡ waits)) }
 {
-    let Ok(was) = spool.change(alloc) else {
-        return Err(KeepFault);
-    };
-    Ok(was)
+    match spool.change(alloc) {
+        Ok(was) => Ok(was),
+        Err(_) => Err(KeepFault),
+    }
 }
 
 /// What it keeps are records of its spool.
@@ -303,6 +345,8 @@ impl Keeper<PageToKeep> for Keeping {
         ensures put { OnOk result (ArePut ⟦<KeptFile as Disk>⟧.seen ⟦<KeptFile as Disk>⟧.may_leave ⟦<KeptFile as Disk>⟧.is_usable pages.now self.old.shelves.items self.new.shelves.items self.old.spool self.new.spool) }
         ensures agree { OnOk result (Agree ⟦<KeptFile as Disk>⟧.seen ⟦<KeptFile as Disk>⟧.may_leave ⟦<KeptFile as Disk>⟧.is_usable self.old.spool self.old.shelves.items → Agree ⟦<KeptFile as Disk>⟧.seen ⟦<KeptFile as Disk>⟧.may_leave ⟦<KeptFile as Disk>⟧.is_usable self.new.spool self.new.shelves.items) }
         ensures names { OnErr result ((names : List PageName) → AllAreAmong self.old.shelves.items names → AllAreAmong self.new.shelves.items names) }
+        ensures refused { OnErr result (All (λ page. page.line < length self.old.shelves.items) pages.now → AreRefused ⟦<KeptFile as Disk>⟧.seen ⟦<KeptFile as Disk>⟧.may_leave ⟦<KeptFile as Disk>⟧.is_usable pages.now self.old.shelves.items self.new.shelves.items self.old.spool self.new.spool) }
+        ensures refuses { Refuses self.old.spool → IsErr result × (self.new.spool ≡ self.old.spool) }
     {
         let numbers = self.numbers_of(pages);
         let names = Names {

@@ -1,5 +1,6 @@
 //! Laws of the definitions: functions that do nothing, each of whose contracts is a theorem.
 ghost use Rattle.fax_shelf.specs.Lives.{EndsAreDeeds, KeptPagesAreRead, OthersAreBeside, OwedIsRestored, OwedStays, PutFirst, PutsAreDeeds, RestartsAreDeeds, RestoredShelvesAgree, SlotsArePuts, WaitsAreOwed};
+ghost use Rattle.fax_shelf.specs.Refusals.{NoneIsNoted, NotesStay, RefusalsAreDeeds, SlotsAreRefusals};
 ghost use Rattle.fax_shelf.specs.Shelves.{NoneIsForgotten};
 
 use fax_pagestore::laws::{pages_are_unique, written_pages_mean};
@@ -40,6 +41,18 @@ pub fn calls_are_deeds()
     ensures ends { EndsAreDeeds }
     ensures others { OthersAreBeside }
     ensures restarts { RestartsAreDeeds }
+{}
+
+/// What the calls of a server answer by an `Err` are deeds of its lines too.
+pub fn refusals_are_deeds()
+    ensures refusals { RefusalsAreDeeds }
+    ensures slots { SlotsAreRefusals }
+    ensures notes { NotesStay }
+{}
+
+/// Behind the end of a job that could not be noted no later end of that life is on the disk.
+pub fn no_end_is_noted_behind_one_that_was_not()
+    ensures { NoneIsNoted }
 {}
 
 /// A page that a turn hands over is read back from its record.

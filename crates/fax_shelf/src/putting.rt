@@ -1,6 +1,8 @@
 //! The pages that the lines of a slot confirmed are put on the disk, all of them at once.
-ghost use Rattle.std.specs.Prelude.{◌≡◌, Some, IfOk, IfSome, OnOk, slice_get};
+ghost use Rattle.std.specs.Prelude.{◌≡◌, ◌⊎◌, Some, IfOk, IfSome, IsErr, OnOk, OnErr, slice_get};
+ghost use Rattle.fax_spool.specs.Calls.{Refuses};
 ghost use Rattle.fax_shelf.specs.Keeping.{AreRecordsUnder, IsRecordUnder, PutsRecords};
+ghost use Rattle.fax_shelf.specs.Refusals.{MayHavePut};
 ghost use Rattle.fax_shelf.specs.Shelves.{lines_of};
 
 use crate::shelf::Shelf;
@@ -38,7 +40,9 @@ pub(crate) fn put_pages(
     pages: &[PageToKeep],
     names: &Names<'_>,
 ) -> Result<(), KeepFault>
-    ensures { OnOk result (PutsRecords ⟦<KeptFile as Disk>⟧.seen ⟦<KeptFile as Disk>⟧.may_leave ⟦<KeptFile as Disk>⟧.is_usable names.now.life (lines_of names.now.shelves.now) pages.now names.now.numbers.now spool.old spool.new) }
+    ensures puts { OnOk result (PutsRecords ⟦<KeptFile as Disk>⟧.seen ⟦<KeptFile as Disk>⟧.may_leave ⟦<KeptFile as Disk>⟧.is_usable names.now.life (lines_of names.now.shelves.now) pages.now names.now.numbers.now spool.old spool.new) }
+    ensures failed { OnErr result ((spool.new ≡ spool.old) ⊎ MayHavePut ⟦<KeptFile as Disk>⟧.seen ⟦<KeptFile as Disk>⟧.may_leave ⟦<KeptFile as Disk>⟧.is_usable names.now.life (lines_of names.now.shelves.now) pages.now names.now.numbers.now spool.old spool.new) }
+    ensures refuses { Refuses spool.old → IsErr result × (spool.new ≡ spool.old) }
 {
     let records = match records_of(alloc, pages, names) {
         Ok(records) => records,

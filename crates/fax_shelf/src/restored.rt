@@ -79,7 +79,7 @@ impl Restored {
     /// The next page is the first of its call.
     fn begin_call(&mut self, alloc: Global, waits: &WaitingPage) -> Result<(), NoMemory>
         ensures calls { OnOk result (map call_shown self.new.calls.items ≡ map call_shown self.old.calls.items ++ begun waits.now ∷ []) }
-        ensures shelf { self.new.shelf ≡ self.old.shelf }
+        ensures shelf { self.new.shelf ≡ record self.old.shelf { tags = self.new.shelf.tags } }
     {
         push_call(alloc, &mut self.calls, waits)?;
         set_tag(alloc, &mut self.shelf, waits)
@@ -103,7 +103,7 @@ fn push_call(
 
 /// Keeps the tag of the call that a page came in, where it has one.
 fn set_tag(alloc: Global, shelf: &mut Shelf, page: &WaitingPage) -> Result<(), NoMemory>
-    ensures { shelf.new ≡ shelf.old }
+    ensures { shelf.new ≡ record shelf.old { tags = shelf.new.tags } }
 {
     match std::str::from_utf8(page.tag.as_slice()) {
         Ok(tag) if !tag.is_empty() => shelf.set_tag(alloc, page.life, page.call, tag),

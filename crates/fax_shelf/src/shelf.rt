@@ -1,6 +1,6 @@
 //! The pages of a line that wait, as a spool knows them.
-ghost use Rattle.std.specs.Prelude.{◌≡◌, ◌↔◌, [], ◌∷◌, ◌++◌, take, drop, count_by, true, false, not, nat_eq, IsTrue, IfOk, IfSome, OnOk, OnErr};
-ghost use Rattle.fax_shelf.specs.Shelves.{AreInOrder, IsBehind, IsShelved, NamesFirst, is_of_earlier_life, kept_of};
+ghost use Rattle.std.specs.Prelude.{◌≡◌, ◌↔◌, [], ◌∷◌, ◌++◌, take, drop, count_by, true, false, not, nat_eq, None, Some, IsTrue, IfOk, IfSome, MatchOption, OnOk, OnErr};
+ghost use Rattle.fax_shelf.specs.Shelves.{AreInOrder, IsBehind, IsShelved, NamesFirst, first_tag, is_of_earlier_life, kept_of, tag_in};
 
 use fax_bits::NoMemory;
 use std::alloc::{AllocError, Global};
@@ -38,6 +38,15 @@ struct RestoredTag {
     tag: String,
 }
 
+impl Model for RestoredTag {
+    ghost use Rattle.std.specs.String.{string_bytes};
+    ghost use Rattle.fax_shelf.specs.Shelves.{TagValue};
+
+    ghost Value = { TagValue };
+
+    ghost view = { λ t. record { life = t.life; call = t.call; tag = string_bytes t.tag } };
+}
+
 /// The pages of a line that wait, in the order of their jobs.
 #[derive(Drop)]
 pub struct Shelf {
@@ -60,7 +69,7 @@ impl Model for Shelf {
 
     ghost Value = { ShelfValue };
 
-    ghost view = { λ s. record { line = string_bytes s.line; waits = s.waits.items; is_whole = s.is_whole } };
+    ghost view = { λ s. record { line = string_bytes s.line; waits = s.waits.items; is_whole = s.is_whole; tags = s.tags.items; aside = s.aside.items } };
 
     ghost invariant = { λ s. s.is_whole ≡ true → AreInOrder s.waits.items };
 }
@@ -68,7 +77,7 @@ impl Model for Shelf {
 impl Shelf {
     /// None of the line of this name waits.
     pub fn new(alloc: Global, line: &str) -> Result<Self, NoMemory>
-        ensures { IfOk result (λ shelf. shelf ≡ record { line = line.now; waits = []; is_whole = true }) }
+        ensures { IfOk result (λ shelf. shelf ≡ record { line = line.now; waits = []; is_whole = true; tags = []; aside = [] }) }
     {
         Ok(Shelf {
             line: String::from_str(alloc, line)?,
@@ -95,8 +104,10 @@ impl Shelf {
         self.waits.as_slice()
     }
 
-    /// The pages of earlier lives that mean none.
-    pub fn aside(&self) -> &[(u32, u32)] {
+    /// The pages of earlier lives that mean none, by their calls and numbers.
+    pub fn aside(&self) -> &[(u32, u32)]
+        ensures { result.now ≡ self.now.aside }
+    {
         self.aside.as_slice()
     }
 
@@ -118,14 +129,13 @@ impl Shelf {
     }
 
     /// The tag of the job that is first in turn, where that was confirmed in an earlier life.
-    pub fn restored_tag(&self) -> Option<&str> {
-        let first = self.waits.first()?;
-        for tagged in self.tags.iter() {
-            if tagged.life == first.life && tagged.call == first.call {
-                return Some(tagged.tag.as_str());
-            }
+    pub fn restored_tag(&self) -> Option<&str>
+        ensures { MatchOption result (first_tag self.now ≡ None) (λ tag. first_tag self.now ≡ Some tag.now) }
+    {
+        match self.waits.first() {
+            Some(page) => tag_in(self.tags.as_slice(), page.life, page.call),
+            None => None,
         }
-        None
     }
 
     /// A page is confirmed in this call of this life: which page of the call it is, from 1 on.
@@ -143,7 +153,9 @@ impl Shelf {
 
     /// A page of an earlier life means none.
     pub fn set_aside(&mut self, call: u32, number: u32) -> Result<(), NoMemory>
-        ensures { self.new ≡ self.old }
+        ensures aside { OnOk result (self.new.aside ≡ self.old.aside ++ (call, number) ∷ []) }
+        ensures same { self.new ≡ record self.old { aside = self.new.aside } }
+        ensures none { OnErr result (self.new ≡ self.old) }
     {
         Ok(self.aside.push((call, number))?)
     }
@@ -156,7 +168,9 @@ impl Shelf {
         call: u32,
         tag: &str,
     ) -> Result<(), NoMemory>
-        ensures { self.new ≡ self.old }
+        ensures tags { OnOk result (self.new.tags ≡ self.old.tags ++ record { life = life; call = call; tag = tag.now } ∷ []) }
+        ensures same { self.new ≡ record self.old { tags = self.new.tags } }
+        ensures none { OnErr result (self.new ≡ self.old) }
     {
         let tag = String::from_str(alloc, tag)?;
         Ok(self.tags.push(RestoredTag { life, call, tag })?)
@@ -177,6 +191,8 @@ impl Shelf {
         ensures line { self.new.line ≡ self.old.line }
         ensures waits { OnOk result (self.new.waits ≡ self.old.waits ++ page ∷ []) }
         ensures whole { self.new.is_whole ≡ true → self.old.is_whole ≡ true }
+        ensures tags { self.new.tags ≡ self.old.tags }
+        ensures aside { self.new.aside ≡ self.old.aside }
         ensures none { OnErr result (self.new ≡ self.old) }
     {
         let is_behind = comes_behind(&page, self.waits.as_slice());
@@ -187,10 +203,19 @@ impl Shelf {
         Ok(())
     }
 
+    /// Pages of a job that ended may be on the disk: from then on no job of the line is told to have ended.
+    pub(crate) fn doubt(&mut self)
+        ensures { self.new ≡ record self.old { is_whole = false } }
+    {
+        self.is_whole = false;
+    }
+
     /// The job that is first in turn ended: so many pages wait no more. `None`: which ones they are is not known, and from then on
     /// that is so of each job of the line.
     pub fn end(&mut self, pages: u32) -> Option<Ended>
         ensures line { self.new.line ≡ self.old.line }
+        ensures tags { self.new.tags ≡ self.old.tags }
+        ensures aside { self.new.aside ≡ self.old.aside }
         ensures sure { IfSome result (λ _. self.old.is_whole ≡ true) }
         ensures names { IfSome result (λ ended. NamesFirst pages ended self.old.waits) }
         ensures left { IfSome result (λ _. self.new.waits ≡ drop pages self.old.waits) }
@@ -206,6 +231,18 @@ impl Shelf {
         let _ = self.waits.drain(..pages as usize);
         Some(ended)
     }
+}
+
+/// The tag of a call of an earlier life, where one of these is.
+fn tag_in(tags: &[RestoredTag], life: u32, call: u32) -> Option<&str>
+    ensures { MatchOption result (tag_in tags.now life call ≡ None) (λ tag. tag_in tags.now life call ≡ Some tag.now) }
+{
+    for it in tags {
+        if it.life == life && it.call == call {
+            return Some(it.tag.as_str());
+        }
+    }
+    None
 }
 
 /// Whether a page came behind these.

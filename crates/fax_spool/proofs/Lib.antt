@@ -8,3 +8,5 @@ mod SpoolSteps
 mod Loops
 mod Shares
 mod Openings
+mod Told
+mod Doing

@@ -5,7 +5,7 @@ use Rattle.std.specs.List.{filter}
 use Rattle.fax_spool.specs.Records.{Stands}
 use Rattle.fax_spool.specs.Settled.{IsSettled}
 use Rattle.fax_spool.specs.RecordOctets.{PageValue, EndedValue}
-use Rattle.fax_spool.specs.KeptRecords.{IsReadAs, AreReadAs, kept_of, kept_page}
+use Rattle.fax_spool.specs.KeptRecords.{IsReadAs, AreReadAs, kept_of}
 use Rattle.fax_spool.specs.Waits.{PageName, name_of, ends, without, left_of, after, left_behind, waiting_behind, waiting}
 use Rattle.fax_spool.specs.Spools.{epoch_of, greatest_behind, greatest_epoch, Tells, MayLeaveBoth, Keeps, NoneIsLeft, TellBoth}
 use Rattle.fax_spool.specs.declared.file.RecordFile.{RecordFile}
@@ -26,12 +26,12 @@ read_append [] more (q ∷ records) others are behind = absurd are
 read_append (i ∷ items) more [] others are behind = absurd are
 read_append (i ∷ items) more (q ∷ records) others are behind = (are.0, read_append items more records others are.1 behind)
 
-sealed_read : (pages : List PageValue) → AreReadAs (map kept_page pages) (map kept_of pages)
-sealed_read [] = tt
-sealed_read (p ∷ pages) = (refl, sealed_read pages)
+-- octets are read alike, wherever they stand
+pub read_through : (item octets : List ℕ) (r : KeptRecord) → item ≡ octets → IsReadAs octets r → IsReadAs item r
+read_through item octets r same is = subst (λ (l : List ℕ). IsReadAs l r) (sym same) is
 
-pages_read : (items : List (List ℕ)) (pages : List PageValue) → items ≡ map kept_page pages → AreReadAs items (map kept_of pages)
-pages_read items pages are = subst (λ (l : List (List ℕ)). AreReadAs l (map kept_of pages)) (sym are) (sealed_read pages)
+pub read_all_through : (items octets : List (List ℕ)) (records : List KeptRecord) → items ≡ octets → AreReadAs octets records → AreReadAs items records
+read_all_through items octets records same are = subst (λ (l : List (List ℕ)). AreReadAs l records) (sym same) are
 
 -- pages end none of those before them
 left_pages : (waits : List PageValue) (records : List KeptRecord) (pages : List PageValue) → left_behind waits (records ++ map kept_of pages) ≡ left_behind waits records
@@ -40,7 +40,7 @@ left_pages waits [] (p ∷ pages) = left_pages waits [] pages
 left_pages waits (q ∷ records) pages = left_pages (left_of waits q) records pages
 
 -- and each of them waits
-waiting_pages : (waits : List PageValue) (records : List KeptRecord) (pages : List PageValue) → waiting_behind waits (records ++ map kept_of pages) ≡ waiting_behind waits records ++ pages
+pub waiting_pages : (waits : List PageValue) (records : List KeptRecord) (pages : List PageValue) → waiting_behind waits (records ++ map kept_of pages) ≡ waiting_behind waits records ++ pages
 waiting_pages waits [] [] = sym (append-nil waits)
 waiting_pages waits [] (p ∷ pages) = waiting_pages (waits ++ p ∷ []) [] pages ∙ append_assoc waits (p ∷ []) pages
 waiting_pages waits (q ∷ records) pages = waiting_pages (after waits q) records pages
@@ -170,7 +170,7 @@ module _ {D : Type 0} (seen : D → List ℕ) (may_leave : D → List ℕ → Ty
       ]
 
   -- the records of pages, one behind the other
-  pub keeps_pages : (items : List (List ℕ)) (pages : List PageValue) → items ≡ map kept_page pages → new.older ≡ old.older
+  pub keeps_pages : (items : List (List ℕ)) (pages : List PageValue) → AreReadAs items (map kept_of pages) → new.older ≡ old.older
       → IsSettled seen may_leave is_usable new.newer.disk new.newer.end (k.newer_items ++ items)
       → new.older_pages.items ≡ old.older_pages.items → new.newer_pages.items ≡ old.newer_pages.items ++ map name_of pages → new.epoch ≡ old.epoch
       → Keeps seen may_leave is_usable new olds (news ++ map kept_of pages)
@@ -180,20 +180,20 @@ module _ {D : Type 0} (seen : D → List ℕ) (may_leave : D → List ℕ → Ty
     older = subst (λ (f : RecordFile D). IsSettled seen may_leave is_usable f.disk f.end k.older_items) (sym same) k.older;
     newer = settled;
     older_read = k.older_read;
-    newer_read = read_append k.newer_items items news (map kept_of pages) k.newer_read (pages_read items pages are);
+    newer_read = read_append k.newer_items items news (map kept_of pages) k.newer_read are;
     older_waits = older ∙ k.older_waits ∙ sym (ap (λ (l : List PageValue). map name_of l) (left_pages (waiting olds) news pages));
     newer_waits = newer ∙ ap (λ (l : List PageName). l ++ map name_of pages) k.newer_waits ∙ sym (map-append name_of (waiting news) pages) ∙ sym (ap (λ (l : List PageValue). map name_of l) (waiting_pages [] news pages));
     epoch = omega (arith, epoch_pages news pages old.epoch k.epoch, epoch);
   }
 
-  pub leaves_pages : (items : List (List ℕ)) (pages : List PageValue) → items ≡ map kept_page pages → new.older ≡ old.older
+  pub leaves_pages : (items : List (List ℕ)) (pages : List PageValue) → AreReadAs items (map kept_of pages) → new.older ≡ old.older
       → ((rs : List (List ℕ)) → IsSettled seen may_leave is_usable old.newer.disk old.newer.end rs → (c : List ℕ) → may_leave new.newer.disk c → Stands c rs ⊎ Stands c (rs ++ items))
       → (older newer : List ℕ) → MayLeaveBoth may_leave new older newer → TellBoth older newer olds news ⊎ TellBoth older newer olds (news ++ map kept_of pages)
   leaves_pages items pages are same crash older newer left =
       let first : Tells older olds = older_tells older (subst (λ (f : RecordFile D). may_leave f.disk older) same left.0) in
       elim (crash k.newer_items k.newer newer left.1) [
         | inl stands ↦ inl (first, record { items = k.newer_items; stands = stands; read = k.newer_read })
-        | inr stands ↦ inr (first, record { items = k.newer_items ++ items; stands = stands; read = read_append k.newer_items items news (map kept_of pages) k.newer_read (pages_read items pages are) })
+        | inr stands ↦ inr (first, record { items = k.newer_items ++ items; stands = stands; read = read_append k.newer_items items news (map kept_of pages) k.newer_read are })
       ]
 
   -- no page of the older file waits

@@ -1,6 +1,6 @@
 -- What a sealed record of a spool says. (This project's profile.)
-use Rattle.std.specs.Prelude.{◌≡◌, ◌≢◌, ℕ, List, [], ◌∷◌}
-use Rattle.fax_spool.specs.RecordOctets.{PageValue, EndedValue, page_octets, ended_octets, epoch_octets}
+use Rattle.std.specs.Prelude.{◌≡◌, ◌≢◌, ℕ, ◌<◌, ◌^◌, List, [], ◌∷◌}
+use Rattle.fax_spool.specs.RecordOctets.{PageValue, EndedValue, PageFits, EndFits, page_octets, ended_octets, epoch_octets}
 use Rattle.fax_spool.specs.Seals.{sealed}
 use Rattle.fax_spool.specs.declared.kept_record.KeptRecord.{KeptRecord}
 use Rattle.fax_spool.specs.declared.kept_record.KeptRecord.TheVariants.{Page, Ended, Epoch, Damaged}
@@ -20,10 +20,11 @@ pub record IsDamaged (octets : List ℕ) : Type 0 where
   pub no_end : (ended : EndedValue) → octets ≢ kept_ended ended
   pub no_epoch : (number : ℕ) → octets ≢ kept_epoch number
 
+-- a record of one of the three kinds, each number of which has four octets
 abbrev pub IsReadAs : List ℕ → KeptRecord → Type 0
-IsReadAs octets (Page page) = octets ≡ kept_page page
-IsReadAs octets (Ended ended) = octets ≡ kept_ended ended
-IsReadAs octets (Epoch number) = octets ≡ kept_epoch number
+IsReadAs octets (Page page) = (octets ≡ kept_page page) × PageFits page
+IsReadAs octets (Ended ended) = (octets ≡ kept_ended ended) × EndFits ended
+IsReadAs octets (Epoch number) = (octets ≡ kept_epoch number) × (number < 2 ^ 32)
 IsReadAs octets Damaged = IsDamaged octets
 
 -- each of these octets, one after another, is read as the record at its place

@@ -6,4 +6,5 @@ pub mod RecordOctets
 pub mod KeptRecords
 pub mod Waits
 pub mod Spools
+pub mod Calls
 pub mod Opened

@@ -1,5 +1,5 @@
 -- What the records of a spool say, and their octets. (This project's profile; numbers have four octets, the high one first.)
-use Rattle.std.specs.Prelude.{ℕ, Bool, true, false, List, ◌∷◌, ◌++◌, length}
+use Rattle.std.specs.Prelude.{ℕ, ◌<◌, ◌^◌, Bool, true, false, List, ◌∷◌, ◌++◌, length}
 use Rattle.std.specs.Int.{w32, to_be_bytes}
 use Rattle.fax_runcodes.specs.declared.Width.{Width}
 use Rattle.fax_runcodes.specs.declared.Width.TheVariants.{W1728, W2048, W2432}
@@ -29,6 +29,20 @@ pub record EndedValue : Type 0 where
   pub format : Format
   pub outcome : Outcome
   pub line : List ℕ
+
+-- the numbers of a page's record have four octets each
+pub record PageFits (page : PageValue) : Type 0 where
+  pub life : page.life < 2 ^ 32
+  pub call : page.call < 2 ^ 32
+  pub number : page.number < 2 ^ 32
+
+-- and those of the record of a job that ended
+pub record EndFits (ended : EndedValue) : Type 0 where
+  pub life : ended.life < 2 ^ 32
+  pub call : ended.call < 2 ^ 32
+  pub first : ended.first < 2 ^ 32
+  pub pages : ended.pages < 2 ^ 32
+  pub delivered : ended.delivered < 2 ^ 32
 
 abbrev pub width_octet : Width → ℕ
 width_octet W1728 = 0

@@ -23,6 +23,10 @@ pub record Tells (file : List ℕ) (records : List KeptRecord) : Type 0 where
   pub stands : Stands file items
   pub read : AreReadAs items records
 
+-- A FILE TELLS ONE LIST OF RECORDS: each is read back with the numbers that it was put with.
+abbrev pub TellsOneList : Type 0
+TellsOneList = (file : List ℕ) (records others : List KeptRecord) → Tells file records → Tells file others → records ≡ others
+
 -- What a crash may leave: any of what it may leave of one file, with any of what it may leave of the other.
 abbrev pub MayLeaveBoth : {D : Type 0} → (D → List ℕ → Type 0) → Spool D → List ℕ → List ℕ → Type 0
 MayLeaveBoth may_leave spool older newer = may_leave spool.older.disk older × may_leave spool.newer.disk newer

@@ -1,7 +1,7 @@
 //! What a sealed record of a spool says, whichever it is.
 ghost use Rattle.std.specs.Prelude.{◌≡◌, ◌≢◌, ◌<◌, ℕ, List, length, map, IfOk, MatchOption};
 ghost use Rattle.fax_spool.specs.RecordOctets.{PageValue, EndedValue, epoch_octets};
-ghost use Rattle.fax_spool.specs.KeptRecords.{IsReadAs, kept_page, kept_ended, kept_epoch};
+ghost use Rattle.fax_spool.specs.KeptRecords.{AreReadAs, IsReadAs, kept_of};
 
 use crate::record::{
     number_of, read_ended_record, read_page_record, write_ended_record, write_page_record,
@@ -52,15 +52,16 @@ pub fn read_kept_record(octets: &[u8]) -> KeptRecord<'_>
 pub(crate) fn seal_page(alloc: Global, page: &PageRecord<'_>) -> Result<Vec<u8>, AllocError>
     requires line { length page.now.line < 256 }
     requires tag { length page.now.tag < 256 }
-    ensures { IfOk result (λ octets. octets.items ≡ kept_page page.now) }
+    ensures { IfOk result (λ octets. IsReadAs octets.items (KeptRecord.Page page.now)) }
 {
     let kept = write_page_record(alloc, page)?;
-    seal(alloc, kept.as_slice())
+    let octets = seal(alloc, kept.as_slice())?;
+    Ok(octets)
 }
 
 /// The records of pages, sealed. It refuses a page whose line or tag has more than 255 octets.
 pub(crate) fn seal_pages(alloc: Global, pages: &[PageRecord<'_>]) -> io::Result<Vec<Vec<u8>>>
-    ensures { IfOk result (λ items. map (λ v. v.items) items.items ≡ map kept_page pages.now) }
+    ensures { IfOk result (λ items. AreReadAs (map (λ v. v.items) items.items) (map kept_of pages.now)) }
 {
     let mut items = Vec::with_capacity(alloc, pages.len())?;
     for page in pages {
@@ -75,15 +76,16 @@ pub(crate) fn seal_pages(alloc: Global, pages: &[PageRecord<'_>]) -> io::Result<
 /// The record of a job that ended, sealed.
 pub(crate) fn seal_ended(alloc: Global, ended: &EndedRecord<'_>) -> Result<Vec<u8>, AllocError>
     requires line { length ended.now.line < 256 }
-    ensures { IfOk result (λ octets. octets.items ≡ kept_ended ended.now) }
+    ensures { IfOk result (λ octets. IsReadAs octets.items (KeptRecord.Ended ended.now)) }
 {
     let kept = write_ended_record(alloc, ended)?;
-    seal(alloc, kept.as_slice())
+    let octets = seal(alloc, kept.as_slice())?;
+    Ok(octets)
 }
 
 /// The record of an epoch, sealed.
 pub(crate) fn seal_epoch(alloc: Global, number: u32) -> Result<Vec<u8>, AllocError>
-    ensures { IfOk result (λ octets. octets.items ≡ kept_epoch number) }
+    ensures { IfOk result (λ octets. IsReadAs octets.items (KeptRecord.Epoch number)) }
 {
     let mut kept = Vec::with_capacity(alloc, 5)?;
     kept.push(EPOCH)?;

@@ -1,10 +1,26 @@
 //! Laws of spools: functions that do nothing, each of whose contracts is a theorem.
+ghost use Rattle.fax_spool.specs.Calls.{OneWithoutAnOk};
 ghost use Rattle.fax_spool.specs.Waits.{SharesWhatWaits};
 ghost use Rattle.fax_spool.specs.Records.{StandsForOneList};
+ghost use Rattle.fax_spool.specs.Spools.{TellsOneList};
+
+use sqlite_disk::Disk;
 
 /// A file stands for one list of records.
 pub fn files_stand_for_one_list()
     ensures { StandsForOneList }
+{}
+
+/// A file tells one list of records. So what is read of a file behind a crash is what the clauses `crash` of a spool's calls tell
+/// of it, each number as it was put.
+pub fn records_are_read_back()
+    ensures { TellsOneList }
+{}
+
+/// Whatever calls a spool had, each crash leaves what those did that answered `Ok`, and at most one call more: the put of some pages,
+/// or the end of a job.
+pub fn one_call_at_most_is_done_without_an_ok<D: Disk>()
+    ensures { OneWithoutAnOk D.seen D.may_leave D.is_usable }
 {}
 
 /// What waits by the records of both files is what is left of the older one's pages behind the newer one's records, and then what

@@ -5,6 +5,7 @@ ghost use Rattle.sqlite_disk.specs.Disk.{Only};
 ghost use Rattle.fax_spool.specs.Settled.{IsSettled};
 ghost use Rattle.fax_spool.specs.KeptRecords.{AreReadAs};
 ghost use Rattle.fax_spool.specs.Waits.{waiting};
+ghost use Rattle.fax_spool.specs.Calls.{Accepts};
 ghost use Rattle.fax_spool.specs.Spools.{AreClean, Keeps, epoch_now, files_of};
 ghost use Rattle.fax_spool.specs.Opened.{IsOpened, closed, damaged, is_damaged, same_call};
 
@@ -40,6 +41,7 @@ pub fn open_spool<D: Disk + Drop>(alloc: Global, one: D, other: D) -> io::Result
     requires one_durable { Only (D.seen one) (D.may_leave one) }
     requires other_durable { Only (D.seen other) (D.may_leave other) }
     ensures opened { IfOk result (λ opened. AreClean D.is_clean (files_of opened.spool) → IsOpened D.seen D.may_leave D.is_usable (D.seen one) (D.seen other) opened) }
+    ensures accepts { IfOk result (λ opened. Accepts opened.spool) }
 {
     let mut one = one;
     let mut other = other;
@@ -77,6 +79,7 @@ fn begin<D: Disk + Drop>(
     ensures pages { IfOk result (λ opened. opened.pages.items ≡ closed (waiting (olds.now ++ news.now))) }
     ensures older_damaged { IfOk result (λ opened. opened.older_damaged ≡ damaged olds.now) }
     ensures newer_damaged { IfOk result (λ opened. opened.newer_damaged ≡ damaged news.now) }
+    ensures accepts { IfOk result (λ opened. Accepts opened.spool) }
 {
     let pages = pages_of(alloc, olds, news)?;
     let spool = Spool::begin(alloc, older, newer, olds, news)?;

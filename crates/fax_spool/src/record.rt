@@ -1,6 +1,6 @@
 //! What a record of a spool says, and its octets.
-ghost use Rattle.std.specs.Prelude.{◌≡◌, ◌≢◌, ◌<◌, ◌⊎◌, Bool, List, [], ◌∷◌, ℕ, length, IfOk, OnOk, MatchOption, ◌++◌};
-ghost use Rattle.fax_spool.specs.RecordOctets.{PageValue, EndedValue, page_octets, ended_octets, short_octets, width_octet, flag_octet};
+ghost use Rattle.std.specs.Prelude.{◌≡◌, ◌≢◌, ◌<◌, ◌⊎◌, Bool, List, [], ◌∷◌, ℕ, length, IfOk, IfSome, OnOk, MatchOption, ◌++◌};
+ghost use Rattle.fax_spool.specs.RecordOctets.{PageValue, EndedValue, PageFits, EndFits, page_octets, ended_octets, short_octets, width_octet, flag_octet};
 ghost use Rattle.std.specs.Int.{w32, to_be_bytes};
 ghost use Rattle.fax_jobs.specs.Outcomes.{outcome_number};
 ghost use Rattle.fax_jobs.specs.declared.outcome.Outcome.{Outcome as OutcomeShown};
@@ -98,6 +98,7 @@ pub fn write_page_record(alloc: Global, page: &PageRecord<'_>) -> Result<Vec<u8>
     requires line { length page.now.line < 256 }
     requires tag { length page.now.tag < 256 }
     ensures octets { IfOk result (λ octets. octets.items ≡ page_octets page.now) }
+    ensures numbers { IfOk result (λ _. PageFits page.now) }
 {
     let mut octets = Vec::with_capacity(alloc, page.line.len() + 18)?;
     octets.push(PAGE)?;
@@ -116,6 +117,7 @@ pub fn write_page_record(alloc: Global, page: &PageRecord<'_>) -> Result<Vec<u8>
 pub fn write_ended_record(alloc: Global, ended: &EndedRecord<'_>) -> Result<Vec<u8>, AllocError>
     requires line { length ended.now.line < 256 }
     ensures octets { IfOk result (λ octets. octets.items ≡ ended_octets ended.now) }
+    ensures numbers { IfOk result (λ _. EndFits ended.now) }
 {
     let mut octets = Vec::with_capacity(alloc, ended.line.len() + 25)?;
     octets.push(ENDED)?;
@@ -132,7 +134,8 @@ pub fn write_ended_record(alloc: Global, ended: &EndedRecord<'_>) -> Result<Vec<
 
 /// The page's record that octets are; `None` where they are none.
 pub fn read_page_record(octets: &[u8]) -> Option<PageRecord<'_>>
-    ensures { MatchOption result ((page : PageValue) → octets.now ≢ page_octets page) (λ page. octets.now ≡ page_octets page) }
+    ensures read { MatchOption result ((page : PageValue) → octets.now ≢ page_octets page) (λ page. octets.now ≡ page_octets page) }
+    ensures numbers { IfSome result PageFits }
 {
     match octets {
         [
@@ -174,7 +177,8 @@ pub fn read_page_record(octets: &[u8]) -> Option<PageRecord<'_>>
 
 /// The record of a job that ended that octets are; `None` where they are none.
 pub fn read_ended_record(octets: &[u8]) -> Option<EndedRecord<'_>>
-    ensures { MatchOption result ((ended : EndedValue) → octets.now ≢ ended_octets ended) (λ ended. octets.now ≡ ended_octets ended) }
+    ensures read { MatchOption result ((ended : EndedValue) → octets.now ≢ ended_octets ended) (λ ended. octets.now ≡ ended_octets ended) }
+    ensures numbers { IfSome result EndFits }
 {
     match octets {
         [

@@ -1,7 +1,9 @@
 //! A spool: the records of confirmed pages and of jobs that ended, in two files in turn.
-ghost use Rattle.std.specs.Prelude.{◌≡◌, ◌⊎◌, ◌<◌, ◌≤◌, ◌++◌, [], ◌∷◌, List, ℕ, length, map, not, IfOk, OnOk, IsTrue};
+ghost use Rattle.std.specs.Prelude.{◌≡◌, ◌⊎◌, ◌<◌, ◌≤◌, ◌++◌, [], ◌∷◌, List, ℕ, length, map, not, true, false, IfOk, OnOk, OnErr, IsTrue};
 ghost use Rattle.std.specs.List.{filter};
 ghost use Rattle.std.specs.Bool.{MatchBool};
+ghost use Rattle.std.specs.Result.{is_ok};
+ghost use Rattle.fax_spool.specs.Calls.{Accepts, Does, Puts, Ends, Turns};
 ghost use Rattle.fax_spool.specs.Records.{Stands};
 ghost use Rattle.fax_spool.specs.Settled.{IsSettled};
 ghost use Rattle.fax_spool.specs.KeptRecords.{AreReadAs, kept_of};
@@ -20,7 +22,8 @@ use std::{io, mem};
 /// Records of confirmed pages and of jobs that ended, in two files in turn: what is new is put into the newer one, and the older
 /// one is cleared once no page in it waits. `begin` makes one of two files that were recovered.
 ///
-/// At an `Err` of the disk it is on the disk or not, and the spool refuses everything from then on, until another is begun.
+/// At an `Err` of the disk what was to be put is on the disk or not, and the spool refuses everything from then on (`Refuses`), until
+/// another is begun. At any other `Err` nothing has changed (`Does`).
 #[derive(Drop)]
 pub struct Spool<D: Disk> {
     older: RecordFile<D>,
@@ -52,6 +55,7 @@ impl<D: Disk + Drop> Spool<D> {
         ensures clean { IfOk result (λ spool. AreClean D.is_clean (files_of spool) → AreClean D.is_clean (older, newer)) }
         ensures older_epochs { IfOk result (λ spool. greatest_epoch olds.now < epoch_now spool) }
         ensures newer_epochs { IfOk result (λ spool. greatest_epoch news.now < epoch_now spool) }
+        ensures accepts { IfOk result Accepts }
     {
         let greatest = newest_epoch(olds).max(newest_epoch(news));
         if greatest == u32::MAX {
@@ -111,7 +115,11 @@ impl<D: Disk> Spool<D> {
         ensures crash { (olds news : List KeptShown) → Keeps D.seen D.may_leave D.is_usable self.old olds news
             → (older newer : List ℕ) → MayLeaveBoth D.may_leave self.new older newer
             → TellBoth older newer olds news ⊎ TellBoth older newer olds (news ++ KeptRecord.Page page.now ∷ []) }
+        ensures does { Does D.seen D.may_leave D.is_usable (Puts (page.now ∷ [])) (is_ok result) self.old self.new }
     {
+        if self.refuses {
+            return Err(io::ErrorKind::Other.into());
+        }
         let name = PageName::of_page(alloc, page)?;
         let octets = seal_page(alloc, page)?;
         self.newer_pages.reserve(1)?;
@@ -130,7 +138,11 @@ impl<D: Disk> Spool<D> {
         ensures crash { (olds news : List KeptShown) → Keeps D.seen D.may_leave D.is_usable self.old olds news
             → (older newer : List ℕ) → MayLeaveBoth D.may_leave self.new older newer
             → TellBoth older newer olds news ⊎ TellBoth older newer olds (news ++ map kept_of pages.now) }
+        ensures does { Does D.seen D.may_leave D.is_usable (Puts pages.now) (is_ok result) self.old self.new }
     {
+        if self.refuses {
+            return Err(io::ErrorKind::Other.into());
+        }
         let mut names = names_of(alloc, pages)?;
         let items = seal_pages(alloc, pages)?;
         self.newer_pages.append(&mut names)?;
@@ -147,7 +159,11 @@ impl<D: Disk> Spool<D> {
         ensures crash { (olds news : List KeptShown) → Keeps D.seen D.may_leave D.is_usable self.old olds news
             → (older newer : List ℕ) → MayLeaveBoth D.may_leave self.new older newer
             → TellBoth older newer olds news ⊎ TellBoth older newer olds (news ++ KeptRecord.Ended ended.now ∷ []) }
+        ensures does { Does D.seen D.may_leave D.is_usable (Ends ended.now) (is_ok result) self.old self.new }
     {
+        if self.refuses {
+            return Err(io::ErrorKind::Other.into());
+        }
         let octets = seal_ended(alloc, ended)?;
         append(&mut self.newer, &mut self.refuses, alloc, octets.as_slice())?;
         forget_ended(&mut self.older_pages, ended);
@@ -163,11 +179,15 @@ impl<D: Disk> Spool<D> {
         ensures crash { (olds news : List KeptShown) → Keeps D.seen D.may_leave D.is_usable self.old olds news
             → (older newer : List ℕ) → MayLeaveBoth D.may_leave self.new older newer
             → TellBoth older newer olds news ⊎ (NoneIsLeft olds news × TellBoth older newer [] news) }
+        ensures does { Does D.seen D.may_leave D.is_usable Turns (is_ok result) self.old self.new }
     {
+        if self.refuses {
+            return Err(io::ErrorKind::Other.into());
+        }
         if !self.older_pages.is_empty() {
             return Ok(false);
         }
-        if self.refuses || !self.older.disk.may_be_used() {
+        if !self.older.disk.may_be_used() {
             return Err(io::ErrorKind::Other.into());
         }
         self.refuses = true;
@@ -184,11 +204,15 @@ impl<D: Disk> Spool<D> {
         ensures crash { (olds news : List KeptShown) → Keeps D.seen D.may_leave D.is_usable self.old olds news
             → (older newer : List ℕ) → MayLeaveBoth D.may_leave self.new older newer
             → TellBoth older newer olds news ⊎ TellBoth older newer news [] ⊎ TellBoth older newer news (KeptRecord.Epoch (epoch_now self.new) ∷ []) }
+        ensures does { Does D.seen D.may_leave D.is_usable Turns (is_ok result) self.old self.new }
     {
+        if self.refuses {
+            return Err(io::ErrorKind::Other.into());
+        }
         if self.older.end != 0 {
             return Ok(false);
         }
-        if self.refuses || self.epoch == u32::MAX {
+        if self.epoch == u32::MAX {
             return Err(io::ErrorKind::Other.into());
         }
         let octets = seal_epoch(alloc, self.epoch + 1)?;
@@ -200,7 +224,7 @@ impl<D: Disk> Spool<D> {
     }
 }
 
-/// Adds a record to a file, unless a call of the disk has failed; if this one fails, that is noted.
+/// Adds a record to a file. Where that fails, the spool refuses everything from then on.
 fn append<D: Disk>(
     file: &mut RecordFile<D>,
     refuses: &mut bool,
@@ -212,10 +236,9 @@ fn append<D: Disk>(
     ensures crash { (rs : List (List ℕ)) → IsSettled D.seen D.may_leave D.is_usable file.old.disk file.old.end rs
         → (c : List ℕ) → D.may_leave file.new.disk c → Stands c rs ⊎ Stands c (rs ++ item.now ∷ []) }
     ensures clean { IsTrue (D.is_clean file.new.disk) → IsTrue (D.is_clean file.old.disk) }
+    ensures failed { OnErr result (refuses.new ≡ true) }
+    ensures goes_on { OnOk result (refuses.new ≡ false) }
 {
-    if *refuses {
-        return Err(io::ErrorKind::Other.into());
-    }
     *refuses = true;
     if !file.disk.may_be_used() {
         return Err(io::ErrorKind::Other.into());
@@ -225,7 +248,7 @@ fn append<D: Disk>(
     Ok(())
 }
 
-/// Adds records to a file, unless a call of the disk has failed; if one of these fails, that is noted.
+/// Adds records to a file. Where that fails, the spool refuses everything from then on.
 fn append_all<D: Disk>(
     file: &mut RecordFile<D>,
     refuses: &mut bool,
@@ -236,10 +259,8 @@ fn append_all<D: Disk>(
         → IsSettled D.seen D.may_leave D.is_usable file.new.disk file.new.end (rs ++ map (λ v. v.items) items.now)) }
     ensures crash { (rs : List (List ℕ)) → IsSettled D.seen D.may_leave D.is_usable file.old.disk file.old.end rs
         → (c : List ℕ) → D.may_leave file.new.disk c → Stands c rs ⊎ Stands c (rs ++ map (λ v. v.items) items.now) }
+    ensures failed { OnErr result (refuses.new ≡ true) }
 {
-    if *refuses {
-        return Err(io::ErrorKind::Other.into());
-    }
     *refuses = true;
     if !file.disk.may_be_used() {
         return Err(io::ErrorKind::Other.into());

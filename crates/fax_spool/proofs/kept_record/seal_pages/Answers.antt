@@ -1,20 +1,24 @@
-use Rattle.std.proofs.Common.{◌≡◌, ◌+◌, ◌<◌, ℕ, List, [], ◌∷◌, ◌++◌, Vec, Global, length, map, drop, get_or, sym, ◌∙◌, ap, append_assoc}
-use Rattle.std.proofs.lemmas.List.{at_drop_more, map_push}
+use Rattle.std.proofs.Common.{◌≡◌, ◌+◌, ◌<◌, ℕ, List, [], ◌∷◌, ◌++◌, Vec, Global, length, map, take, get_or, sym, ◌∙◌, ap, subst}
+use Rattle.std.proofs.lemmas.List.{map_push, take_more}
 use Rattle.fax_spool.specs.RecordOctets.{PageValue}
-use Rattle.fax_spool.specs.KeptRecords.{kept_page}
+use Rattle.fax_spool.specs.KeptRecords.{AreReadAs, IsReadAs, kept_of}
+use Rattle.fax_spool.specs.declared.kept_record.KeptRecord.{KeptRecord}
+use Rattle.fax_spool.specs.declared.kept_record.KeptRecord.TheVariants.{Page}
+use Rattle.fax_spool.proofs.SpoolSteps.{read_push}
 use Rattle.fax_spool.proofs.kept_record.seal_pages.Goals as goal
 
 -- one page more is sealed
 next_sealed : (before after : List (Vec ℕ Global)) (v : Vec ℕ Global) (pages : List PageValue) (i : ℕ) (page : PageValue) → i < length pages → get_or pages i page ≡ page
-    → after ≡ before ++ v ∷ [] → v.items ≡ kept_page page → map (λ (w : Vec ℕ Global). w.items) before ++ map kept_page (drop i pages) ≡ map kept_page pages
-    → map (λ (w : Vec ℕ Global). w.items) after ++ map kept_page (drop (i + 1) pages) ≡ map kept_page pages
+    → after ≡ before ++ v ∷ [] → IsReadAs v.items (Page page) → AreReadAs (map (λ (w : Vec ℕ Global). w.items) before) (map kept_of (take i pages))
+    → AreReadAs (map (λ (w : Vec ℕ Global). w.items) after) (map kept_of (take (i + 1) pages))
 next_sealed before after v pages i page lt got pushed is was =
-    ap (λ (l : List (Vec ℕ Global)). map (λ (w : Vec ℕ Global). w.items) l ++ map kept_page (drop (i + 1) pages)) pushed
-    ∙ ap (λ (l : List (List ℕ)). l ++ map kept_page (drop (i + 1) pages)) (map_push (λ (w : Vec ℕ Global). w.items) before v)
-    ∙ append_assoc (map (λ (w : Vec ℕ Global). w.items) before) (v.items ∷ []) (map kept_page (drop (i + 1) pages))
-    ∙ ap (λ (l : List ℕ). map (λ (w : Vec ℕ Global). w.items) before ++ (l ∷ map kept_page (drop (i + 1) pages))) (is ∙ sym (ap kept_page got))
-    ∙ ap (λ (l : List (List ℕ)). map (λ (w : Vec ℕ Global). w.items) before ++ l) (sym (at_drop_more (map kept_page) pages i page lt))
-    ∙ was
+    let items : map (λ (w : Vec ℕ Global). w.items) after ≡ map (λ (w : Vec ℕ Global). w.items) before ++ v.items ∷ [] =
+    ap (λ (l : List (Vec ℕ Global)). map (λ (w : Vec ℕ Global). w.items) l) pushed ∙ map_push (λ (w : Vec ℕ Global). w.items) before v in
+    let records : map kept_of (take (i + 1) pages) ≡ map kept_of (take i pages) ++ Page page ∷ [] =
+    ap (λ (l : List PageValue). map kept_of l) (take_more pages i page lt ∙ ap (λ (p : PageValue). take i pages ++ p ∷ []) got) ∙ map_push kept_of (take i pages) page in
+    subst (λ (l : List (List ℕ)). AreReadAs l (map kept_of (take (i + 1) pages))) (sym items)
+    (subst (λ (l : List KeptRecord). AreReadAs (map (λ (w : Vec ℕ Global). w.items) before ++ v.items ∷ []) l) (sym records)
+    (read_push (map (λ (w : Vec ℕ Global). w.items) before) (map kept_of (take i pages)) v.items (Page page) was is))
 
 pub loop-page-preserved : goal.loop-page-preserved
 loop-page-preserved c =

@@ -25,14 +25,19 @@ returns c = λ name read are.
       | else-begins_call w ↦
           subst (λ (t : Bool). map call_shown between.calls.items ≡ with_begun t page (map call_shown old.calls.items)) (sym w.if-begins_call.false) (ap (λ (s : Restored). map call_shown s.calls.items) w.self-is)
     ] in
-    let shelf_is : between.shelf ≡ old.shelf =
+    let waits_are : between.shelf.waits ≡ old.shelf.waits =
     elim c.if-begins_call.branch [
-      | then-begins_call+in_ok-begin_call w ↦ ap (λ (s : Restored). s.shelf) w.self-is ∙ w.in_ok-begin_call.ensures.shelf
-      | else-begins_call w ↦ ap (λ (s : Restored). s.shelf) w.self-is
+      | then-begins_call+in_ok-begin_call w ↦ ap (λ (s : Restored). s.shelf.waits) w.self-is ∙ ap (λ (s : ShelfValue). s.waits) w.in_ok-begin_call.ensures.shelf
+      | else-begins_call w ↦ ap (λ (s : Restored). s.shelf.waits) w.self-is
+    ] in
+    let line_is : between.shelf.line ≡ old.shelf.line =
+    elim c.if-begins_call.branch [
+      | then-begins_call+in_ok-begin_call w ↦ ap (λ (s : Restored). s.shelf.line) w.self-is ∙ ap (λ (s : ShelfValue). s.line) w.in_ok-begin_call.ensures.shelf
+      | else-begins_call w ↦ ap (λ (s : Restored). s.shelf.line) w.self-is
     ] in
     let seen : spool.PageValue = record { life = inside.life; call = inside.call; number = inside.number; format = inside.format; closes = inside.closes; line = inside.line.items; tag = inside.tag.items; text = inside.text.items } in
     in_more name read r old (record { calls = c.confirm.new.calls; shelf = c.push.new.self }) c.begins_call.result (map call_shown between.calls.items)
     (c.begins_call.ensures ∙ ap (λ (l : List Waiting). begins l page) c.waits.ensures) begun_is
     (c.in_ok-confirm.ensures ∙ ap (λ (p : spool.PageValue). onto_last (record { page = c.args.page; closes = p.closes }) (map call_shown between.calls.items)) view)
-    (c.in_ok-push.ensures.waits ∙ ap (λ (s : ShelfValue). s.waits ++ waiting_of (record { waits = seen; page = c.args.page }) ∷ []) shelf_is ∙ ap (λ (p : spool.PageValue). old.shelf.waits ++ waiting_of (record { waits = p; page = c.args.page }) ∷ []) view)
-    (c.in_ok-push.ensures.line ∙ ap (λ (s : ShelfValue). s.line) shelf_is) are
+    (c.in_ok-push.ensures.waits ∙ ap (λ (l : List Waiting). l ++ waiting_of (record { waits = seen; page = c.args.page }) ∷ []) waits_are ∙ ap (λ (p : spool.PageValue). old.shelf.waits ++ waiting_of (record { waits = p; page = c.args.page }) ∷ []) view)
+    (c.in_ok-push.ensures.line ∙ line_is) are

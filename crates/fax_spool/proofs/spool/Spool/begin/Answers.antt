@@ -4,7 +4,7 @@ use Rattle.fax_spool.specs.Waits.{name_of, waiting, left_behind}
 use Rattle.fax_spool.specs.Spools.{greatest_epoch}
 use Rattle.fax_spool.specs.declared.spool.Spool.{Spool}
 use Rattle.fax_spool.specs.declared.kept_record.KeptRecord.TheVariants.{Epoch}
-use Rattle.fax_spool.proofs.SpoolSteps.{begun, keeps_more}
+use Rattle.fax_spool.proofs.SpoolSteps.{begun, keeps_more, read_through}
 use Rattle.fax_spool.proofs.spool.Spool.begin.Goals as goal
 
 pub returns-clause-begun : goal.returns-clause-begun
@@ -20,5 +20,5 @@ returns-clause-begun g c = λ older_items newer_items older olds_read newer news
     c.in_ok-newer_pages.ensures ∙ ap (λ (pages : List PageValue). map name_of pages) (c.as_slice-2.ensures.value ∙ c.in_ok-pages-2.ensures) in
     let most : greatest_epoch news ≤ number = omega (arith, c.newest_epoch-2.ensures, c.max-greatest.ensures) in
     let k = begun _ _ _ before olds news older_items newer_items older olds_read newer news_read older_names newer_names most in
-    keeps_more _ _ _ before after olds news k c.as_slice-3.result.now (Epoch number) (c.as_slice-3.ensures.value ∙ c.in_ok-octets.ensures) refl
+    keeps_more _ _ _ before after olds news k c.as_slice-3.result.now (Epoch number) (read_through _ _ (Epoch number) c.as_slice-3.ensures.value c.in_ok-octets.ensures) refl
     (c.in_ok-append.ensures.acknowledged k.newer_items k.newer) older_names newer_names (omega arith) (omega arith)

@@ -1,22 +1,25 @@
-use Rattle.std.proofs.Common.{◌≡◌, ◌+◌, inr, Vec, Global, sym, ◌∙◌, ap, subst, arith}
+use Rattle.std.proofs.Common.{◌≡◌, ◌+◌, [], ◌∷◌, refl, inr, Vec, Global, sym, ap, subst, arith}
 use Rattle.fax_spool.specs.Settled.{IsSettled}
 use Rattle.fax_spool.specs.Waits.{PageName}
 use Rattle.fax_spool.specs.declared.file.RecordFile.{RecordFile}
-use Rattle.fax_spool.proofs.SpoolSteps.{none_told, keeps_changed, leaves_changed}
+use Rattle.fax_spool.specs.declared.kept_record.KeptRecord.TheVariants.{Epoch}
+use Rattle.fax_spool.specs.Calls.{Turns}
+use Rattle.fax_spool.proofs.Doing.{does_err, does_nothing, does_turn, may_have_turned, more_epoch, told_changed}
+use Rattle.fax_spool.proofs.SpoolSteps.{none_told, keeps_changed, leaves_changed, read_through}
 use Rattle.fax_spool.proofs.spool.Spool.change.Goals as goal
 
 pub returns-in_err-append-clause-crash : goal.returns-in_err-append-clause-crash
 returns-in_err-append-clause-crash g c = λ olds news k older newer left.
     let old = c.args.self.now in
     let new = record old { older = c.swap.new.x; newer = c.append.new.file; older_pages = c.swap-2.new.x; newer_pages = c.swap-2.new.y; epoch = old.epoch + 1; refuses = c.append.new.refuses } in
-    inr (leaves_changed _ _ _ old new olds news k (grind (arith, c.if-self-ne0.false)) c.as_slice.result.now (old.epoch + 1) (c.as_slice.ensures.value ∙ c.in_ok-octets.ensures) c.swap.ensures.x_after
+    inr (leaves_changed _ _ _ old new olds news k (grind (arith, c.if-self-ne0.false)) c.as_slice.result.now (old.epoch + 1) (read_through _ _ (Epoch (old.epoch + 1)) c.as_slice.ensures.value c.in_ok-octets.ensures) c.swap.ensures.x_after
     (λ rs s. c.append.ensures.crash rs (subst (λ (f : RecordFile g.row.D.Denot). IsSettled g.D.Disk.seen g.D.Disk.may_leave g.D.Disk.is_usable f.disk f.end rs) (sym c.swap.ensures.y_after) s)) older newer left)
 
 pub returns-clause-crash : goal.returns-clause-crash
 returns-clause-crash g c = λ olds news k older newer left.
     let old = c.args.self.now in
     let new = record old { older = c.swap.new.x; newer = c.append.new.file; older_pages = c.swap-2.new.x; newer_pages = c.swap-2.new.y; epoch = old.epoch + 1; refuses = c.append.new.refuses } in
-    inr (leaves_changed _ _ _ old new olds news k (grind (arith, c.if-self-ne0.false)) c.as_slice.result.now (old.epoch + 1) (c.as_slice.ensures.value ∙ c.in_ok-octets.ensures) c.swap.ensures.x_after
+    inr (leaves_changed _ _ _ old new olds news k (grind (arith, c.if-self-ne0.false)) c.as_slice.result.now (old.epoch + 1) (read_through _ _ (Epoch (old.epoch + 1)) c.as_slice.ensures.value c.in_ok-octets.ensures) c.swap.ensures.x_after
     (λ rs s. c.append.ensures.crash rs (subst (λ (f : RecordFile g.row.D.Denot). IsSettled g.D.Disk.seen g.D.Disk.may_leave g.D.Disk.is_usable f.disk f.end rs) (sym c.swap.ensures.y_after) s)) older newer left)
 
 pub returns-clause-changed : goal.returns-clause-changed
@@ -26,9 +29,35 @@ returns-clause-changed g c = λ olds news k.
     let empty : old.older.end ≡ 0 = grind (arith, c.if-self-ne0.false) in (
       none_told _ _ _ old new olds news k empty,
       omega (arith, k.epoch),
-      keeps_changed _ _ _ old new olds news k empty c.as_slice.result.now (old.epoch + 1) (c.as_slice.ensures.value ∙ c.in_ok-octets.ensures) c.swap.ensures.x_after
+      keeps_changed _ _ _ old new olds news k empty c.as_slice.result.now (old.epoch + 1) (read_through _ _ (Epoch (old.epoch + 1)) c.as_slice.ensures.value c.in_ok-octets.ensures) c.swap.ensures.x_after
           (λ rs s. c.in_ok-append.ensures.acknowledged rs (subst (λ (f : RecordFile g.row.D.Denot). IsSettled g.D.Disk.seen g.D.Disk.may_leave g.D.Disk.is_usable f.disk f.end rs) (sym c.swap.ensures.y_after) s))
           (ap (λ (v : Vec PageName Global). v.items) c.swap-2.ensures.x_after)
           (ap (λ (v : Vec PageName Global). v.items) c.swap-2.ensures.y_after)
           (omega arith),
     )
+
+pub returns-then-self-clause-does : goal.returns-then-self-clause-does
+returns-then-self-clause-does g c = does_nothing _ _ _ c.args.self.now c.args.self.now Turns
+
+pub returns-then-self-ne0-clause-does : goal.returns-then-self-ne0-clause-does
+returns-then-self-ne0-clause-does g c = does_turn _ _ _ c.args.self.now c.args.self.now c.if-self.false (λ olds news k. (olds, news, k, refl))
+
+pub returns-then-self-2-clause-does : goal.returns-then-self-2-clause-does
+returns-then-self-2-clause-does g c = does_nothing _ _ _ c.args.self.now c.args.self.now Turns
+
+pub returns-in_err-octets-clause-does : goal.returns-in_err-octets-clause-does
+returns-in_err-octets-clause-does g c = does_err _ _ _ c.args.self.now c.args.self.now _ c.from_residual.result Turns c.from_residual.ensures.1 (does_nothing _ _ _ c.args.self.now c.args.self.now Turns)
+
+pub returns-in_err-append-clause-does : goal.returns-in_err-append-clause-does
+returns-in_err-append-clause-does g c =
+    let new = record c.args.self.now { older = c.swap.new.x; newer = c.append.new.file; older_pages = c.swap-2.new.x; newer_pages = c.swap-2.new.y; epoch = c.args.self.now.epoch + 1; refuses = c.append.new.refuses } in
+    let empty : c.args.self.now.older.end ≡ 0 = grind (arith, c.if-self-ne0.false) in
+    does_err _ _ _ c.args.self.now new _ c.from_residual-in_err-append.result Turns c.from_residual-in_err-append.ensures.1
+    (may_have_turned _ _ _ c.args.self.now new c.if-self.false
+    (λ olds news k older newer left. told_changed _ _ olds news _ (none_told _ _ _ c.args.self.now new olds news k empty) (returns-in_err-append-clause-crash g c olds news k older newer left)) c.in_err-append.ensures.failed)
+
+pub returns-clause-does : goal.returns-clause-does
+returns-clause-does g c =
+    let new = record c.args.self.now { older = c.swap.new.x; newer = c.append.new.file; older_pages = c.swap-2.new.x; newer_pages = c.swap-2.new.y; epoch = c.args.self.now.epoch + 1; refuses = c.append.new.refuses } in
+    does_turn _ _ _ c.args.self.now new c.if-self.false
+    (λ olds news k. let is = returns-clause-changed g c olds news k in (news, Epoch (c.args.self.now.epoch + 1) ∷ [], is.2, more_epoch olds news (c.args.self.now.epoch + 1) is.0))
