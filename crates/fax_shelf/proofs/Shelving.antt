@@ -13,7 +13,6 @@ use Rattle.fax_spool.specs.Spools.{Keeps}
 use Rattle.fax_spool.specs.KeptRecords.{kept_of}
 use Rattle.fax_spool.specs.Waits.{PageName, ends, name_of, waiting, without}
 use Rattle.fax_spool.specs.declared.kept_record.KeptRecord.{KeptRecord}
-use Rattle.fax_spool.specs.declared.kept_record.KeptRecord.TheVariants.{Page}
 use Rattle.fax_spool.specs.declared.spool.Spool.{Spool}
 use Rattle.fax_shelf.specs.declared.shelf.Waiting.{Waiting}
 use Rattle.fax_shelf.specs.Shelves.{AreAmong, IsAmong, IsShelved, ShelfValue, left_by, lines_of, name_in}

@@ -1,5 +1,5 @@
 -- Pages of lines one each, that are put one after another.
-use Rattle.std.proofs.Common.{◌≡◌, ◌≢◌, ◌∙◌, ℕ, zero, suc, ◌<◌, List, [], ◌∷◌, All, AllPairs, Some, slice_get, arith, refl, sym, ap}
+use Rattle.std.proofs.Common.{◌≡◌, ◌≢◌, ◌∙◌, ℕ, zero, suc, ◌<◌, List, [], ◌∷◌, All, AllPairs, slice_get, arith, refl, sym, ap}
 use Rattle.std.specs.Prelude.{slice_index_or, slice_set}
 use Rattle.std.proofs.lemmas.Option.{slice_get_within}
 use Rattle.fax_line.specs.declared.settling.PageToKeep.{PageToKeep}

@@ -1,5 +1,7 @@
+pub mod Book
 pub mod Jobs
 pub mod Keeping
 pub mod Lives
 pub mod Restorations
 pub mod Shelves
+pub mod TurnsTold
