@@ -1,3 +1,9 @@
+mod BookGoesOn
+mod BookLaws
+mod BookOfLife
+mod BookPut
+mod BookTidings
+mod BookTurns
 pub mod Calls
 mod Cut
 mod Lives

@@ -1,0 +1,294 @@
+-- A turn that tells a page adds it to the book and to what is put.
+use Rattle.std.proofs.Common.{◌≡◌, ◌∙◌, ℕ, zero, suc, ◌-◌, max, Bool, List, [], ◌∷◌, ◌++◌, length, slice_get, Option, Some, None, inl, inr, refl, sym, ap, subst, append_assoc}
+use Rattle.std.specs.List.{All}
+use Rattle.std.proofs.lemmas.List.{append-nil, append_cancel_left}
+use Rattle.std.proofs.lemmas.List.Elements.{All-head, All-tail}
+use Rattle.std.proofs.lemmas.Grind.{flat_map-append}
+use Rattle.fax_pagestore.specs.Pages.{IsPage, PageValue}
+use Rattle.fax_pagestore.specs.PageLaws.{WrittenPagesMean}
+use Rattle.fax_jobs.specs.declared.report.Report.{Report}
+use Rattle.fax_jobs.specs.Jobs.{JobValue}
+use Rattle.fax_jobs.specs.Books.{Book}
+use Rattle.fax_jobs.specs.Newest.{closed_last, last_page, newest_page, or_else}
+use Rattle.fax_jobs.specs.Pasts.{Past, as_list, jobs_of}
+use Rattle.fax_answer.specs.Replies.{ConfirmedPage}
+use Rattle.fax_call.specs.Writings.{Writing}
+use Rattle.fax_gateway.specs.declared.side.Side.{Side}
+use Rattle.fax_gateway.specs.declared.side.Side.TheVariants as side
+use Rattle.fax_gateway.specs.declared.given.Kept.{Kept}
+use Rattle.fax_gateway.specs.Setups.{Setup}
+use Rattle.fax_gateway.specs.Events.{Event, Given, Ring, FromCalling, FromCalled, Tick, clock}
+use Rattle.fax_gateway.specs.CallingLegs.{CallingLeg, calling_leg}
+use Rattle.fax_gateway.specs.Cuts.{confirmed_at}
+use Rattle.fax_gateway.specs.Newest.{ConfirmsTheNewest}
+use Rattle.fax_gateway.specs.Origins.{AreOfTheirCalls, IsOfItsCall, JobsAreOfTheirCalls}
+use Rattle.fax_gateway.specs.Sides.{book_of, past_of, sides}
+use Rattle.fax_gateway.specs.Traces.{IsTrace}
+use Rattle.fax_gateway.specs.Reports.{report_list, reports_given}
+use Rattle.fax_gateway.specs.Driving.{Entry, Accepts, AreReceives, BringsNone, Comes, FailsToReceive, IsSent, IsTick, ReceivesNothing, RefusesDatagram, RefusesRing, RefusesTick, Sends, events, events_in}
+use Rattle.fax_gateway.specs.Turns.{kept_at, kept_if, kept_list, pages_kept}
+use Rattle.fax_gateway.proofs.DrivingLemmas.{sends_no_event}
+use Rattle.fax_line.specs.Actions.{LineValue}
+use Rattle.fax_line.specs.Settling.{IsKeptAs}
+use Rattle.fax_line.specs.declared.settling.PageToKeep.{PageToKeep}
+use Rattle.fax_spool.specs.RecordOctets as spool
+use Rattle.fax_spool.specs.declared.kept_record.KeptRecord.TheVariants.{Page}
+use Rattle.fax_shelf.specs.Keeping.{IsRecordOf}
+use Rattle.fax_shelf.specs.Restorations.{Means}
+use Rattle.fax_shelf.specs.Book.{Tiding, Confirms, confirms, confirms_on, reports, told_in}
+use Rattle.fax_shelf.specs.TurnsTold.{EndsIn, IsPutAs, TurnsTellBoth}
+use Rattle.fax_shelf.proofs.Lives.{kept_pages_are_read}
+
+-- ---- datagrams tell nothing
+
+record IsQuiet (setup : Setup) (older newer : List Event) : Type 0 where
+  reports : reports_given newer ≡ reports_given older
+  pages : pages_kept setup newer ≡ pages_kept setup older
+  told : (before : List Tiding) → told_in setup newer before ≡ told_in setup older before
+
+quiet_again : (setup : Setup) (older between newer : List Event) → IsQuiet setup older between → IsQuiet setup between newer → IsQuiet setup older newer
+quiet_again setup older between newer first second = record {
+  reports = second.reports ∙ first.reports;
+  pages = second.pages ∙ first.pages;
+  told = λ before. second.told before ∙ first.told before;
+}
+
+comes_quiet : (setup : Setup) (at : Side) (now : ℕ) (e : Entry) (older trace : List Event) → Comes at now e → IsQuiet setup older trace → IsQuiet setup older (events_in e ++ trace)
+comes_quiet setup at now (Accepts (Ring moment number)) older trace h s = absurd h
+comes_quiet setup at now (Accepts (FromCalling octets moment decided read)) older trace h s = record { reports = s.reports; pages = s.pages; told = s.told }
+comes_quiet setup at now (Accepts (FromCalled octets moment decided)) older trace h s = record { reports = s.reports; pages = s.pages; told = s.told }
+comes_quiet setup at now (Accepts (Tick moment given)) older trace h s = absurd h
+comes_quiet setup at now (RefusesRing fault) older trace h s = absurd h
+comes_quiet setup at now (RefusesDatagram on octets) older trace h s = s
+comes_quiet setup at now (RefusesTick moment) older trace h s = absurd h
+comes_quiet setup at now (ReceivesNothing on) older trace h s = absurd h
+comes_quiet setup at now (FailsToReceive on) older trace h s = absurd h
+comes_quiet setup at now (Sends on octets fails) older trace h s = absurd h
+
+all_quiet : (setup : Setup) (at : Side) (now : ℕ) (log : List Entry) (trace : List Event) → All (Comes at now) log → IsQuiet setup trace (events log ++ trace)
+all_quiet setup at now [] trace all = record { reports = refl; pages = refl; told = λ before. refl }
+all_quiet setup at now (e ∷ log) trace all =
+    subst (λ (t : List Event). IsQuiet setup trace t) (sym (append_assoc (events_in e) (events log) trace))
+    (comes_quiet setup at now e trace (events log ++ trace) (All-head (Comes at now) e log all) (all_quiet setup at now log trace (All-tail (Comes at now) e log all)))
+
+none_no_event : (at : Side) (e : Entry) → BringsNone at e → events_in e ≡ []
+none_no_event at e (inl is) = ap events_in is
+none_no_event at e (inr is) = ap events_in is
+
+receives_quiet : (setup : Setup) (at : Side) (now : ℕ) (log : List Entry) (trace : List Event) → AreReceives at now log → IsQuiet setup trace (events log ++ trace)
+receives_quiet setup at now log trace (inl (each, many)) = all_quiet setup at now log trace each
+receives_quiet setup at now log trace (inr (came, last, is, each, low, none)) =
+    subst (λ (l : List Event). IsQuiet setup trace (l ++ trace)) (sym (ap events is ∙ ap (λ (l : List Event). l ++ events came) (none_no_event at last none)))
+    (all_quiet setup at now came trace each)
+
+one_event : (now : ℕ) (given : Given) (calling called : List Entry) → IsSent side.Calling given.on_calling calling → IsSent side.Called given.on_called called
+    → events (called ++ (calling ++ Accepts (Tick now given) ∷ [])) ≡ Tick now given ∷ []
+one_event now given calling called first second =
+    let tick : List Entry = Accepts (Tick now given) ∷ [] in
+    flat_map-append events_in called (calling ++ tick) ∙ ap (λ (l : List Event). l ++ events (calling ++ tick)) (sends_no_event side.Called given.on_called called second)
+    ∙ flat_map-append events_in calling tick ∙ ap (λ (l : List Event). l ++ events tick) (sends_no_event side.Calling given.on_calling calling first)
+
+-- a turn: what came, of which nothing is told, and then a tick, or none
+data Turned (setup : Setup) (older newer : List Event) : Type 0 where
+  Ticked : (between : List Event) → (now : ℕ) → (given : Given) → IsQuiet setup older between → newer ≡ Tick now given ∷ between → Turned setup older newer
+  Refused : IsQuiet setup older newer → Turned setup older newer
+
+turned : (setup : Setup) (writes : Writing) (older newer : List Event) (line : LineValue) → EndsIn setup writes older newer line → Turned setup older newer
+turned setup writes older newer line ends =
+    let calling : List Entry = ends.turn.calling in
+    let called : List Entry = ends.turn.called in
+    let between : List Event = events called ++ (events calling ++ older) in
+    let quiet : IsQuiet setup older between =
+    quiet_again setup older (events calling ++ older) between (receives_quiet setup side.Calling ends.now calling older ends.turn.on_calling)
+    (receives_quiet setup side.Called ends.now called (events calling ++ older) ends.turn.on_called) in
+    let all : newer ≡ events ends.turn.tick ++ between =
+    ends.longer ∙ ap (λ (l : List Entry). events l ++ older) ends.turn.log_is
+    ∙ ap (λ (l : List Event). l ++ older) (flat_map-append events_in ends.turn.tick (called ++ calling) ∙ ap (λ (l : List Event). events ends.turn.tick ++ l) (flat_map-append events_in called calling))
+    ∙ append_assoc (events ends.turn.tick) (events called ++ events calling) older ∙ ap (λ (l : List Event). events ends.turn.tick ++ l) (append_assoc (events called) (events calling) older) in
+    by between quiet all ends.turn.ticks
+  where
+    by : (between : List Event) → IsQuiet setup older between → newer ≡ events ends.turn.tick ++ between → IsTick ends.now ends.turn.tick → Turned setup older newer
+    by between quiet all (inl (given, calling, called, first, second, is)) =
+        Ticked between ends.now given quiet (all ∙ ap (λ (l : List Event). l ++ between) (ap events is ∙ one_event ends.now given calling called first second))
+    by between quiet all (inr is) = Refused (subst (λ (t : List Event). IsQuiet setup older t) (sym (all ∙ ap (λ (l : List Entry). events l ++ between) is)) quiet)
+
+-- ---- what it told is that of the tick
+
+same_report : (o p : Option Report) → report_list o ≡ report_list p → o ≡ p
+same_report None None same = refl
+same_report None (Some r) same = absurd (cc)
+same_report (Some r) None same = absurd (cc)
+same_report (Some r) (Some s) same = let e : r ≡ s = cc in ap (λ (x : Report). Some x) e
+
+same_kept : (o p : Option Kept) → kept_list o ≡ kept_list p → o ≡ p
+same_kept None None same = refl
+same_kept None (Some r) same = absurd (cc)
+same_kept (Some r) None same = absurd (cc)
+same_kept (Some r) (Some s) same = let e : r ≡ s = cc in ap (λ (x : Kept). Some x) e
+
+no_more : {A : Type 0} (xs ys : List A) → xs ≡ xs ++ ys → [] ≡ ys
+no_more xs ys same = append_cancel_left xs [] ys (append-nil xs ∙ same)
+
+-- of a leg that confirms nothing, nothing is told
+quiet_leg : (leg : Option CallingLeg) (now : ℕ) (given : Option (List ℕ)) (before : List Tiding) → kept_at leg now ≡ None → confirms_on leg now given before ≡ before
+quiet_leg None now given before none = refl
+quiet_leg (Some l) now given before none = by (confirmed_at (Some l) now) none
+  where
+    by : (o : Option ConfirmedPage) → kept_if l.number o ≡ None → confirms given l.number o before ≡ before
+    by None none = refl
+    by (Some c) none = absurd (cc)
+
+-- and of one that confirms a page that is told as this
+record Told (leg : Option CallingLeg) (now : ℕ) (given : Option (List ℕ)) (kept : Kept) : Type 0 where
+  confirmed : ConfirmedPage
+  at : confirmed_at leg now ≡ Some confirmed
+  format : kept.format ≡ confirmed.page.format
+  closes : kept.closes ≡ confirmed.closes
+  told : (before : List Tiding) → confirms_on leg now given before ≡ Confirms given (record { call = kept.call; page = confirmed.page }) kept.closes ∷ before
+
+same_some : (k other : Kept) → Some k ≡ Some other → k ≡ other
+same_some k other same = cc
+
+told_leg : (leg : Option CallingLeg) (now : ℕ) (given : Option (List ℕ)) (kept : Kept) → kept_at leg now ≡ Some kept → Told leg now given kept
+told_leg None now given kept is = absurd (cc)
+told_leg (Some l) now given kept is = by (confirmed_at (Some l) now) refl is
+  where
+    by : (o : Option ConfirmedPage) → confirmed_at (Some l) now ≡ o → kept_if l.number o ≡ Some kept → Told (Some l) now given kept
+    by None at is = absurd (cc)
+    by (Some c) at is =
+        let mine : Kept = record { call = l.number; format = c.page.format; rows = length c.page.rows; closes = c.closes } in
+        let same : mine ≡ kept = same_some mine kept is in
+        record {
+          confirmed = c;
+          at = at;
+          format = ap (λ (k : Kept). k.format) (sym same);
+          closes = ap (λ (k : Kept). k.closes) (sym same);
+          told = λ before.
+              ap (λ (o : Option ConfirmedPage). confirms given l.number o before) at
+              ∙ ap (λ (k : Kept). Confirms given (record { call = k.call; page = c.page }) k.closes ∷ before) same;
+        }
+
+-- ---- the newest page of a book is a page
+
+get_of : {A : Type 0} (P : A → Type 0) (xs : List A) (n : ℕ) (x : A) → All P xs → slice_get xs n ≡ Some x → P x
+get_of P [] n x all is = absurd (cc)
+get_of P (y ∷ xs) zero x all is = let e : y ≡ x = cc in subst P e (All-head P y xs all)
+get_of P (y ∷ xs) (suc n) x all is = get_of P xs n x (All-tail P y xs all) is
+
+get_job : (setup : Setup) (trace : List Event) (jobs : List JobValue) (n : ℕ) (job : JobValue) → AreOfTheirCalls setup trace jobs → slice_get jobs n ≡ Some job → IsOfItsCall setup trace job
+get_job setup trace [] n job are is = absurd (cc)
+get_job setup trace (j ∷ jobs) zero job are is = let e : j ≡ job = cc in subst (λ (x : JobValue). IsOfItsCall setup trace x) e are.0
+get_job setup trace (j ∷ jobs) (suc n) job are is = get_job setup trace jobs n job are.1 is
+
+jobs_behind : (setup : Setup) (trace : List Event) (jobs others : List JobValue) → AreOfTheirCalls setup trace (jobs ++ others) → AreOfTheirCalls setup trace others
+jobs_behind setup trace [] others are = are
+jobs_behind setup trace (j ∷ jobs) others are = jobs_behind setup trace jobs others are.1
+
+page_of_job : (setup : Setup) (trace : List Event) (job : JobValue) (page : PageValue) → IsOfItsCall setup trace job → last_page (Some job) ≡ Some page → IsPage page
+page_of_job setup trace job page is last = get_of IsPage job.pages (length job.pages - 1) page is.is_job.are_pages last
+
+newest_is_page : (setup : Setup) (trace : List Event) (past : Past) (page : PageValue) → AreOfTheirCalls setup trace (jobs_of past) → AreOfTheirCalls setup trace (as_list past.book.open_job)
+    → newest_page past.book ≡ Some page → IsPage page
+newest_is_page setup trace past page closed unclosed is = by past.book.open_job (closed_last past.book.waiting) past.book.sending unclosed refl sent is
+  where
+    sent : AreOfTheirCalls setup trace (as_list past.book.sending ++ past.book.waiting)
+    sent = jobs_behind setup trace past.ended (as_list past.book.sending ++ past.book.waiting) closed
+
+    by : (o w s : Option JobValue) → AreOfTheirCalls setup trace (as_list o) → closed_last past.book.waiting ≡ w → AreOfTheirCalls setup trace (as_list s ++ past.book.waiting)
+        → last_page (or_else o (or_else w s)) ≡ Some page → IsPage page
+    by (Some job) w s own waits others is = page_of_job setup trace job page own.0 is
+    by None (Some job) s own waits others is =
+        page_of_job setup trace job page
+        (get_job setup trace past.book.waiting (length past.book.waiting - 1) job (jobs_behind setup trace (as_list s) past.book.waiting others) waits) is
+    by None None (Some job) own waits others is = page_of_job setup trace job page others.0 is
+    by None None None own waits others is = absurd (cc)
+
+-- ---- so both are told
+
+same_page : (page other : PageValue) → Some page ≡ Some other → page ≡ other
+same_page page other same = cc
+
+same_value : (value other : spool.PageValue) → Page value ≡ Page other → value ≡ other
+same_value value other same = cc
+
+put_tick : ConfirmsTheNewest → JobsAreOfTheirCalls → WrittenPagesMean → (setup : Setup) (writes : Writing) (older between : List Event) (now : ℕ) (given : Given) (report : Option Report) (book : Book) (kept : Kept)
+    (page : PageToKeep) (value : spool.PageValue) → IsQuiet setup older between → IsTrace setup writes (Tick now given ∷ between) → book ≡ book_of (sides setup writes (Tick now given ∷ between))
+    → given.report ≡ report → kept_at (calling_leg setup between) (max now (clock between)) ≡ Some kept → IsKeptAs kept (newest_page book) page → IsRecordOf page (Page value)
+    → IsPutAs setup older (Tick now given ∷ between) report value
+put_tick newest origins mean setup writes older between now given report book kept page value quiet trace is_book is_report at is recorded =
+    let newer : List Event = Tick now given ∷ between in
+    let told : Told (calling_leg setup between) (max now (clock between)) given.on_calling kept = told_leg (calling_leg setup between) (max now (clock between)) given.on_calling kept at in
+    let own : PageValue = told.confirmed.page in
+    let is_newest : newest_page book ≡ Some own = ap (λ (b : Book). newest_page b) is_book ∙ newest setup writes now given between told.confirmed trace told.at in
+    let jobs = origins setup writes newer trace in
+    let is_page : IsPage own = newest_is_page setup newer (past_of (sides setup writes newer)) own jobs.0 jobs.1 (ap (λ (b : Book). newest_page b) (sym is_book) ∙ is_newest) in
+    let kept_as : IsKeptAs kept (Some own) page = subst (λ (o : Option PageValue). IsKeptAs kept o page) is_newest is in
+    let means : Means value own = kept_pages_are_read mean kept own page value is_page told.format kept_as recorded in
+    let same : recorded.value ≡ value = sym (same_value value recorded.value recorded.is_page) in
+    let call : value.call ≡ kept.call = ap (λ (v : spool.PageValue). v.call) (sym same) ∙ recorded.call ∙ ap (λ (k : Kept). k.call) is.told in
+    let closes : value.closes ≡ kept.closes = ap (λ (v : spool.PageValue). v.closes) (sym same) ∙ recorded.closes ∙ ap (λ (k : Kept). k.closes) is.told in
+    record {
+      page = record { waits = value; page = own };
+      waits = refl;
+      means = means;
+      given = given.on_calling;
+      told = λ before.
+          ap (λ (o : Option Report). reports o (confirms_on (calling_leg setup between) (max now (clock between)) given.on_calling (told_in setup between before))) is_report
+          ∙ ap (λ (t : List Tiding). reports report t)
+          (told.told (told_in setup between before) ∙ ap (λ (n : ℕ). Confirms given.on_calling (record { call = n; page = own }) kept.closes ∷ told_in setup between before) (sym call)
+          ∙ ap (λ (b : Bool). Confirms given.on_calling (record { call = value.call; page = own }) b ∷ told_in setup between before) (sym closes)
+          ∙ ap (λ (t : List Tiding). Confirms given.on_calling (record { call = value.call; page = own }) value.closes ∷ t) (quiet.told before));
+    }
+
+-- what is told of a tick behind what came
+tick_report : (setup : Setup) (older between : List Event) (now : ℕ) (given : Given) (report : Option Report) → IsQuiet setup older between
+    → reports_given (Tick now given ∷ between) ≡ reports_given older ++ report_list report → given.report ≡ report
+tick_report setup older between now given report quiet tells =
+    same_report given.report report (append_cancel_left (reports_given older) (report_list given.report) (report_list report) (ap (λ (l : List Report). l ++ report_list given.report) (sym quiet.reports) ∙ tells))
+
+tick_kept : (setup : Setup) (older between : List Event) (now : ℕ) (given : Given) (kept : Option Kept) → IsQuiet setup older between
+    → pages_kept setup (Tick now given ∷ between) ≡ pages_kept setup older ++ kept_list kept → kept_at (calling_leg setup between) (max now (clock between)) ≡ kept
+tick_kept setup older between now given kept quiet tells =
+    let at : Option Kept = kept_at (calling_leg setup between) (max now (clock between)) in
+    same_kept at kept (append_cancel_left (pages_kept setup older) (kept_list at) (kept_list kept) (ap (λ (l : List Kept). l ++ kept_list at) (sym quiet.pages) ∙ tells))
+
+tells_none : (setup : Setup) (older newer : List Event) (report : Option Report) (kept : Option Kept) → Turned setup older newer → reports_given newer ≡ reports_given older ++ report_list report
+    → pages_kept setup newer ≡ pages_kept setup older ++ kept_list kept → kept ≡ None → (before : List Tiding) → told_in setup newer before ≡ reports report (told_in setup older before)
+tells_none setup older newer report kept (Refused quiet) reported pages none before =
+    let no_report : None ≡ report = same_report None report (no_more (reports_given older) (report_list report) (sym quiet.reports ∙ reported)) in
+    quiet.told before ∙ ap (λ (o : Option Report). reports o (told_in setup older before)) no_report
+tells_none setup older newer report kept (Ticked between now given quiet is) reported pages none before =
+    let leg : Option CallingLeg = calling_leg setup between in
+    let moment : ℕ = max now (clock between) in
+    let is_report : given.report ≡ report = tick_report setup older between now given report quiet (subst (λ (t : List Event). reports_given t ≡ reports_given older ++ report_list report) is reported) in
+    let is_kept : kept_at leg moment ≡ kept = tick_kept setup older between now given kept quiet (subst (λ (t : List Event). pages_kept setup t ≡ pages_kept setup older ++ kept_list kept) is pages) in
+    ap (λ (t : List Event). told_in setup t before) is ∙ ap (λ (o : Option Report). reports o (confirms_on leg moment given.on_calling (told_in setup between before))) is_report
+    ∙ ap (λ (t : List Tiding). reports report t) (quiet_leg leg moment given.on_calling (told_in setup between before) (is_kept ∙ none) ∙ quiet.told before)
+
+tells_one : ConfirmsTheNewest → JobsAreOfTheirCalls → WrittenPagesMean → (setup : Setup) (writes : Writing) (older newer : List Event) (report : Option Report) (kept : Option Kept) (book : Book) (own : Kept)
+    (page : PageToKeep) (value : spool.PageValue) → Turned setup older newer → IsTrace setup writes newer → book ≡ book_of (sides setup writes newer) → reports_given newer ≡ reports_given older ++ report_list report
+    → pages_kept setup newer ≡ pages_kept setup older ++ kept_list kept → kept ≡ Some own → IsKeptAs own (newest_page book) page → IsRecordOf page (Page value) → IsPutAs setup older newer report value
+tells_one newest origins mean setup writes older newer report kept book own page value (Refused quiet) trace is_book reported pages some is recorded =
+    let no_page : None ≡ kept = same_kept None kept (no_more (pages_kept setup older) (kept_list kept) (sym quiet.pages ∙ pages)) in
+    absurd (let e : None ≡ Some own = no_page ∙ some in none_is_some own e)
+  where
+    none_is_some : (k : Kept) → None ≡ Some k → ⊥
+    none_is_some k e = cc
+tells_one newest origins mean setup writes older newer report kept book own page value (Ticked between now given quiet at) trace is_book reported pages some is recorded =
+    let leg : Option CallingLeg = calling_leg setup between in
+    let moment : ℕ = max now (clock between) in
+    let is_report : given.report ≡ report = tick_report setup older between now given report quiet (subst (λ (t : List Event). reports_given t ≡ reports_given older ++ report_list report) at reported) in
+    let is_kept : kept_at leg moment ≡ kept = tick_kept setup older between now given kept quiet (subst (λ (t : List Event). pages_kept setup t ≡ pages_kept setup older ++ kept_list kept) at pages) in
+    subst (λ (t : List Event). IsPutAs setup older t report value) (sym at)
+    (put_tick newest origins mean setup writes older between now given report book own page value quiet (subst (λ (t : List Event). IsTrace setup writes t) at trace)
+    (is_book ∙ ap (λ (t : List Event). book_of (sides setup writes t)) at) is_report (is_kept ∙ some) is recorded)
+
+pub turns_tell_both : ConfirmsTheNewest → JobsAreOfTheirCalls → WrittenPagesMean → TurnsTellBoth
+turns_tell_both newest origins mean setup writes older newer line ends =
+    let turn : Turned setup older newer = turned setup writes older newer line ends in
+    record {
+      none = λ none before. tells_none setup older newer line.turned.report line.turned.kept turn ends.tells.reports ends.tells.pages none before;
+      one = λ page value is recorded.
+          tells_one newest origins mean setup writes older newer line.turned.report line.turned.kept line.gateway.book is.kept page value turn ends.reached.is_trace ends.reached.book ends.tells.reports
+          ends.tells.pages is.told is.is_kept_as recorded;
+    }
