@@ -1,12 +1,16 @@
 -- What a run of `faxgate send` tells, and with which status a run ends that does not come to its end. (This project's profile.)
-use Rattle.std.specs.Prelude.{◌≡◌, ℕ, length}
+use Rattle.std.specs.Prelude.{◌≡◌, ℕ, ◌≤◌, All, length}
+use Rattle.fax_runcodes.specs.declared.format.Format.{Format}
+use Rattle.fax_runcodes.specs.declared.format.Coding.{Coding}
 use Rattle.fax_command.specs.declared.status.Status.{Status}
 use Rattle.fax_command.specs.declared.status.Status.TheVariants as status
 use Rattle.fax_jobs.specs.declared.report.Report.{Report}
-use Rattle.fax_jobs.specs.Jobs.{JobValue}
+use Rattle.fax_jobs.specs.Jobs.{JobValue, most_pages}
 use Rattle.fax_terminal.specs.Calls.{TellsCall}
 use Rattle.fax_machine.specs.declared.run_fault.RunFault.{RunFault}
 use Rattle.fax_machine.specs.declared.run_fault.RunFault.TheVariants as faults
+use Rattle.fax_machine.specs.declared.sending.SendOptions.{SendOptions}
+use Rattle.fax_machine.specs.Files.{IsPageOfFile}
 
 -- the exit status of a run that did not come to its end: 1 where the pages are at fault, 4 where the system is
 abbrev pub status_of_fault : RunFault → Status
@@ -23,13 +27,15 @@ pub record TellsJob (pause : ℕ) (job : JobValue) (report : Report) : Type 0 wh
   pub pages : report.pages ≡ length job.pages
   pub ended : TellsCall pause job (record { outcome = report.outcome; delivered = report.delivered })
 
--- a job of call 0 that has as many pages as there are files
-pub record IsJobOfFiles (files : ℕ) (job : JobValue) : Type 0 where
+-- a job of call 0 that has as many pages as there are files, which are few enough, and each of them is one that a file has
+pub record IsJobOfFiles (format : Format) (coding : Coding) (files : ℕ) (job : JobValue) : Type 0 where
   pub call : job.call ≡ 0
   pub one_each : length job.pages ≡ files
+  pub few : files ≤ most_pages
+  pub pages : All (IsPageOfFile format coding) job.pages
 
 -- A run with so many files tells how the call of such a job ended.
-pub record TellsRun (pause : ℕ) (files : ℕ) (report : Report) : Type 0 where
+pub record TellsRun (options : SendOptions) (files : ℕ) (report : Report) : Type 0 where
   pub job : JobValue
-  pub of_files : IsJobOfFiles files job
-  pub tells : TellsJob pause job report
+  pub of_files : IsJobOfFiles options.format options.coding files job
+  pub tells : TellsJob options.settings.preamble_ms job report

@@ -1,4 +1,7 @@
 //! The time of a terminal, by the clock.
+ghost use Rattle.std.specs.Prelude.{IfErr};
+ghost use Rattle.fax_machine.specs.Faults.{IsClockFault};
+
 use crate::run_fault::RunFault;
 use crate::watch::Watch;
 use fax_terminal::Pace;
@@ -27,7 +30,9 @@ impl<'a, H: Clock, E: Eprint> ClockPace<'a, H, E> {
         host: &'a H,
         watch: &'a Watch<'a, E>,
         socket: &UdpSocket,
-    ) -> Result<Self, RunFault<'static>> {
+    ) -> Result<Self, RunFault<'static>>
+        ensures { IfErr result IsClockFault }
+    {
         let start = Instant::now(host)?;
         Ok(ClockPace {
             host,

@@ -1,5 +1,7 @@
 //! The pages in files, as a job.
-ghost use Rattle.std.specs.Prelude.{IfOk, length};
+ghost use Rattle.std.specs.Prelude.{IfErr, IfOk, length, map};
+ghost use Rattle.fax_machine.specs.Faults.{IsFileFault, IsJobFault, RefusesOctets};
+ghost use Rattle.fax_machine.specs.Files.{HasPage, IsPageOfFile};
 ghost use Rattle.fax_machine.specs.Runs.{IsJobOfFiles};
 
 use crate::run_fault::RunFault;
@@ -32,7 +34,8 @@ pub(crate) fn read_job<'a, H: Files>(
     reading: Reading,
     files: &[&'a str],
 ) -> Result<Job<PackedRows>, RunFault<'a>>
-    ensures { IfOk result (IsJobOfFiles (length files.now)) }
+    ensures ok { IfOk result (IsJobOfFiles reading.format reading.coding (length files.now)) }
+    ensures fault { IfErr result (IsJobFault reading.format reading.coding (map (λ path. path.now) files.now)) }
 {
     let Some((first, others)) = files.split_first() else {
         return Err(RunFault::PageCount);
@@ -59,7 +62,10 @@ fn read_file<'a, H: Files>(
     alloc: Global,
     reading: Reading,
     path: &'a str,
-) -> Result<Page<PackedRows>, RunFault<'a>> {
+) -> Result<Page<PackedRows>, RunFault<'a>>
+    ensures ok { IfOk result (IsPageOfFile reading.format reading.coding) }
+    ensures fault { IfErr result (IsFileFault reading.format reading.coding path.entry.now) }
+{
     let file = match fs::open(host, path) {
         Ok(file) => file,
         Err(error) => return Err(RunFault::File(path, error)),
@@ -77,7 +83,11 @@ fn page_in<'a>(
     reading: Reading,
     path: &'a str,
     octets: Vec<u8>,
-) -> Result<Page<PackedRows>, RunFault<'a>> {
+) -> Result<Page<PackedRows>, RunFault<'a>>
+    ensures ok { IfOk result (HasPage reading.format reading.coding octets.items) }
+    ensures fault { IfErr result (RefusesOctets reading.format reading.coding octets.items) }
+    ensures file { IfErr result (IsFileFault reading.format reading.coding path.entry.now) }
+{
     if octets.as_slice().starts_with(b"P4") {
         return match read_pbm(alloc, octets.as_slice(), reading.format.fine) {
             Ok(page) => Ok(page),

@@ -1,5 +1,7 @@
 //! A run of `faxgate receive`.
+ghost use Rattle.std.specs.Prelude.{◌⊎◌, IfErr};
 ghost use Rattle.fax_gateway.specs.Setups.{AreAllowed};
+ghost use Rattle.fax_machine.specs.Faults.{IsClockFault, IsKeepingFault, IsReceiveFault};
 
 use crate::clock_pace::ClockPace;
 use crate::page_files::{PageFiles, free_call};
@@ -38,6 +40,7 @@ pub fn run_receive<'a, H: Net + Clock + Files, E: Eprint>(
     options: ReceiveOptions<'a>,
 ) -> Result<(), RunFault<'a>>
     requires { AreAllowed options.settings }
+    ensures { IfErr result (IsReceiveFault options.entry) }
 {
     let here = address_of(host, options.on)?;
     let port = Port::new(socket_at(host, options.on, here)?);
@@ -53,6 +56,7 @@ fn answer_calls<'a, H: Clock + Files, E: Eprint>(
     port: &Port,
 ) -> Result<(), RunFault<'a>>
     requires { AreAllowed options.settings }
+    ensures { IfErr result (IsReceiveFault options.entry) }
 {
     let mut pace = ClockPace::new(host, watch, port.socket())?;
     let mut number = 0;
@@ -88,7 +92,9 @@ fn fault_of<'a, H: Files, E: Eprint>(
     prefix: &'a str,
     call: u32,
     files: PageFiles<'_, H, E>,
-) -> RunFault<'a> {
+) -> RunFault<'a>
+    ensures { IsClockFault result ⊎ IsKeepingFault prefix.entry.now result }
+{
     match fault {
         TerminalFault::NoMemory => RunFault::NoMemory,
         TerminalFault::Clock => RunFault::Time,

@@ -76,12 +76,22 @@ impl fmt::Display for RunFault<'_> {
 }
 
 impl From<NoMemory> for RunFault<'_> {
+    ghost use Rattle.std.specs.Prelude.{◌≡◌};
+    ghost use Rattle.fax_machine.specs.declared.run_fault.RunFault.TheVariants as faults;
+
+    ghost from_gives = { λ _ fault. fault ≡ faults.NoMemory };
+
     fn from(_: NoMemory) -> Self {
         RunFault::NoMemory
     }
 }
 
 impl From<AllocError> for RunFault<'_> {
+    ghost use Rattle.std.specs.Prelude.{◌≡◌};
+    ghost use Rattle.fax_machine.specs.declared.run_fault.RunFault.TheVariants as faults;
+
+    ghost from_gives = { λ _ fault. fault ≡ faults.NoMemory };
+
     fn from(_: AllocError) -> Self {
         RunFault::NoMemory
     }
@@ -89,6 +99,11 @@ impl From<AllocError> for RunFault<'_> {
 
 /// Of the clock.
 impl From<io::Error> for RunFault<'_> {
+    ghost use Rattle.std.specs.Prelude.{◌≡◌};
+    ghost use Rattle.fax_machine.specs.declared.run_fault.RunFault.TheVariants as faults;
+
+    ghost from_gives = { λ error fault. fault ≡ faults.Clock error };
+
     fn from(error: io::Error) -> Self {
         RunFault::Clock(error)
     }

@@ -1,6 +1,7 @@
 //! A run of `faxgate send`.
-ghost use Rattle.std.specs.Prelude.{IfOk, length};
+ghost use Rattle.std.specs.Prelude.{IfErr, IfOk, length, map};
 ghost use Rattle.fax_gateway.specs.Setups.{AreAllowed};
+ghost use Rattle.fax_machine.specs.Faults.{IsCallingFault, IsSendFault};
 ghost use Rattle.fax_machine.specs.Runs.{TellsRun};
 
 use crate::clock_pace::ClockPace;
@@ -36,7 +37,7 @@ pub struct SendOptions<'a> {
 
 /// Calls a machine and sends the pages in these files, each a P4 picture or the hex text of a page, and reports how the call
 /// ended. Where it was not delivered, and sends or receives failed, that is told. No contract says what stands in a file: the
-/// pages of the job that it tells are as many as the files.
+/// job that it tells has as many pages as there are files, each a page that some file has. An `Err` names what is at fault.
 pub fn run_send<'a, H: Net + Clock + Files, E: Eprint>(
     host: &H,
     watch: &Watch<'_, E>,
@@ -45,7 +46,8 @@ pub fn run_send<'a, H: Net + Clock + Files, E: Eprint>(
     files: &[&'a str],
 ) -> Result<Report, RunFault<'a>>
     requires { AreAllowed options.settings }
-    ensures { IfOk result (TellsRun options.entry.settings.preamble_ms (length files.now)) }
+    ensures ok { IfOk result (TellsRun options.entry (length files.now)) }
+    ensures fault { IfErr result (IsSendFault options.entry (map (λ path. path.now) files.now)) }
 {
     let reading = Reading {
         format: options.format,
@@ -79,7 +81,9 @@ fn calling_socket<'a, H: Net>(
     host: &H,
     options: SendOptions<'a>,
     peer: SocketAddr,
-) -> Result<UdpSocket, RunFault<'a>> {
+) -> Result<UdpSocket, RunFault<'a>>
+    ensures { IfErr result (IsCallingFault options.entry) }
+{
     let socket = match options.on {
         Some(on) => socket_at(host, on, address_of(host, on)?)?,
         None => socket_at(host, options.to, any_address(peer))?,

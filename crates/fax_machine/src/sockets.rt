@@ -1,10 +1,17 @@
 //! Addresses, and sockets at them.
+ghost use Rattle.std.specs.Prelude.{◌≡◌, IfErr};
+ghost use Rattle.std.specs.Net.Addr.{is_ipv4};
+ghost use Rattle.std.specs.Net.Socket.{socket_ip, socket_port};
+ghost use Rattle.fax_machine.specs.Faults.{IsAddressFault};
+
 use crate::run_fault::RunFault;
 use std::io;
 use std::net::{IpAddr, Ipv4Addr, Ipv6Addr, Net, SocketAddr, ToSocketAddrs, UdpSocket};
 
 /// The first machine that an address names.
-pub(crate) fn address_of<'a, H: Net>(host: &H, text: &'a str) -> Result<SocketAddr, RunFault<'a>> {
+pub(crate) fn address_of<'a, H: Net>(host: &H, text: &'a str) -> Result<SocketAddr, RunFault<'a>>
+    ensures { IfErr result (IsAddressFault text.entry.now) }
+{
     match text.to_socket_addrs(host) {
         Ok(mut found) => match found.next() {
             Some(address) => Ok(address),
@@ -19,7 +26,9 @@ pub(crate) fn socket_at<'a, H: Net>(
     host: &H,
     text: &'a str,
     here: SocketAddr,
-) -> Result<UdpSocket, RunFault<'a>> {
+) -> Result<UdpSocket, RunFault<'a>>
+    ensures { IfErr result (IsAddressFault text.entry.now) }
+{
     match open_socket(host, here) {
         Ok(socket) => Ok(socket),
         Err(error) => Err(RunFault::Address(text, error)),
@@ -34,7 +43,10 @@ fn open_socket<H: Net>(host: &H, here: SocketAddr) -> io::Result<UdpSocket> {
 }
 
 /// Any address of this host from which this peer can be reached.
-pub(crate) fn any_address(peer: SocketAddr) -> SocketAddr {
+pub(crate) fn any_address(peer: SocketAddr) -> SocketAddr
+    ensures family { is_ipv4 (socket_ip result) ≡ is_ipv4 (socket_ip peer) }
+    ensures port { socket_port result ≡ 0 }
+{
     let address = match peer {
         SocketAddr::V4(_) => IpAddr::V4(Ipv4Addr::UNSPECIFIED),
         SocketAddr::V6(_) => IpAddr::V6(Ipv6Addr::UNSPECIFIED),

@@ -1,0 +1,68 @@
+-- WHOSE FAULT IT IS where a run of `faxgate send` or `faxgate receive` does not come to its end. (This project's profile.)
+use Rattle.std.specs.Prelude.{◌≡◌, ◌≢◌, ℕ, ◌<◌, ◌⊎◌, List, [], length, Contains, IsSomeAnd}
+use Rattle.fax_runcodes.specs.declared.format.Format.{Format}
+use Rattle.fax_runcodes.specs.declared.format.Coding.{Coding}
+use Rattle.fax_jobs.specs.Jobs.{most_pages}
+use Rattle.fax_command.specs.declared.input.InputError.TheVariants as input_errors
+use Rattle.fax_machine.specs.declared.receiving.ReceiveOptions.{ReceiveOptions}
+use Rattle.fax_machine.specs.declared.run_fault.RunFault.{RunFault}
+use Rattle.fax_machine.specs.declared.run_fault.RunFault.TheVariants as faults
+use Rattle.fax_machine.specs.declared.sending.SendOptions.{SendOptions}
+use Rattle.fax_machine.specs.Files.{IsBadPicture, IsBadText}
+
+-- ---- the files of a job
+
+-- octets are at fault in this way, or memory is wanting
+abbrev pub RefusesOctets : Format → Coding → List ℕ → RunFault → Type 0
+RefusesOctets format coding file faults.NoMemory = Unit {0}
+RefusesOctets format coding file (faults.Picture path fault) = IsBadPicture format.fine file fault
+RefusesOctets format coding file (faults.Text path fault) = IsBadText format coding file fault
+RefusesOctets format coding file fault = ⊥
+
+-- This file is at fault: it cannot be opened or read, or its octets are no page. Or memory is wanting.
+abbrev pub IsFileFault : Format → Coding → (path : List ℕ) → RunFault → Type 0
+IsFileFault format coding path faults.NoMemory = Unit {0}
+IsFileFault format coding path (faults.File named error) = named.now ≡ path
+IsFileFault format coding path (faults.Unread named error) = (named.now ≡ path) × (error ≢ input_errors.NoMemory)
+IsFileFault format coding path (faults.Picture named fault) = (named.now ≡ path) × (file : List ℕ) × IsBadPicture format.fine file fault
+IsFileFault format coding path (faults.Text named fault) = (named.now ≡ path) × (file : List ℕ) × IsBadText format coding file fault
+IsFileFault format coding path fault = ⊥
+
+-- One of the files of a job is at fault, or there is none of them, or too many. Or memory is wanting.
+abbrev pub IsJobFault : Format → Coding → (paths : List (List ℕ)) → RunFault → Type 0
+IsJobFault format coding paths faults.NoMemory = Unit {0}
+IsJobFault format coding paths faults.PageCount = (paths ≡ []) ⊎ (most_pages < length paths)
+IsJobFault format coding paths fault = (path : List ℕ) × Contains paths path × IsFileFault format coding path fault
+
+-- ---- addresses and the clock
+
+-- this address names no machine, or there is no socket for it
+abbrev pub IsAddressFault : List ℕ → RunFault → Type 0
+IsAddressFault address (faults.Address named error) = named.now ≡ address
+IsAddressFault address fault = ⊥
+
+-- the address that is called is at fault, or the one from which it is called, where one is told
+abbrev pub IsCallingFault : SendOptions → RunFault → Type 0
+IsCallingFault options fault = IsAddressFault options.to.now fault ⊎ IsSomeAnd options.on (λ on. IsAddressFault on.now fault)
+
+-- the clock tells nothing, or no more
+abbrev pub IsClockFault : RunFault → Type 0
+IsClockFault (faults.Clock error) = Unit {0}
+IsClockFault faults.Time = Unit {0}
+IsClockFault fault = ⊥
+
+-- ---- the runs
+
+-- the fault of a run of `faxgate send`: of its files, of an address, or of the clock
+abbrev pub IsSendFault : SendOptions → (paths : List (List ℕ)) → RunFault → Type 0
+IsSendFault options paths fault = IsJobFault options.format options.coding paths fault ⊎ (IsCallingFault options fault ⊎ IsClockFault fault)
+
+-- a page of files that are named so could not be written; or memory is wanting
+abbrev pub IsKeepingFault : (prefix : List ℕ) → RunFault → Type 0
+IsKeepingFault prefix faults.NoMemory = Unit {0}
+IsKeepingFault prefix (faults.Page named call page error) = named.now ≡ prefix
+IsKeepingFault prefix fault = ⊥
+
+-- the fault of a run of `faxgate receive`: of its address, of the clock, or of a page's file
+abbrev pub IsReceiveFault : ReceiveOptions → RunFault → Type 0
+IsReceiveFault options fault = IsAddressFault options.on.now fault ⊎ (IsClockFault fault ⊎ IsKeepingFault options.prefix.now fault)
