@@ -70,3 +70,10 @@ KeptFirst = (given : Option (List ℕ)) (earlier : List Deed) → went_out (Turn
 -- and nothing goes out behind it until the next call begins
 abbrev pub MuteUntilTheNextCall : Type 0
 MuteUntilTheNextCall = (later earlier : List Deed) (given : Option (List ℕ)) → BeginsNone later → went_out (later ++ Turn given true false ∷ earlier) ≡ went_out earlier
+
+-- ---- where pages are kept
+
+-- Pages are put, all of them at once, by a keeper that tells what its puts make of it. Where there are none it is not asked.
+abbrev pub PutsIf : {P K : Type 0} → (List P → Bool → K → K → Type 0) → List P → Bool → K → K → Type 0
+PutsIf puts [] is_kept old new = (is_kept ≡ true) × (new ≡ old)
+PutsIf puts (page ∷ pages) is_kept old new = puts (page ∷ pages) is_kept old new

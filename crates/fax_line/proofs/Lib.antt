@@ -1,6 +1,9 @@
+mod AllKept
 mod Goings
+mod KeptRunning
 mod Missing
 mod Places
 mod Slots
 mod Stepping
+mod Telling
 pub mod Running

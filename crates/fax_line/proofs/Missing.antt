@@ -7,7 +7,7 @@ use Rattle.fax_timers.specs.Moments.{is_due}
 use Rattle.fax_call.specs.Writings.{Writing}
 use Rattle.fax_gateway.specs.declared.side.Side.{Side}
 use Rattle.fax_gateway.specs.declared.side.Side.TheVariants as side
-use Rattle.fax_gateway.specs.Driving.{Accepts, AreReceives, BringsNone, Comes, Entry, FailsToReceive, IsSent, IsTick, IsTurn, ReceivesNothing, RefusesDatagram, RefusesRing, RefusesTick, Sends, events, events_in}
+use Rattle.fax_gateway.specs.Driving.{Accepts, AreReceives, BringsNone, Comes, Entry, FailsToReceive, IsTick, IsTurn, ReceivesNothing, RefusesDatagram, RefusesRing, RefusesTick, Sends, events, events_in}
 use Rattle.fax_gateway.specs.Due.{due_at}
 use Rattle.fax_gateway.specs.Events.{Event, FromCalled, FromCalling, Ring, Tick, clock}
 use Rattle.fax_gateway.specs.Setups.{Setup}

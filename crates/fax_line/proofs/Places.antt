@@ -1,6 +1,5 @@
 -- A line in its place.
-use Rattle.std.proofs.Common.{◌≡◌, ℕ, min, nat_le, ◌≤◌, Bool, true, false, not, ◌&&◌, if◌then◌else◌, List, [], ◌∷◌, ◌++◌, Option, Some, None, refl, sym, ◌∙◌, ap, subst, arith}
-use Rattle.std.proofs.lemmas.Bool.{leb-false, leb-true, false≢true}
+use Rattle.std.proofs.Common.{◌≡◌, ℕ, Bool, true, false, not, ◌&&◌, List, [], ◌∷◌, ◌++◌, Option, Some, None, refl, sym, ◌∙◌, ap, subst, arith}
 use Rattle.fax_timers.specs.Moments.{earlier, is_due}
 use Rattle.fax_call.specs.Writings.{Writing}
 use Rattle.fax_gateway.specs.Due.{due_at}
@@ -8,7 +7,7 @@ use Rattle.fax_gateway.specs.Events.{Event}
 use Rattle.fax_gateway.specs.Reached.{IsReachedBy}
 use Rattle.fax_gateway.specs.Setups.{Setup}
 use Rattle.fax_line.specs.Actions.{Action, Goes, LineValue, Rests, Rings, Turns, Wakes}
-use Rattle.fax_line.specs.Places.{GoesInPlace, IsDueOn, PlaceValue, RestsAsleep, is_at_rest, is_awake, visit_of}
+use Rattle.fax_line.specs.Places.{GoesInPlace, IsDueOn, PlaceValue, RestsAsleep, is_awake, visit_of}
 use Rattle.fax_line.proofs.Goings.{goes_more, goes_none, goes_rest, goes_wake}
 
 -- the earlier of two moments comes no later than the first

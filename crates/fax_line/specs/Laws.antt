@@ -1,10 +1,10 @@
 -- A law of what a line goes through. Lists have the newest first. (This project's profile.)
-use Rattle.std.specs.Prelude.{◌≡◌, ℕ, ◌≤◌, max, false, List, [], ◌∷◌, Option}
+use Rattle.std.specs.Prelude.{◌≡◌, ℕ, ◌≤◌, max, false, List, [], ◌∷◌}
 use Rattle.fax_timers.specs.Moments.{is_due}
 use Rattle.fax_call.specs.Writings.{Writing}
 use Rattle.fax_gateway.specs.Driving.{Entry, events}
 use Rattle.fax_gateway.specs.Due.{due_at}
-use Rattle.fax_gateway.specs.Events.{Event, clock}
+use Rattle.fax_gateway.specs.Events.{clock}
 use Rattle.fax_gateway.specs.Setups.{Setup}
 use Rattle.fax_line.specs.Actions.{Action, AreSteps, Rests, Rings, Turns, Wakes}
 

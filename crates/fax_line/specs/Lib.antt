@@ -1,5 +1,6 @@
 pub mod Actions
 pub mod Deeds
+pub mod KeptRuns
 pub mod Laws
 pub mod Places
 pub mod Runs

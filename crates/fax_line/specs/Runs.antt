@@ -1,8 +1,7 @@
 -- A whole run: what was ordered, and the deeds that it came to. Lists have the newest first. (This project's profile.)
-use Rattle.std.specs.Prelude.{◌≡◌, ℕ, ◌<◌, ◌≤◌, ◌+◌, ◌-◌, ◌^◌, max, Bool, List, [], ◌∷◌, length, Option, Some, None, Result, Ok, Err, ◌⊎◌}
+use Rattle.std.specs.Prelude.{◌≡◌, ℕ, ◌-◌, ◌^◌, max, Bool, List, [], ◌∷◌, length, Option, Some, None, Result, ◌⊎◌}
 use Rattle.fax_gateway.specs.Wires.{Grows}
 use Rattle.fax_gateway.specs.declared.fault.RingFault.{RingFault}
-use Rattle.fax_line.specs.declared.order.Order.{Order}
 use Rattle.fax_line.specs.declared.order.Order.TheVariants as order
 use Rattle.fax_line.specs.Actions.{call_of}
 use Rattle.fax_line.specs.Deeds.{Deed, RingsLine, TurnsSlot, WakesLine, slot_after}

@@ -1,19 +1,23 @@
 //! All lines of a server, in forty slots.
-ghost use Rattle.std.specs.Prelude.{◌≡◌, ◌+◌, ◌<◌, ◌&&◌, List, [], ◌∷◌, ◌++◌, ℕ, Bool, true, false, IsTrue, IfOk, OnOk, OnErr, IsSome, ◌≤◌, ◌↔◌, MatchOption, length, map, nat_eq, slice_index_or, if◌then◌else◌};
+ghost use Rattle.std.specs.Prelude.{◌≡◌, ◌+◌, ◌<◌, ◌&&◌, List, [], ◌∷◌, ◌++◌, ℕ, Bool, true, false, IsTrue, IfOk, OnOk, OnErr, IsSome, ◌≤◌, ◌↔◌, MatchOption, is_ok, length, map, nat_eq, slice_index_or, if◌then◌else◌};
 ghost use Rattle.fax_gateway.specs.Restored.{RestoredCall};
+ghost use Rattle.fax_hold.specs.Keeping.{PutsIf};
 ghost use Rattle.fax_line.specs.Actions.{BeginsWith, IsNew, Rings, Wakes, call_of};
 ghost use Rattle.fax_line.specs.Places.{visit_of};
 ghost use Rattle.fax_line.specs.Deeds.{AreBegun, AreNew, EachGoes, IsAdded, IsLineAt, RingsLine, TurnsSlot, WakesLine, Went, have_turned, most_slots, rests_at, slot_after, slot_before, slot_of};
+ghost use Rattle.fax_line.specs.KeptRuns.{EndsIf, NotesIf, TellsLine, TellsSlot, TellsWhere};
 ghost use Rattle.fax_line.specs.Runs.{call_if};
 ghost use Rattle.fax_line.specs.Settling.{ArePagesOf, EachComes, EndsSlot, EndsWhere, HandsOverSlot, has_page, is_kept_in};
 ghost use Rattle.fax_line.specs.declared.settling.PageToKeep.{PageToKeep as ToKeep};
 
+use crate::keeper::RunKeeper;
 use crate::line::Line;
 use crate::place::Place;
 use crate::settling::{PageToKeep, SlotEnd, has_page};
 use fax_bits::NoMemory;
-use fax_gateway::{Buffer, RingFault};
+use fax_gateway::{Buffer, Kept, RingFault, Turned};
 use fax_hold::{HoldingWire, Keeper, LineWire, keep};
+use fax_jobs::Report;
 use fax_repeat::TimedWire;
 use std::alloc::{AllocError, Global};
 use std::marker::Model;
@@ -143,6 +147,15 @@ impl<W: LineWire + Drop> Lines<W> {
     {
         wake_one(self.places.as_mut_slice(), i);
     }
+
+    /// Behind the end of the turn of the slot that had the last one: a keeper is told which of the pages that its lines confirmed were
+    /// not handed over, and which jobs ended, line by line.
+    pub fn tell_keeper<K: RunKeeper>(&self, end: &SlotEnd, keeper: &mut K)
+        ensures { TellsSlot K.notes K.ends (slot_before self.now.slot) end.now.pages.items self.now.lines keeper.old keeper.new }
+    {
+        let slot = slot_before(self.slot);
+        tell_places(self.places.as_slice(), end.pages.as_slice(), slot, keeper);
+    }
 }
 
 impl<W: TimedWire + Drop> Lines<HoldingWire<W>> {
@@ -156,17 +169,20 @@ impl<W: TimedWire + Drop> Lines<HoldingWire<W>> {
         ensures pages { ArePagesOf (slot_before self.old.slot) self.old.lines result.pages.items }
         ensures kept { OnOk result.answer ((before : List ToKeep) → K.keeps keeper.old before → K.keeps keeper.new (before ++ result.pages.items)) }
         ensures settled { EndsSlot (slot_before self.old.slot) (is_kept_in result) self.old.lines self.new.lines }
+        ensures put { PutsIf K.puts result.pages.items (is_ok result.answer) keeper.old keeper.new }
     {
         let slot = slot_before(self.slot);
         settle_places(self.places.as_mut_slice(), self.alloc, slot, keeper)
     }
 
-    /// The end of a turn of line i where pages are not kept: what it gave on the calling leg goes out.
-    pub fn let_out(&mut self, i: usize)
+    /// The end of the turn of the slot that had the last one, where pages are not kept: what its lines gave on their calling legs
+    /// goes out.
+    pub fn let_out_slot(&mut self)
         ensures went { Went [] self.old.lines self.new.lines }
         ensures slot { self.new.slot ≡ self.old.slot }
     {
-        let_out_one(self.places.as_mut_slice(), i);
+        let slot = slot_before(self.slot);
+        let_out_places(self.places.as_mut_slice(), slot);
     }
 }
 
@@ -279,6 +295,7 @@ fn settle_places<K: Keeper<PageToKeep>, W: TimedWire + Drop>(
     ensures pages { ArePagesOf slot places.old result.pages.items }
     ensures kept { OnOk result.answer ((before : List ToKeep) → K.keeps keeper.old before → K.keeps keeper.new (before ++ result.pages.items)) }
     ensures settled { EndsSlot slot (is_kept_in result) places.old places.new }
+    ensures put { PutsIf K.puts result.pages.items (is_ok result.answer) keeper.old keeper.new }
 {
     let pages = hand_over_slot(places, alloc, slot);
     let answer = keep(keeper, pages.as_slice());
@@ -329,11 +346,81 @@ fn end_slot<W: TimedWire + Drop>(
     }
 }
 
-/// The end of a turn of line i, where there is one, and pages are not kept.
-fn let_out_one<W: TimedWire + Drop>(places: &mut [Place<HoldingWire<W>>], i: usize)
-    ensures { EachGoes (λ line. []) places.old places.new }
+/// What the lines of a slot gave on their calling legs goes out, where they had turns.
+fn let_out_places<W: TimedWire + Drop>(places: &mut [Place<HoldingWire<W>>], slot: usize)
+    requires { slot < most_slots }
+    ensures { EachGoes (λ i. []) places.old places.new }
 {
-    if i < places.len() {
-        places[i].let_out();
+    let rounds = places.len() / SLOTS + 1;
+    for round in 0..rounds {
+        let i = round * SLOTS + slot;
+        if i < places.len() && places[i].has_turned() {
+            places[i].let_out();
+        }
+    }
+}
+
+/// A keeper is told of the turns of a slot's lines, one behind the other.
+fn tell_places<W: LineWire + Drop, K: RunKeeper>(
+    places: &[Place<W>],
+    pages: &[PageToKeep],
+    slot: usize,
+    keeper: &mut K,
+)
+    requires { slot < most_slots }
+    ensures { TellsSlot K.notes K.ends slot pages.now places.now keeper.old keeper.new }
+{
+    let rounds = places.len() / SLOTS + 1;
+    for round in 0..rounds {
+        let i = round * SLOTS + slot;
+        if let Some(place) = places.get(i) {
+            tell_place(i, place, has_page(pages, i), keeper);
+        }
+    }
+}
+
+/// A keeper is told of the turn of a line, where it had one, whose page was handed over or not.
+fn tell_place<W: LineWire + Drop, K: RunKeeper>(
+    number: usize,
+    place: &Place<W>,
+    was_handed: bool,
+    keeper: &mut K,
+)
+    ensures { TellsWhere K.notes K.ends number place.now.turned place.now.line.turned was_handed keeper.old keeper.new }
+{
+    if place.has_turned() {
+        tell_turn(number, place.line().turned(), was_handed, keeper);
+    }
+}
+
+/// A keeper is told of what the turn of a line told.
+fn tell_turn<K: RunKeeper>(number: usize, turned: Turned, was_handed: bool, keeper: &mut K)
+    ensures { TellsLine K.notes K.ends number turned was_handed keeper.old keeper.new }
+{
+    tell_kept(number, turned.kept, was_handed, keeper);
+    tell_report(number, turned.report, keeper);
+}
+
+/// A keeper is told of a page that was confirmed, where it was not handed over.
+fn tell_kept<K: RunKeeper>(number: usize, kept: Option<Kept>, was_handed: bool, keeper: &mut K)
+    ensures { NotesIf K.notes number kept was_handed keeper.old keeper.new }
+{
+    match kept {
+        Some(kept) => {
+            if !was_handed {
+                keeper.note(number, kept.call);
+            }
+        }
+        None => {}
+    }
+}
+
+/// A keeper is told of a job that ended.
+fn tell_report<K: RunKeeper>(number: usize, report: Option<Report>, keeper: &mut K)
+    ensures { EndsIf K.ends number report keeper.old keeper.new }
+{
+    match report {
+        Some(report) => keeper.end_job(number, report),
+        None => {}
     }
 }

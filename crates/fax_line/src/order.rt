@@ -1,10 +1,11 @@
 //! What gives the orders.
 ghost use Rattle.std.specs.Prelude.{◌≡◌, List, [], ◌∷◌, Option};
 ghost use Rattle.fax_gateway.specs.Wires.{Grows};
-ghost use Rattle.fax_line.specs.Deeds.{Went};
 ghost use Rattle.fax_line.specs.Words.{Answers, Asks, Word};
 
+use crate::keeper::RunKeeper;
 use crate::lines::Lines;
+use crate::settling::SlotEnd;
 use fax_gateway::RingFault;
 use fax_hold::LineWire;
 
@@ -22,20 +23,29 @@ pub enum Order {
 /// What says what is to be done next: a clock, and those who give orders. It sees the lines, and may report of them. Lines do
 /// not ask their wires whether something came while nothing is due on them: a pace that is not told of it wakes each of them
 /// before the turn of its slot.
-pub trait Pace<W: LineWire + Drop> {
+///
+/// It is shown what keeps the pages of the run, where there is one, and changes nothing of what that keeps.
+pub trait Pace<W: LineWire + Drop, K: RunKeeper> {
     /// Of one that tells it: what it answered to `next`, and what it was told of rings, the newest first.
     ghost words: { Self → Option (List Word) };
 
     /// What is to be done next, once it is due. `None`: the run ends.
-    fn next(&mut self, lines: &Lines<W>) -> Option<Order>
+    fn next(&mut self, lines: &Lines<W>, keeper: Option<&K>) -> Option<Order>
         ensures { Grows (Asks result ∷ []) (words self.old) (words self.new) };
 
-    /// Behind each turn of a slot: what its lines gave on their calling legs is let out, where their wires hold it until then, and
-    /// the pages that they confirmed are kept before. No line goes through anything in it.
-    fn settle(&mut self, lines: &mut Lines<W>)
-        ensures went { Went [] lines.old.lines lines.new.lines }
-        ensures slot { lines.new.slot ≡ lines.old.slot }
+    /// A slot had its turn, and the pages that its lines confirmed are about to be put. What goes with them, as the tags of their
+    /// calls, may be told to the keeper.
+    fn before_put(&mut self, lines: &Lines<W>, keeper: &mut K)
+        ensures same { K.is_same keeper.old keeper.new }
         ensures words { words self.new ≡ words self.old };
+
+    /// They were put, and what came of that.
+    fn behind_put(&mut self, lines: &Lines<W>, end: &SlotEnd)
+        ensures { words self.new ≡ words self.old };
+
+    /// The turn of a slot has ended. The jobs that ended in it wait on the keeper still.
+    fn turned(&mut self, lines: &Lines<W>, keeper: Option<&K>)
+        ensures { words self.new ≡ words self.old };
 
     /// The ring of a line that was ordered was answered so. `None`: there is no such line.
     fn rung(&mut self, line: usize, answer: Option<Result<u32, RingFault>>)

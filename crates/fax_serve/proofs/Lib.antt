@@ -1,1 +1,2 @@
 mod Goodbyes
+mod Restoring

@@ -1,6 +1,8 @@
 pub mod Counts
 pub mod Endings
 pub mod HangUps
+pub mod KeptRuns
 pub mod Legs
 pub mod Openings
 pub mod Runs
+pub mod SpoolKeeping

@@ -7,16 +7,20 @@ use Rattle.fax_line.specs.Actions.{BeginsWith}
 use Rattle.fax_line.specs.Places.{PlaceValue}
 use Rattle.fax_spool.specs.RecordOctets as spool
 use Rattle.fax_shelf.specs.Restorations.{Restores}
+use Rattle.fax_shelf.specs.Shelves.{ShelfValue}
 use Rattle.fax_shelf.specs.declared.restored.Restored.{Restored}
 
--- A LINE BEGINS WITH THE CALLS OF ITS OWN of these pages: of those that have its name.
-pub record IsRestored (pages : List spool.PageValue) (config : LineConfig) (place : PlaceValue) : Type 0 where
+-- A LINE BEGINS WITH THE CALLS OF ITS OWN of these pages: of those that have its name; and so does its shelf.
+pub record IsRestored (pages : List spool.PageValue) (config : LineConfig) (place : PlaceValue) (shelf : ShelfValue) : Type 0 where
   pub restored : Restored
   pub restores : Restores (string_bytes config.name) pages restored
   pub begins : BeginsWith (map call_shown restored.calls.items) place.line
+  pub shelf_is : restored.shelf ≡ shelf
 
--- one more line, behind the others
-pub record AddsRestored (pages : List spool.PageValue) (config : LineConfig) (olds news : List PlaceValue) : Type 0 where
+-- one more line, behind the others, and its shelf
+pub record AddsRestored (pages : List spool.PageValue) (config : LineConfig) (olds news : List PlaceValue) (shelves after : List ShelfValue) : Type 0 where
   pub place : PlaceValue
+  pub shelf : ShelfValue
   pub added : news ≡ olds ++ place ∷ []
-  pub is : IsRestored pages config place
+  pub shelved : after ≡ shelves ++ shelf ∷ []
+  pub is : IsRestored pages config place shelf

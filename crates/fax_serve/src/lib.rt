@@ -8,6 +8,7 @@ mod control;
 mod failures;
 mod fault;
 mod hang_up;
+mod keeper;
 pub mod laws;
 mod leg_socket;
 mod legs;
@@ -21,6 +22,7 @@ mod udp_wire;
 mod watch;
 
 pub use fault::ServeFault;
+pub use keeper::SpoolKeeper;
 pub use leg_socket::{LegCounts, LegSocket};
 pub use pace::RealPace;
 pub use run::{run_serve, serve_clients};

@@ -1,12 +1,13 @@
 //! What gives the orders: the clock, and those who say words.
-ghost use Rattle.std.specs.Prelude.{◌≡◌, ◌-◌, [], nat_lt, if◌then◌else◌};
-ghost use Rattle.fax_line.specs.Deeds.{Went};
+ghost use Rattle.std.specs.Prelude.{◌≡◌, ◌-◌, nat_lt, if◌then◌else◌};
+ghost use Rattle.fax_serve.specs.SpoolKeeping.{IsUnchanged};
 
 use crate::answers::{
     answer_text, counters_of, counts_of, is_idle, leg_of, report_text, status_text,
 };
 use crate::card::Card;
 use crate::clock::Stopwatch;
+use crate::keeper::SpoolKeeper;
 use crate::legs::{hang_up_answer, peer_answer, settle_legs};
 use crate::schedule::Schedule;
 use crate::sockets::{ServedLine, ServedLines};
@@ -23,7 +24,7 @@ use fax_hold::HoldingWire;
 use fax_jobs::Report;
 use fax_line::{Order, Pace, SLOTS, SlotEnd};
 use fax_repeat::RepeatingWire;
-use fax_shelf::Keeping;
+use fax_shelf::Shelf;
 use fax_spool::WaitingPage;
 use std::alloc::Global;
 use std::io::{Read, Write};
@@ -78,8 +79,8 @@ pub struct RealPace<'a, C: Clock, I: Read + Drop, O: Write + Drop> {
     woken: Vec<usize>,
     /// Whether it was looked which legs have datagrams since the last turn was ordered.
     has_looked: bool,
-    /// Where pages are kept on a disk.
-    keeping: Option<Keeping>,
+    /// When the pages of a slot were handed to the spool, in microseconds, where that is to be told.
+    put_from: Option<u64>,
 }
 
 /// Who asked for a ring, and its tag.
@@ -100,7 +101,6 @@ impl<'a, C: Clock, I: Read + Drop, O: Write + Drop> RealPace<'a, C, I, O> {
         cards: Vec<Card>,
         stop_ms: u64,
         watch: Option<Watch>,
-        keeping: Option<Keeping>,
     ) -> Self {
         let count = cards.len();
         RealPace {
@@ -119,19 +119,17 @@ impl<'a, C: Clock, I: Read + Drop, O: Write + Drop> RealPace<'a, C, I, O> {
             watch,
             woken: Vec::new(alloc),
             has_looked: false,
-            keeping,
+            put_from: None,
         }
     }
 
     /// Tells what the spool was found to hold that is not sent: so many damaged records, pages whose texts mean none, and of the
     /// pages that waited those of lines that are not served.
-    pub(crate) fn tell_aside(&mut self, damaged: usize, pages: &[WaitingPage]) {
+    pub(crate) fn tell_aside(&mut self, damaged: usize, pages: &[WaitingPage], shelves: &[Shelf]) {
         self.teller.counters.records_damaged = damaged as u64;
-        if let Some(keeping) = &self.keeping {
-            for shelf in keeping.shelves() {
-                for (call, number) in shelf.aside() {
-                    self.teller.tell_aside(shelf.line(), *call, *number);
-                }
+        for shelf in shelves {
+            for (call, number) in shelf.aside() {
+                self.teller.tell_aside(shelf.line(), *call, *number);
             }
         }
         for page in pages {
@@ -143,38 +141,6 @@ impl<'a, C: Clock, I: Read + Drop, O: Write + Drop> RealPace<'a, C, I, O> {
         }
     }
 
-    /// The end of a slot's turn: the pages that its lines confirmed are put on the disk, all of them at once, and then what these
-    /// lines gave on the calling leg goes out. What the other lines gave does not wait for that.
-    fn settle_slot(&mut self, slot: usize, lines: &mut ServedLines)
-        ensures went { Went [] lines.old.lines lines.new.lines }
-        ensures slot { lines.new.slot ≡ lines.old.slot }
-    {
-        if self.keeping.is_some() {
-            self.keep_slot(slot, lines);
-        } else {
-            let_out_slot(slot, lines);
-        }
-    }
-
-    /// The same where pages are kept on a disk. Those that were not kept are told.
-    #[tactic(auto, using(fax_line::proofs::Running::went_none))]
-    fn keep_slot(&mut self, slot: usize, lines: &mut ServedLines)
-        ensures went { Went [] lines.old.lines lines.new.lines }
-        ensures slot { lines.new.slot ≡ lines.old.slot }
-    {
-        let Some(keeping) = &mut self.keeping else {
-            return;
-        };
-        let confirms = set_tags(keeping, self.cards.as_slice(), slot, lines);
-        let before = micros_if(confirms, &self.clock);
-        let end = lines.settle_slot(keeping);
-        if confirms {
-            let behind = self.clock.micros().unwrap_or(0);
-            self.teller.count_put(behind.saturating_sub(before));
-            self.tell_lost(slot, &end, lines);
-        }
-    }
-
     /// Tells the pages that lines of a slot confirmed in its turn and that were not kept.
     fn tell_lost(&mut self, slot: usize, end: &SlotEnd, lines: &ServedLines) {
         let rounds = lines.len() / SLOTS + 1;
@@ -183,16 +149,13 @@ impl<'a, C: Clock, I: Read + Drop, O: Write + Drop> RealPace<'a, C, I, O> {
             if let Some(kept) = kept_in(lines, i)
                 && !end.is_kept(i)
             {
-                self.tell_lost_page(i, kept, end.has_page(i));
+                self.tell_lost_page(i, kept);
             }
         }
     }
 
-    /// Tells that a page of line i was not kept. One that was not handed to the spool waits all the same.
-    fn tell_lost_page(&mut self, i: usize, kept: Kept, was_handed: bool) {
-        if !was_handed && let Some(keeping) = &mut self.keeping {
-            keeping.note(i, kept.call);
-        }
+    /// Tells that a page of line i was not kept.
+    fn tell_lost_page(&mut self, i: usize, kept: Kept) {
         if let Some(card) = self.cards.get(i) {
             self.teller
                 .tell_not_kept(card.name(), kept.call, card.tag(kept.call), self.now);
@@ -207,7 +170,7 @@ impl<'a, C: Clock, I: Read + Drop, O: Write + Drop> RealPace<'a, C, I, O> {
     }
 
     /// Tells what the turn that was ordered came to, of each line that was not left at rest in it.
-    fn tell_turned(&mut self, lines: &ServedLines) {
+    fn tell_turned(&mut self, lines: &ServedLines, keeper: Option<&SpoolKeeper>) {
         let Some(slot) = self.turned.take() else {
             return;
         };
@@ -217,20 +180,27 @@ impl<'a, C: Clock, I: Read + Drop, O: Write + Drop> RealPace<'a, C, I, O> {
             let i = round.saturating_mul(SLOTS).saturating_add(slot);
             let has_turned = lines.has_turned(i);
             if has_turned || looks {
-                self.tell_line(i, has_turned, looks, lines);
+                self.tell_line(i, has_turned, looks, lines, keeper);
             }
         }
     }
 
     /// Tells what the turn of a line came to, where it had one. Where something may come over its legs still, and where they
     /// are to be asked, it is to be woken.
-    fn tell_line(&mut self, i: usize, has_turned: bool, looks: bool, lines: &ServedLines) {
+    fn tell_line(
+        &mut self,
+        i: usize,
+        has_turned: bool,
+        looks: bool,
+        lines: &ServedLines,
+        keeper: Option<&SpoolKeeper>,
+    ) {
         let Some(line) = lines.line(i) else {
             return;
         };
         if has_turned && let Some(card) = self.cards.get_mut(i) {
             self.teller.tell_turn(card, line, self.now);
-            self.tell_jobs(i, line);
+            self.tell_jobs(i, line, keeper);
             settle_legs(line);
         }
         if looks {
@@ -241,11 +211,11 @@ impl<'a, C: Clock, I: Read + Drop, O: Write + Drop> RealPace<'a, C, I, O> {
         }
     }
 
-    /// Tells the job of a line that ended in its last turn, whose pages wait no more; and the one whose call began.
-    fn tell_jobs(&mut self, i: usize, line: &ServedLine) {
+    /// Tells the job of a line that ended in its last turn, and the one whose call began.
+    fn tell_jobs(&mut self, i: usize, line: &ServedLine, keeper: Option<&SpoolKeeper>) {
         let turned = line.turned();
         if let Some(report) = turned.report {
-            self.tell_job(i, report);
+            self.tell_job(i, report, keeper);
         }
         if turned.dialled.is_some()
             && let Some(card) = self.cards.get_mut(i)
@@ -255,25 +225,22 @@ impl<'a, C: Clock, I: Read + Drop, O: Write + Drop> RealPace<'a, C, I, O> {
         if let Some(call) = turned.dialled
             && let Some(card) = self.cards.get(i)
         {
-            let tag = job_tag(&self.keeping, card, i, call);
+            let tag = job_tag(keeper, card, i, call);
             self.teller
                 .tell(card.name(), self.now, What::Dial(call, tag));
         }
     }
 
-    /// Tells a job of line i that ended. Its pages wait no more.
-    fn tell_job(&mut self, i: usize, report: Report) {
+    /// Tells a job of line i that ended.
+    fn tell_job(&mut self, i: usize, report: Report, keeper: Option<&SpoolKeeper>) {
         if let Some(card) = self.cards.get_mut(i) {
-            card.end_job(is_restored(&self.keeping, i));
+            card.end_job(is_restored(keeper, i));
         }
         let Some(card) = self.cards.get(i) else {
             return;
         };
-        let tag = job_tag(&self.keeping, card, i, report.call);
+        let tag = job_tag(keeper, card, i, report.call);
         self.teller.tell_job(card.name(), report, tag, self.now);
-        if let Some(keeping) = &mut self.keeping {
-            let _ = keeping.end(i, report);
-        }
     }
 
     /// Whether the sockets of a slot's lines are asked in its next turn, whatever the system told.
@@ -300,7 +267,7 @@ impl<'a, C: Clock, I: Read + Drop, O: Write + Drop> RealPace<'a, C, I, O> {
     }
 
     /// Waits for a word or for the next turn. It answers the line that is to ring, if one is.
-    fn wait(&mut self, lines: &ServedLines) -> Option<usize> {
+    fn wait(&mut self, lines: &ServedLines, keeper: Option<&SpoolKeeper>) -> Option<usize> {
         let left = self.schedule.left(self.now);
         let quiet = if left == 0 {
             0
@@ -317,7 +284,7 @@ impl<'a, C: Clock, I: Read + Drop, O: Write + Drop> RealPace<'a, C, I, O> {
                 None
             }
             Heard::Line(octets) => match read_word(octets.as_slice()) {
-                Some(word) => self.obey(asker, word, lines),
+                Some(word) => self.obey(asker, word, lines, keeper),
                 None => {
                     self.answer(asker, Answer::Refused(Refusal::NoWord));
                     None
@@ -387,7 +354,13 @@ impl<'a, C: Clock, I: Read + Drop, O: Write + Drop> RealPace<'a, C, I, O> {
     }
 
     /// Does what a word says. It answers the line that is to ring, if one is.
-    fn obey(&mut self, asker: Asker, word: Word<'_>, lines: &ServedLines) -> Option<usize> {
+    fn obey(
+        &mut self,
+        asker: Asker,
+        word: Word<'_>,
+        lines: &ServedLines,
+        keeper: Option<&SpoolKeeper>,
+    ) -> Option<usize> {
         match word {
             Word::Ring(name, tag) => return self.ring(asker, name, tag, lines),
             Word::Peer(name, leg, address) => {
@@ -403,7 +376,7 @@ impl<'a, C: Clock, I: Read + Drop, O: Write + Drop> RealPace<'a, C, I, O> {
                 let text = status_text(self.alloc, self.cards.as_slice(), lines);
                 self.put(asker, text);
             }
-            Word::Metrics => self.tell_metrics(asker, lines),
+            Word::Metrics => self.tell_metrics(asker, lines, keeper),
             Word::Events => self.want_events(asker),
             Word::Stop => {
                 self.stop = self.stop.asked(self.now, self.stop_ms);
@@ -508,10 +481,10 @@ impl<'a, C: Clock, I: Read + Drop, O: Write + Drop> RealPace<'a, C, I, O> {
     }
 
     /// The counts are told.
-    fn tell_metrics(&mut self, asker: Asker, lines: &ServedLines) {
+    fn tell_metrics(&mut self, asker: Asker, lines: &ServedLines, keeper: Option<&SpoolKeeper>) {
         let mut counters = counters_of(self.teller.counters(), lines);
-        if let Some(keeping) = &self.keeping {
-            counters.pages_kept = keeping.kept();
+        if let Some(keeper) = keeper {
+            counters.pages_kept = keeper.keeping.kept();
         }
         let text = match write_metrics(self.alloc, &counters) {
             Ok(text) => Ok(text.into_bytes()),
@@ -571,48 +544,28 @@ fn kept_in(lines: &ServedLines, i: usize) -> Option<Kept> {
     }
 }
 
-/// How many microseconds passed, where that is wanted and the clock tells it; else 0.
-fn micros_if<C: Clock>(is_wanted: bool, clock: &Stopwatch<'_, C>) -> u64 {
-    if is_wanted {
-        clock.micros().unwrap_or(0)
-    } else {
-        0
-    }
-}
-
-/// What each line of a slot that had a turn gave on the calling leg goes out.
-fn let_out_slot(slot: usize, lines: &mut ServedLines)
-    ensures went { Went [] lines.old.lines lines.new.lines }
-    ensures slot { lines.new.slot ≡ lines.old.slot }
-{
-    let rounds = lines.len() / SLOTS + 1;
-    for round in 0..rounds {
-        let i = round.saturating_mul(SLOTS).saturating_add(slot);
-        if lines.has_turned(i) {
-            lines.let_out(i);
-        }
-    }
-}
-
 /// The tags of the calls in which lines of a slot confirmed pages in its last turn are noted. It answers whether one did.
-fn set_tags(keeping: &mut Keeping, cards: &[Card], slot: usize, lines: &ServedLines) -> bool {
-    keeping.begin_slot();
+fn set_tags(keeper: &mut SpoolKeeper, cards: &[Card], slot: usize, lines: &ServedLines) -> bool
+    ensures { IsUnchanged keeper.old.keeping.shelves.items keeper.new.keeping.shelves.items keeper.old.keeping.spool keeper.new.keeping.spool }
+{
     let mut confirms = false;
     let rounds = lines.len() / SLOTS + 1;
     for round in 0..rounds {
         let i = round.saturating_mul(SLOTS).saturating_add(slot);
         if let Some(kept) = kept_in(lines, i) {
             confirms = true;
-            set_tag(keeping, i, tag_of(cards, i, kept.call));
+            set_tag(keeper, i, tag_of(cards, i, kept.call));
         }
     }
     confirms
 }
 
 /// The tag of the call of line i is noted, where it has one.
-fn set_tag(keeping: &mut Keeping, i: usize, tag: Option<&str>) {
+fn set_tag(keeper: &mut SpoolKeeper, i: usize, tag: Option<&str>)
+    ensures { IsUnchanged keeper.old.keeping.shelves.items keeper.new.keeping.shelves.items keeper.old.keeping.spool keeper.new.keeping.spool }
+{
     if let Some(tag) = tag {
-        keeping.set_tag(i, tag);
+        keeper.set_tag(i, tag);
     }
 }
 
@@ -625,22 +578,22 @@ fn tag_of(cards: &[Card], i: usize, call: u32) -> Option<&str> {
 }
 
 /// Whether the job of line i that is first in turn was confirmed in an earlier life.
-fn is_restored(keeping: &Option<Keeping>, i: usize) -> bool {
-    match keeping {
-        Some(keeping) => keeping.is_restored(i),
+fn is_restored(keeper: Option<&SpoolKeeper>, i: usize) -> bool {
+    match keeper {
+        Some(keeper) => keeper.keeping.is_restored(i),
         None => false,
     }
 }
 
 /// The tag of the job of line i that is first in turn, whose pages came in this call.
 fn job_tag<'a>(
-    keeping: &'a Option<Keeping>,
+    keeper: Option<&'a SpoolKeeper>,
     card: &'a Card,
     i: usize,
     call: u32,
 ) -> Option<&'a str> {
-    match keeping {
-        Some(keeping) if keeping.is_restored(i) => keeping.restored_tag(i),
+    match keeper {
+        Some(keeper) if keeper.keeping.is_restored(i) => keeper.keeping.restored_tag(i),
         Some(_) | None => card.tag(call),
     }
 }
@@ -681,24 +634,25 @@ fn ring_answer(answer: Option<Result<u32, RingFault>>) -> Answer {
 }
 
 /// What is asked and answered is not told of a clock and sockets.
-impl<'a, C: Clock, I: Read + Drop, O: Write + Drop> Pace<HoldingWire<RepeatingWire<UdpWire>>>
-    for RealPace<'a, C, I, O> {
+impl<'a, C: Clock, I: Read + Drop, O: Write + Drop> Pace<
+    HoldingWire<RepeatingWire<UdpWire>>,
+    SpoolKeeper,
+> for RealPace<'a, C, I, O> {
     ghost use Rattle.std.specs.Prelude.{None};
 
     ghost words = { λ _. None };
 
-    fn next(&mut self, lines: &ServedLines) -> Option<Order> {
+    fn next(&mut self, lines: &ServedLines, keeper: Option<&SpoolKeeper>) -> Option<Order> {
         if self.has_looked {
             return Some(self.turn_or_wake(lines));
         }
         self.read_clock();
-        self.tell_turned(lines);
         for _ in 0..MOST_WAKES {
             if self.is_over(lines) {
                 return None;
             }
             if self.asks_clients()
-                && let Some(line) = self.wait(lines)
+                && let Some(line) = self.wait(lines, keeper)
             {
                 return Some(Order::Ring {
                     line,
@@ -713,11 +667,29 @@ impl<'a, C: Clock, I: Read + Drop, O: Write + Drop> Pace<HoldingWire<RepeatingWi
         Some(self.turn_or_wake(lines))
     }
 
-    #[tactic(auto, using(fax_line::proofs::Running::went_none))]
-    fn settle(&mut self, lines: &mut ServedLines) {
-        if let Some(slot) = self.turned {
-            self.settle_slot(slot, lines);
+    fn before_put(&mut self, lines: &ServedLines, keeper: &mut SpoolKeeper) {
+        let Some(slot) = self.turned else {
+            return;
+        };
+        keeper.begin_slot();
+        if set_tags(keeper, self.cards.as_slice(), slot, lines) {
+            self.put_from = Some(self.clock.micros().unwrap_or(0));
         }
+    }
+
+    fn behind_put(&mut self, lines: &ServedLines, end: &SlotEnd) {
+        if let Some(slot) = self.turned
+            && let Some(before) = self.put_from.take()
+        {
+            let behind = self.clock.micros().unwrap_or(0);
+            self.teller.count_put(behind.saturating_sub(before));
+            self.tell_lost(slot, end, lines);
+        }
+    }
+
+    fn turned(&mut self, lines: &ServedLines, keeper: Option<&SpoolKeeper>) {
+        self.read_clock();
+        self.tell_turned(lines, keeper);
     }
 
     fn rung(&mut self, line: usize, answer: Option<Result<u32, RingFault>>) {

@@ -1,19 +1,22 @@
 //! A run of `faxgate serve`.
-ghost use Rattle.std.specs.Prelude.{OnOk, true, false, is_some, length};
+ghost use Rattle.std.specs.Prelude.{◌≡◌, OnOk, true, false, is_some, length};
 ghost use Rattle.fax_line.specs.Deeds.{AreBegun, AreNew};
+ghost use Rattle.fax_serve.specs.KeptRuns.{RanKept, ServedKept};
 ghost use Rattle.fax_serve.specs.Runs.{ServedAlone};
 
 use crate::card::Card;
 use crate::clock::Stopwatch;
 use crate::control::{close_control, open_control};
 use crate::fault::ServeFault;
+use crate::keeper::SpoolKeeper;
 use crate::pace::RealPace;
 use crate::sockets::{ServedLines, open_lines, open_restored_lines};
 use crate::watch::Watch;
 use fax_clients::Clients;
 use fax_config::{Config, LineConfig};
+use fax_hold::Keeper;
 use fax_keep::Folders;
-use fax_line::serve;
+use fax_line::{PageToKeep, RunKeeper, serve};
 use fax_shelf::Keeping;
 use fax_spool::Opened;
 use std::alloc::Global;
@@ -34,7 +37,8 @@ pub fn run_serve<N: Net + Files + Clock + Folders, I: Read + Drop, O: Write + Dr
     input: I,
     output: O,
 ) -> Result<(), ServeFault>
-    ensures { OnOk result (ServedAlone (length config.now.lines.items) (is_some config.now.spool)) }
+    ensures alone { OnOk result (ServedAlone (length config.now.lines.items) (is_some config.now.spool)) }
+    ensures kept { OnOk result (is_some config.now.spool ≡ true → ServedKept ⟦<SpoolKeeper as RunKeeper>⟧.is_same ⟦<SpoolKeeper as Keeper<PageToKeep>>⟧.puts ⟦<SpoolKeeper as RunKeeper>⟧.notes ⟦<SpoolKeeper as RunKeeper>⟧.ends (λ keeper. keeper.keeping.spool) (λ keeper. keeper.keeping.shelves.items) config.now.lines.items) }
 {
     match &config.control {
         Some(path) => {
@@ -59,7 +63,8 @@ pub fn serve_clients<N: Net + Clock + Folders, I: Read + Drop, O: Write + Drop>(
     config: &Config,
     clients: Clients<I, O>,
 ) -> Result<(), ServeFault>
-    ensures { OnOk result (ServedAlone (length config.now.lines.items) (is_some config.now.spool)) }
+    ensures alone { OnOk result (ServedAlone (length config.now.lines.items) (is_some config.now.spool)) }
+    ensures kept { OnOk result (is_some config.now.spool ≡ true → ServedKept ⟦<SpoolKeeper as RunKeeper>⟧.is_same ⟦<SpoolKeeper as Keeper<PageToKeep>>⟧.puts ⟦<SpoolKeeper as RunKeeper>⟧.notes ⟦<SpoolKeeper as RunKeeper>⟧.ends (λ keeper. keeper.keeping.spool) (λ keeper. keeper.keeping.shelves.items) config.now.lines.items) }
 {
     match &config.spool {
         None => serve_in_memory(system, alloc, config, clients),
@@ -77,7 +82,7 @@ fn serve_in_memory<N: Net + Clock, I: Read + Drop, O: Write + Drop>(
     ensures { OnOk result (ServedAlone (length config.now.lines.items) false) }
 {
     let lines = open_lines(system, alloc, config.lines.as_slice())?;
-    let mut pace = pace_of(system, alloc, config, clients, &lines, None)?;
+    let mut pace = pace_of(system, alloc, config, clients, &lines)?;
     serve_new(lines, &mut pace);
     pace.finish();
     Ok(())
@@ -91,7 +96,8 @@ fn serve_spooled<N: Net + Clock + Folders, I: Read + Drop, O: Write + Drop>(
     clients: Clients<I, O>,
     folder: &str,
 ) -> Result<(), ServeFault>
-    ensures { OnOk result (ServedAlone (length config.now.lines.items) true) }
+    ensures alone { OnOk result (ServedAlone (length config.now.lines.items) true) }
+    ensures kept { OnOk result (ServedKept ⟦<SpoolKeeper as RunKeeper>⟧.is_same ⟦<SpoolKeeper as Keeper<PageToKeep>>⟧.puts ⟦<SpoolKeeper as RunKeeper>⟧.notes ⟦<SpoolKeeper as RunKeeper>⟧.ends (λ keeper. keeper.keeping.spool) (λ keeper. keeper.keeping.shelves.items) config.now.lines.items) }
 {
     let Opened {
         spool,
@@ -107,13 +113,16 @@ fn serve_spooled<N: Net + Clock + Folders, I: Read + Drop, O: Write + Drop>(
         pages.as_slice(),
         &mut shelves,
     )?;
-    let keeping = Keeping::new(alloc, spool, shelves);
-    let mut pace = pace_of(system, alloc, config, clients, &lines, Some(keeping))?;
+    let mut pace = pace_of(system, alloc, config, clients, &lines)?;
     pace.tell_aside(
         older_damaged.saturating_add(newer_damaged),
         pages.as_slice(),
+        shelves.as_slice(),
     );
-    serve_restored(lines, &mut pace);
+    let keeper = SpoolKeeper {
+        keeping: Keeping::new(alloc, spool, shelves),
+    };
+    serve_restored(lines, keeper, &mut pace);
     pace.finish();
     Ok(())
 }
@@ -125,7 +134,6 @@ fn pace_of<'a, N: Net + Clock, I: Read + Drop, O: Write + Drop>(
     config: &Config,
     clients: Clients<I, O>,
     lines: &ServedLines,
-    keeping: Option<Keeping>,
 ) -> Result<RealPace<'a, N, I, O>, ServeFault> {
     let cards = cards_of(alloc, config.lines.as_slice())?;
     let clock = match Stopwatch::new(system) {
@@ -134,7 +142,7 @@ fn pace_of<'a, N: Net + Clock, I: Read + Drop, O: Write + Drop>(
     };
     let stop_ms = u64::from(config.stop_seconds).saturating_mul(SECOND_MS);
     let watch = Watch::new(system, alloc, lines).ok();
-    Ok(RealPace::new(alloc, clock, clients, cards, stop_ms, watch, keeping))
+    Ok(RealPace::new(alloc, clock, clients, cards, stop_ms, watch))
 }
 
 /// Serves lines that are new.
@@ -145,18 +153,23 @@ fn serve_new<C: Clock, I: Read + Drop, O: Write + Drop>(
     requires { AreNew lines.lines }
     ensures { ServedAlone (length lines.lines) false }
 {
-    serve(&mut lines, pace);
+    let mut keeper: Option<SpoolKeeper> = None;
+    serve(&mut lines, &mut keeper, pace);
 }
 
 /// Serves lines that begin with the pages that wait.
 fn serve_restored<C: Clock, I: Read + Drop, O: Write + Drop>(
     mut lines: ServedLines,
+    keeper: SpoolKeeper,
     pace: &mut RealPace<'_, C, I, O>,
 )
-    requires { AreBegun lines.lines }
-    ensures { ServedAlone (length lines.lines) true }
+    requires begun { AreBegun lines.lines }
+    requires first { lines.slot ≡ 0 }
+    ensures alone { ServedAlone (length lines.lines) true }
+    ensures kept { RanKept ⟦<SpoolKeeper as RunKeeper>⟧.is_same ⟦<SpoolKeeper as Keeper<PageToKeep>>⟧.puts ⟦<SpoolKeeper as RunKeeper>⟧.notes ⟦<SpoolKeeper as RunKeeper>⟧.ends lines.lines keeper }
 {
-    serve(&mut lines, pace);
+    let mut keeper = Some(keeper);
+    serve(&mut lines, &mut keeper, pace);
 }
 
 /// What is kept of the lines.

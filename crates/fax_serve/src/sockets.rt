@@ -4,6 +4,7 @@ ghost use Rattle.fax_gateway.specs.Setups.{AreAllowed};
 ghost use Rattle.fax_gateway.specs.Restored.{call_shown};
 ghost use Rattle.fax_line.specs.Actions.{BeginsWith};
 ghost use Rattle.fax_line.specs.Deeds.{AreBegun, AreNew};
+ghost use Rattle.fax_serve.specs.KeptRuns.{AreRestored};
 ghost use Rattle.fax_serve.specs.Openings.{AddsRestored};
 
 use crate::fault::ServeFault;
@@ -65,6 +66,7 @@ pub(crate) fn open_restored_lines<N: Net>(
     ensures new { pages.now ≡ [] → IfOk result (λ lines. AreNew lines.lines) }
     ensures first { IfOk result (λ lines. lines.slot ≡ 0) }
     ensures as_many { IfOk result (λ lines. length lines.lines ≡ length configs.now) }
+    ensures restored { shelves.old.items ≡ [] → IfOk result (λ lines. AreRestored pages.now configs.now lines.lines shelves.new.items) }
 {
     let mut lines = Lines::new(alloc)?;
     for config in configs {
@@ -83,7 +85,7 @@ fn add_line<N: Net>(
     shelves: &mut Vec<Shelf>,
 ) -> Result<(), ServeFault>
     ensures begun { OnOk result (AreBegun lines.old.lines → AreBegun lines.new.lines) }
-    ensures restored { OnOk result (AddsRestored pages.now config.now lines.old.lines lines.new.lines) }
+    ensures restored { OnOk result (AddsRestored pages.now config.now lines.old.lines lines.new.lines shelves.old.items shelves.new.items) }
     ensures new { OnOk result (pages.now ≡ [] → AreNew lines.old.lines → AreNew lines.new.lines) }
     ensures slot { OnOk result (lines.new.slot ≡ lines.old.slot) }
     ensures one_more { OnOk result (length lines.new.lines ≡ length lines.old.lines + 1) }

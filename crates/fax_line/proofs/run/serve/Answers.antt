@@ -1,56 +1,85 @@
-use Rattle.std.proofs.Common.{◌≡◌, ◌+◌, [], ◌∷◌, ◌∙◌, List, Option, Some, None, inl, inr, refl, subst, ap, arith}
+use Rattle.std.proofs.Common.{◌+◌, [], ◌∷◌, ◌∙◌, List, ℕ, Option, Some, None, inl, inr, refl, subst, ap, arith}
 use Rattle.fax_gateway.specs.Wires.{Grows}
 use Rattle.fax_gateway.proofs.DrivingLemmas.{grows_more, grows_none}
 use Rattle.fax_line.specs.declared.order.Order.{Order}
-use Rattle.fax_line.specs.Deeds.{rests_at}
-use Rattle.fax_line.specs.Runs.{Done, Rung, Turned, Woken, words_of}
+use Rattle.fax_line.specs.Deeds.{rests_at, slot_before}
+use Rattle.fax_line.specs.KeptRuns.{IsSettledIf}
+use Rattle.fax_line.specs.Runs.{Done, Rung, Turned, Woken, call_if, words_of}
 use Rattle.fax_line.specs.Words.{Asks}
+use Rattle.fax_line.proofs.KeptRunning.{ran_is, ran_none, ran_rung, ran_turned, ran_woken, slot_back, went_ring, went_turn}
 use Rattle.fax_line.proofs.Running.{no_order, rising, run_is, rung_on, settled_on, turned_on, went_none, woken_on}
 use Rattle.fax_line.proofs.run.serve.Goals as goal
 use Rattle.fax_line.proofs.run.serve.Goals.{in-Turn, in-Ring, in-Wake}
 
 pub loop-init : goal.loop-init
-loop-init g c = ([], record { went = went_none c.args.lines.now.lines; slot_is = refl; moment_is = refl; many = refl; words = grows_none (g.P.Pace.words c.args.pace.now) })
+loop-init g c = (
+  [],
+  record { went = went_none c.args.lines.now.lines; slot_is = refl; moment_is = refl; many = refl; words = grows_none (g.P.Pace.words c.args.pace.now) },
+  ran_none g.row.K.Denot g.K.RunKeeper.is_same g.K.Keeper.puts g.K.RunKeeper.notes g.K.RunKeeper.ends c.args.lines.now.slot c.args.lines.now.lines c.args.keeper.now,
+)
 
 pub returns-in_default : goal.returns-in_default
 returns-in_default g c =
     let done : List Done = c.loop.invariant.0 in
     let run = c.loop.invariant.1 in
     let none = no_order c.next.result c.in_default.not-Some in
-    let asked = subst (λ (o : Option Order). Grows (Asks o ∷ []) (g.P.Pace.words c.loop.pace) (g.P.Pace.words c.next.new.self)) none c.next.ensures in
-    (done, run.went, run.slot_is, rising c.args.lines.now.slot done, inl (grows_more (words_of done) (Asks None ∷ []) (g.P.Pace.words c.args.pace.now) (g.P.Pace.words c.loop.pace) (g.P.Pace.words c.next.new.self) run.words asked))
+    let asked = subst (λ (o : Option Order). Grows (Asks o ∷ []) (g.P.Pace.words c.loop.pace) (g.P.Pace.words c.next.new.self)) none c.next.ensures in (
+      done,
+      run.went,
+      run.slot_is,
+      rising c.args.lines.now.slot done,
+      inl (grows_more (words_of done) (Asks None ∷ []) (g.P.Pace.words c.args.pace.now) (g.P.Pace.words c.loop.pace) (g.P.Pace.words c.next.new.self) run.words asked),
+      c.loop.invariant.2,
+    )
 
 pub loop-preserved : goal.loop-preserved
 loop-preserved g c =
     let done : List Done = c.loop.invariant.0 in
     let run = c.loop.invariant.1 in
+    let ran = c.loop.invariant.2 in
     let olds = c.args.lines.now.lines in
     let first = c.args.lines.now.slot in
     let before = g.P.Pace.words c.args.pace.now in
     let now_told = g.P.Pace.words c.loop.pace in
     let asked_of = g.P.Pace.words c.next.new.self in
+    let K = g.row.K.Denot in
+    let same = g.K.RunKeeper.is_same in
+    let puts = g.K.Keeper.puts in
+    let notes = g.K.RunKeeper.notes in
+    let ends = g.K.RunKeeper.ends in
+    let kept = c.args.keeper.now in
     elim c.match-order.branch [
       | in-Turn w ↦
           let asked = subst (λ (o : Option Order). Grows (Asks o ∷ []) now_told asked_of) (c.in-Some.is ∙ ap (λ (o : Order). Some o) w.in-Turn.is) c.next.ensures in
           let rests = rests_at w.max-latest.result c.loop.lines.lines in
+          let d : Done = Turned w.in-Turn.now rests in
           let turned = turned_on first w.in-Turn.now c.loop.latest w.max-latest.result c.loop.counter c.loop.lines.slot w.turn.new.self.slot rests done olds c.loop.lines.lines w.turn.new.self.lines before now_told asked_of
           run w.max-latest.ensures w.turn.ensures.went w.turn.ensures.slot asked in
-          let told = g.P.Pace.words w.settle.new.self in
-          let more = settled_on first w.max-latest.result (c.loop.counter + 1) w.turn.new.self.slot w.settle.new.lines.slot (Turned w.in-Turn.now rests ∷ done) olds w.turn.new.self.lines w.settle.new.lines.lines
-          before asked_of told turned w.settle.ensures.went w.settle.ensures.slot w.settle.ensures.words in (
-            Turned w.in-Turn.now rests ∷ done,
-            run_is first (c.loop.counter + 1) (Turned w.in-Turn.now rests ∷ done) olds before w.max-latest.result c.match-order.latest w.settle.new.lines c.match-order.lines told (g.P.Pace.words c.match-order.pace)
+          let told = g.P.Pace.words w.settle.new.pace in
+          let more = settled_on first w.max-latest.result (c.loop.counter + 1) w.turn.new.self.slot w.settle.new.lines.slot (d ∷ done) olds w.turn.new.self.lines w.settle.new.lines.lines
+          before asked_of told turned w.settle.ensures.went w.settle.ensures.slot w.settle.ensures.words in
+          let went = went_turn first w.in-Turn.now c.loop.latest w.max-latest.result c.loop.lines.slot rests done c.loop.lines.lines w.turn.new.self.lines run.slot_is run.moment_is w.max-latest.ensures w.turn.ensures.went in
+          let settled = subst (λ (s : ℕ). IsSettledIf same puts notes ends s w.turn.new.self.lines w.settle.new.lines.lines c.loop.keeper w.settle.new.keeper)
+          (ap slot_before w.turn.ensures.slot ∙ slot_back c.loop.lines.slot ∙ run.slot_is) w.settle.ensures.settled in (
+            d ∷ done,
+            run_is first (c.loop.counter + 1) (d ∷ done) olds before w.max-latest.result c.match-order.latest w.settle.new.lines c.match-order.lines told (g.P.Pace.words c.match-order.pace)
                 w.latest-is w.lines-is (ap g.P.Pace.words w.pace-is) more,
+            ran_is K same puts notes ends first (d ∷ done) olds w.settle.new.lines c.match-order.lines kept w.settle.new.keeper c.match-order.keeper w.lines-is w.keeper-is
+                (ran_turned K same puts notes ends first w.in-Turn.now rests done olds c.loop.lines.lines w.turn.new.self.lines w.settle.new.lines.lines kept c.loop.keeper w.settle.new.keeper ran went settled),
           )
       | in-Ring w ↦
           let asked = subst (λ (o : Option Order). Grows (Asks o ∷ []) now_told asked_of) (c.in-Some.is ∙ ap (λ (o : Order). Some o) w.in-Ring.is) c.next.ensures in
           let told = g.P.Pace.words w.rung.new.self in
-          let d : Done = Rung w.in-Ring.line w.in-Ring.now w.ring-answer.result in
-          let more = rung_on first w.in-Ring.line w.in-Ring.now c.loop.latest w.max-latest-in-Ring.result c.loop.counter c.loop.lines.slot w.ring-answer.new.self.slot w.ring-answer.result done olds c.loop.lines.lines w.ring-answer.new.self.lines
-          before now_told asked_of told run w.max-latest-in-Ring.ensures w.ring-answer.ensures.went w.ring-answer.ensures.slot asked w.rung.ensures in (
+          let answer = w.ring-answer.result in
+          let d : Done = Rung w.in-Ring.line w.in-Ring.now answer in
+          let more = rung_on first w.in-Ring.line w.in-Ring.now c.loop.latest w.max-latest-in-Ring.result c.loop.counter c.loop.lines.slot w.ring-answer.new.self.slot answer done olds c.loop.lines.lines w.ring-answer.new.self.lines
+          before now_told asked_of told run w.max-latest-in-Ring.ensures w.ring-answer.ensures.went w.ring-answer.ensures.slot asked w.rung.ensures in
+          let went = went_ring w.in-Ring.now c.loop.latest w.max-latest-in-Ring.result w.in-Ring.line (call_if answer) done c.loop.lines.lines w.ring-answer.new.self.lines run.moment_is w.max-latest-in-Ring.ensures w.ring-answer.ensures.went in (
             d ∷ done,
             run_is first (c.loop.counter + 1) (d ∷ done) olds before w.max-latest-in-Ring.result c.match-order.latest w.ring-answer.new.self c.match-order.lines told (g.P.Pace.words c.match-order.pace)
                 w.latest-is w.lines-is (ap g.P.Pace.words w.pace-is) more,
+            ran_is K same puts notes ends first (d ∷ done) olds w.ring-answer.new.self c.match-order.lines kept c.loop.keeper c.match-order.keeper w.lines-is w.keeper-is
+                (ran_rung K same puts notes ends first w.in-Ring.line w.in-Ring.now answer done olds c.loop.lines.lines w.ring-answer.new.self.lines kept c.loop.keeper ran went),
           )
       | in-Wake w ↦
           let asked = subst (λ (o : Option Order). Grows (Asks o ∷ []) now_told asked_of) (c.in-Some.is ∙ ap (λ (o : Order). Some o) w.in-Wake.is) c.next.ensures in
@@ -60,6 +89,8 @@ loop-preserved g c =
             d ∷ done,
             run_is first (c.loop.counter + 1) (d ∷ done) olds before c.loop.latest c.match-order.latest w.wake.new.self c.match-order.lines asked_of (g.P.Pace.words c.match-order.pace)
                 w.latest-is w.lines-is (ap g.P.Pace.words w.pace-is) more,
+            ran_is K same puts notes ends first (d ∷ done) olds w.wake.new.self c.match-order.lines kept c.loop.keeper c.match-order.keeper w.lines-is w.keeper-is
+                (ran_woken K same puts notes ends first w.in-Wake.line done olds c.loop.lines.lines w.wake.new.self.lines kept c.loop.keeper ran w.wake.ensures.went),
           )
     ]
 
@@ -67,4 +98,4 @@ pub returns : goal.returns
 returns g c =
     let done : List Done = c.loop.invariant.0 in
     let run = c.loop.invariant.1 in
-    (done, run.went, run.slot_is, rising c.args.lines.now.slot done, inr (omega (arith, run.many), run.words))
+    (done, run.went, run.slot_is, rising c.args.lines.now.slot done, inr (omega (arith, run.many), run.words), c.loop.invariant.2)

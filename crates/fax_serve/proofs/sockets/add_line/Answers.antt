@@ -1,4 +1,4 @@
-use Rattle.std.proofs.Common.{List, ℕ, map, sym, subst}
+use Rattle.std.proofs.Common.{List, ℕ, map, refl, sym, subst}
 use Rattle.fax_gateway.specs.Restored.{RestoredCall, call_shown}
 use Rattle.fax_line.specs.Actions.{BeginsWith, LineValue}
 use Rattle.fax_shelf.specs.Restorations.{Restores}
@@ -17,10 +17,13 @@ returns-clause-restored g c =
     let is_added = c.in_ok-add.ensures.added in
     record {
       place = is_added.place;
+      shelf = c.in_ok-calls.field-0.shelf;
       added = is_added.lines;
+      shelved = c.in_ok-push.ensures.items;
       is = record {
         restored = c.in_ok-calls.field-0;
         restores = subst (λ (name : List ℕ). Restores name c.args.pages.now c.in_ok-calls.field-0) c.as_str.ensures.value c.in_ok-calls.ensures;
         begins = subst (λ (line : LineValue). BeginsWith (map call_shown c.in_ok-calls.field-0.calls.items) line) (sym is_added.line_is) c.in_ok-line.ensures;
+        shelf_is = refl;
       };
     }

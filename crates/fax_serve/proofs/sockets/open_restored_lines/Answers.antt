@@ -1,8 +1,15 @@
-use Rattle.std.proofs.Common.{◌∙◌, arith}
+use Rattle.std.proofs.Common.{◌∙◌, arith, sym}
+use Rattle.fax_serve.proofs.Restoring.{one_more}
 use Rattle.fax_serve.proofs.sockets.open_restored_lines.Goals as goal
 
 pub loop-config-preserved : goal.loop-config-preserved
 loop-config-preserved g c =
     let before = c.loop-config.invariant in
-    let more = c.in_ok-add_line.ensures in
-    (more.begun before.0, λ none. more.new none (before.1 none), more.slot ∙ before.2, omega (arith, more.one_more, before.3))
+    let more = c.in_ok-add_line.ensures in (
+      more.begun before.0,
+      λ none. more.new none (before.1 none),
+      more.slot ∙ before.2,
+      omega (arith, more.one_more, before.3),
+      λ none. one_more c.args.pages.now c.args.configs.now c.loop-config.config-index c.config-item.result c.loop-config.lines.lines c.add_line.new.lines.lines c.loop-config.shelves.items c.add_line.new.shelves.items
+          c.loop-config-test.true (sym c.config-item.is) more.restored (before.4 none),
+    )

@@ -1,7 +1,10 @@
--- The lines so far are begun, one for each line of the configuration that was read; and new, where no page waits.
-use Rattle.std.proofs.Common.{◌≡◌, [], length}
+-- The lines so far are begun, one for each line of the configuration that was read; and new, where no page waits. Each is restored with
+-- its own pages, and so is its shelf.
+use Rattle.std.proofs.Common.{◌≡◌, [], length, take}
 use Rattle.fax_line.specs.Deeds.{AreBegun, AreNew}
+use Rattle.fax_serve.specs.KeptRuns.{AreRestored}
 use Rattle.fax_serve.proofs.sockets.open_restored_lines.Given as goal
 
 abbrev pub invariant-loop-config : goal.invariant-loop-config
 invariant-loop-config g l = AreBegun l.lines.lines × (l.initial.pages ≡ [] → AreNew l.lines.lines) × (l.lines.slot ≡ 0) × (length l.lines.lines ≡ l.config-index)
+    × (l.initial.shelves.items ≡ [] → AreRestored l.initial.pages (take l.config-index l.initial.configs) l.lines.lines l.shelves.items)

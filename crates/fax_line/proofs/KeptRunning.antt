@@ -1,0 +1,69 @@
+-- A run with a keeper goes on.
+use Rattle.std.proofs.Common.{◌≡◌, ◌+◌, ◌-◌, ℕ, max, Bool, true, false, List, [], ◌∷◌, Option, Some, None, Result, refl, sym, ◌∙◌, ap, subst, arith, nat_eq, if◌then◌else◌}
+use Rattle.std.proofs.lemmas.Bool.{eqb-true}
+use Rattle.fax_jobs.specs.declared.report.Report.{Report}
+use Rattle.fax_gateway.specs.declared.fault.RingFault.{RingFault}
+use Rattle.fax_line.specs.declared.settling.PageToKeep.{PageToKeep}
+use Rattle.fax_line.specs.Deeds.{LinesValue, RingsLine, TurnsSlot, WakesLine, Went, slot_after, slot_before}
+use Rattle.fax_line.specs.KeptRuns.{IsSettledIf, RanIf}
+use Rattle.fax_line.specs.Places.{PlaceValue}
+use Rattle.fax_line.specs.Runs.{Done, Rung, Turned, Woken, call_if, latest, next_slot}
+
+module _ (K : Type 0) (same : K → K → Type 0) (puts : List PageToKeep → Bool → K → K → Type 0) (notes : ℕ → ℕ → K → K → Type 0) (ends : ℕ → Report → K → K → Type 0) where
+  pub ran_none : (first : ℕ) (lines : List PlaceValue) (k : Option K) → RanIf same puts notes ends first [] lines lines k k
+  ran_none first lines None = refl
+  ran_none first lines (Some k) = (k, refl, [], (refl, refl))
+
+  pub ran_turned :
+      (first now : ℕ) (rests : ℕ → Bool) (done : List Done) (a b c d : List PlaceValue) (k l m : Option K)
+      → RanIf same puts notes ends first done a b k l → Went (TurnsSlot (next_slot first done) (max (latest done) now) rests ∷ []) b c
+      → IsSettledIf same puts notes ends (next_slot first done) c d l m → RanIf same puts notes ends first (Turned now rests ∷ done) a d k m
+  ran_turned first now rests done a b c d None l m ran went settled = subst (λ (o : Option K). IsSettledIf same puts notes ends (next_slot first done) c d o m) ran settled
+  ran_turned first now rests done a b c d (Some k) l m (x, is, all, ran) went settled =
+      let here = subst (λ (o : Option K). IsSettledIf same puts notes ends (next_slot first done) c d o m) is settled in
+      (here.0, here.1, here.2 ∷ all, (b, c, x, ran, went, here.3))
+
+  pub ran_rung :
+      (first line now : ℕ) (answer : Option (Result ℕ RingFault)) (done : List Done) (a b c : List PlaceValue) (k l : Option K)
+      → RanIf same puts notes ends first done a b k l → Went (RingsLine line (max (latest done) now) (call_if answer) ∷ []) b c → RanIf same puts notes ends first (Rung line now answer ∷ done) a c k l
+  ran_rung first line now answer done a b c None l ran went = ran
+  ran_rung first line now answer done a b c (Some k) l (x, is, all, ran) went = (x, is, all, (b, ran, went))
+
+  pub ran_woken :
+      (first line : ℕ) (done : List Done) (a b c : List PlaceValue) (k l : Option K)
+      → RanIf same puts notes ends first done a b k l → Went (WakesLine line ∷ []) b c → RanIf same puts notes ends first (Woken line ∷ done) a c k l
+  ran_woken first line done a b c None l ran went = ran
+  ran_woken first line done a b c (Some k) l (x, is, all, ran) went = (x, is, all, (b, ran, went))
+
+  pub ran_is :
+      (first : ℕ) (done : List Done) (a : List PlaceValue) (l lines : LinesValue) (k m keeper : Option K) → lines ≡ l → keeper ≡ m
+      → RanIf same puts notes ends first done a l.lines k m → RanIf same puts notes ends first done a lines.lines k keeper
+  ran_is first done a l lines k m keeper same_lines same_keeper ran =
+      subst (λ (o : Option K). RanIf same puts notes ends first done a lines.lines k o) (sym same_keeper)
+      (subst (λ (v : LinesValue). RanIf same puts notes ends first done a v.lines k m) (sym same_lines) ran)
+
+-- the deed of an order
+pub went_turn :
+    (first now moment later slot : ℕ) (rests : ℕ → Bool) (done : List Done) (b c : List PlaceValue) → slot ≡ next_slot first done → moment ≡ latest done → later ≡ max moment now
+    → Went (TurnsSlot slot later rests ∷ []) b c → Went (TurnsSlot (next_slot first done) (max (latest done) now) rests ∷ []) b c
+went_turn first now moment later slot rests done b c slot_is moment_is later_is went =
+    subst (λ (s : ℕ). Went (TurnsSlot s (max (latest done) now) rests ∷ []) b c) slot_is
+    (subst (λ (m : ℕ). Went (TurnsSlot slot m rests ∷ []) b c) (later_is ∙ ap (λ (m : ℕ). max m now) moment_is) went)
+
+pub went_ring :
+    (now moment later line : ℕ) (call : Option ℕ) (done : List Done) (b c : List PlaceValue) → moment ≡ latest done → later ≡ max moment now
+    → Went (RingsLine line later call ∷ []) b c → Went (RingsLine line (max (latest done) now) call ∷ []) b c
+went_ring now moment later line call done b c moment_is later_is went =
+    subst (λ (m : ℕ). Went (RingsLine line m call ∷ []) b c) (later_is ∙ ap (λ (m : ℕ). max m now) moment_is) went
+
+-- The slot that had the last turn is the one before the next.
+if_more : (slot : ℕ) (b : Bool) → nat_eq (slot + 1) 0 ≡ b → (if b then 39 else slot + 1 - 1) ≡ slot
+if_more slot true is = let none : slot + 1 ≡ 0 = eqb-true (slot + 1) 0 is in absurd (omega arith)
+if_more slot false is = omega arith
+
+if_back : (slot : ℕ) (b : Bool) → nat_eq slot 39 ≡ b → slot_before (if b then 0 else slot + 1) ≡ slot
+if_back slot true is = let same : slot ≡ 39 = eqb-true slot 39 is in sym same
+if_back slot false is = if_more slot (nat_eq (slot + 1) 0) refl
+
+pub slot_back : (slot : ℕ) → slot_before (slot_after slot) ≡ slot
+slot_back slot = if_back slot (nat_eq slot 39) refl

@@ -1,0 +1,7 @@
+use Rattle.std.proofs.Common.{[]}
+use Rattle.fax_line.specs.Deeds.{EachGoes}
+use Rattle.fax_line.proofs.lines.let_out_places.Given as goal
+
+-- no line went through anything
+abbrev pub invariant-loop-round : goal.invariant-loop-round
+invariant-loop-round g l = EachGoes (λ i. []) l.initial.places l.places

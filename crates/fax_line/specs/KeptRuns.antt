@@ -1,0 +1,118 @@
+-- A run whose pages are kept: what becomes of its lines, and of what keeps their pages, order by order. Lists have the newest first,
+-- but those of pages. (This project's profile.)
+use Rattle.std.specs.Prelude.{◌≡◌, ◌≤◌, ℕ, zero, suc, max, Bool, true, false, is_ok, List, [], ◌∷◌, ◌++◌, length, slice_get, Option, Some, None}
+use Rattle.fax_jobs.specs.declared.report.Report.{Report}
+use Rattle.fax_gateway.specs.declared.given.Kept.{Kept}
+use Rattle.fax_gateway.specs.declared.turned.Turned.{Turned as Told}
+use Rattle.fax_hold.specs.Keeping.{PutsIf}
+use Rattle.fax_line.specs.Deeds.{RingsLine, TurnsSlot, WakesLine, Went}
+use Rattle.fax_line.specs.Places.{PlaceValue}
+use Rattle.fax_line.specs.Runs.{Done, Rung, Turned, Woken, call_if, latest, next_slot}
+use Rattle.fax_line.specs.Settling.{ArePagesOf, EndsSlot, has_page, is_kept_in, was_turned}
+use Rattle.fax_line.specs.declared.settling.PageToKeep.{PageToKeep}
+use Rattle.fax_line.specs.declared.settling.SlotEnd.{SlotEnd}
+
+-- ---- what a keeper is told of a line's turn, which is known by what is made of it then
+
+-- of the page that it confirmed, where that was not handed over,
+abbrev pub NotesIf : {K : Type 0} → (ℕ → ℕ → K → K → Type 0) → ℕ → Option Kept → Bool → K → K → Type 0
+NotesIf notes number None was_handed old new = new ≡ old
+NotesIf notes number (Some kept) true old new = new ≡ old
+NotesIf notes number (Some kept) false old new = notes number kept.call old new
+
+-- and then of the job that ended in it.
+abbrev pub EndsIf : {K : Type 0} → (ℕ → Report → K → K → Type 0) → ℕ → Option Report → K → K → Type 0
+EndsIf ends number None old new = new ≡ old
+EndsIf ends number (Some report) old new = ends number report old new
+
+abbrev pub TellsLine : {K : Type 0} → (ℕ → ℕ → K → K → Type 0) → (ℕ → Report → K → K → Type 0) → ℕ → Told → Bool → K → K → Type 0
+TellsLine {K} notes ends number told was_handed old new = (between : K) × NotesIf notes number told.kept was_handed old between × EndsIf ends number told.report between new
+
+-- where it had one
+abbrev pub TellsWhere : {K : Type 0} → (ℕ → ℕ → K → K → Type 0) → (ℕ → Report → K → K → Type 0) → ℕ → Bool → Told → Bool → K → K → Type 0
+TellsWhere notes ends number true told was_handed old new = TellsLine notes ends number told was_handed old new
+TellsWhere notes ends number false told was_handed old new = new ≡ old
+
+abbrev pub TellsPlace : {K : Type 0} → (ℕ → ℕ → K → K → Type 0) → (ℕ → Report → K → K → Type 0) → ℕ → List PageToKeep → ℕ → Option PlaceValue → K → K → Type 0
+TellsPlace notes ends slot pages number None old new = new ≡ old
+TellsPlace notes ends slot pages number (Some place) old new = TellsWhere notes ends number (was_turned slot number place) place.line.turned (has_page pages number) old new
+
+-- of the first so many lines, one behind the other, each where it had a turn in the last one of this slot
+abbrev pub TellsFirst : {K : Type 0} → (ℕ → ℕ → K → K → Type 0) → (ℕ → Report → K → K → Type 0) → ℕ → List PageToKeep → List PlaceValue → ℕ → K → K → Type 0
+TellsFirst notes ends slot pages lines zero old new = new ≡ old
+TellsFirst {K} notes ends slot pages lines (suc number) old new =
+    (between : K) × TellsFirst notes ends slot pages lines number old between × TellsPlace notes ends slot pages number (slice_get lines number) between new
+
+-- of all lines
+pub record TellsSlot {K : Type 0} (notes : ℕ → ℕ → K → K → Type 0) (ends : ℕ → Report → K → K → Type 0) (slot : ℕ) (pages : List PageToKeep) (lines : List PlaceValue) (old new : K) : Type 0 where
+  pub count : ℕ
+  pub all : length lines ≤ count
+  pub told : TellsFirst notes ends slot pages lines count old new
+
+-- ---- the end of a slot's turn
+
+-- THE PAGES THAT A SLOT'S LINES CONFIRMED IN ITS TURN were put, all of them at once and in the order of the lines. What a line gave went
+-- out where its page was among them and they were kept, or where it confirmed none. Then the keeper was told which pages were not
+-- handed over, and which jobs ended. Nothing else was done with it, but for what leaves what it keeps the same.
+pub record IsSettled {K : Type 0} (same : K → K → Type 0) (puts : List PageToKeep → Bool → K → K → Type 0) (notes : ℕ → ℕ → K → K → Type 0) (ends : ℕ → Report → K → K → Type 0) (slot : ℕ) (end : SlotEnd) (old new : List PlaceValue) (before after : K) : Type 0 where
+  pub pages : ArePagesOf slot old end.pages.items
+  pub begun : K
+  pub is_same : same before begun
+  pub kept : K
+  pub put : PutsIf puts end.pages.items (is_ok end.answer) begun kept
+  pub settled : EndsSlot slot (is_kept_in end) old new
+  pub told : TellsSlot notes ends slot end.pages.items new kept after
+
+-- where there is a keeper
+abbrev pub IsSettledIf : {K : Type 0} → (K → K → Type 0) → (List PageToKeep → Bool → K → K → Type 0) → (ℕ → ℕ → K → K → Type 0) → (ℕ → Report → K → K → Type 0)
+    → ℕ → List PlaceValue → List PlaceValue → Option K → Option K → Type 0
+IsSettledIf same puts notes ends slot old new None after = after ≡ None
+IsSettledIf {K} same puts notes ends slot old new (Some before) after =
+    (left : K) × (after ≡ Some left) × (end : SlotEnd) × IsSettled same puts notes ends slot end old new before left
+
+-- ---- a run
+
+-- A RUN WITH A KEEPER, whose slots begin with this one: each turn of a slot is settled before anything else is done, and nothing else
+-- touches the keeper. There is an end for each turn.
+abbrev pub Ran : {K : Type 0} → (K → K → Type 0) → (List PageToKeep → Bool → K → K → Type 0) → (ℕ → ℕ → K → K → Type 0) → (ℕ → Report → K → K → Type 0)
+    → ℕ → List Done → List SlotEnd → List PlaceValue → List PlaceValue → K → K → Type 0
+Ran same puts notes ends first [] [] old new before after = (new ≡ old) × (after ≡ before)
+Ran same puts notes ends first [] (end ∷ settled) old new before after = ⊥
+Ran same puts notes ends first (Turned now rests ∷ done) [] old new before after = ⊥
+Ran {K} same puts notes ends first (Turned now rests ∷ done) (end ∷ settled) old new before after =
+    (mid : List PlaceValue) × (turned : List PlaceValue) × (between : K) × Ran same puts notes ends first done settled old mid before between
+    × Went (TurnsSlot (next_slot first done) (max (latest done) now) rests ∷ []) mid turned × IsSettled same puts notes ends (next_slot first done) end turned new between after
+Ran same puts notes ends first (Rung line now answer ∷ done) settled old new before after =
+    (mid : List PlaceValue) × Ran same puts notes ends first done settled old mid before after × Went (RingsLine line (max (latest done) now) (call_if answer) ∷ []) mid new
+Ran same puts notes ends first (Woken line ∷ done) settled old new before after =
+    (mid : List PlaceValue) × Ran same puts notes ends first done settled old mid before after × Went (WakesLine line ∷ []) mid new
+
+-- where there is a keeper; a run that begins with none has none
+abbrev pub RanIf : {K : Type 0} → (K → K → Type 0) → (List PageToKeep → Bool → K → K → Type 0) → (ℕ → ℕ → K → K → Type 0) → (ℕ → Report → K → K → Type 0)
+    → ℕ → List Done → List PlaceValue → List PlaceValue → Option K → Option K → Type 0
+RanIf same puts notes ends first done old new None after = after ≡ None
+RanIf {K} same puts notes ends first done old new (Some before) after =
+    (left : K) × (after ≡ Some left) × (settled : List SlotEnd) × Ran same puts notes ends first done settled old new before left
+
+-- ---- what it comes to
+
+-- of pages that were put at once, those that were kept
+abbrev pub kept_if : Bool → List PageToKeep → List PageToKeep
+kept_if true pages = pages
+kept_if false pages = []
+
+-- of a whole run
+abbrev pub kept_pages : List SlotEnd → List PageToKeep
+kept_pages [] = []
+kept_pages (end ∷ earlier) = kept_pages earlier ++ kept_if (is_ok end.answer) end.pages.items
+
+-- A RUN KEEPS ALL PAGES that were put with an Ok, in the order in which they were confirmed, where its keeper keeps what it is handed so,
+-- and loses none of it by anything else that it is told.
+abbrev pub RunKeeps : {K : Type 0} → (K → K → Type 0) → (List PageToKeep → Bool → K → K → Type 0) → (ℕ → ℕ → K → K → Type 0) → (ℕ → Report → K → K → Type 0) → (K → List PageToKeep → Type 0) → Type 0
+RunKeeps {K} same puts notes ends keeps =
+    ((old new : K) (pages : List PageToKeep) → same old new → keeps old pages → keeps new pages)
+    → ((put : List PageToKeep) (is_kept : Bool) (old new : K) (pages : List PageToKeep) → puts put is_kept old new → keeps old pages → keeps new (pages ++ kept_if is_kept put))
+    → ((line call : ℕ) (old new : K) (pages : List PageToKeep) → notes line call old new → keeps old pages → keeps new pages)
+    → ((line : ℕ) (report : Report) (old new : K) (pages : List PageToKeep) → ends line report old new → keeps old pages → keeps new pages)
+    → (first : ℕ) (done : List Done) (settled : List SlotEnd) (old new : List PlaceValue) (before after : K) (pages : List PageToKeep)
+    → Ran same puts notes ends first done settled old new before after → keeps before pages → keeps after (pages ++ kept_pages settled)

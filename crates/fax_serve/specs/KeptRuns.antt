@@ -1,0 +1,41 @@
+-- A whole run of a server whose pages are kept on a disk (this project's profile).
+use Rattle.std.specs.Prelude.{◌≡◌, ℕ, Bool, List, [], ◌∷◌}
+use Rattle.fax_config.specs.declared.config.LineConfig.{LineConfig}
+use Rattle.fax_jobs.specs.declared.report.Report.{Report}
+use Rattle.fax_line.specs.KeptRuns.{Ran}
+use Rattle.fax_line.specs.Places.{PlaceValue}
+use Rattle.fax_line.specs.Runs.{Done}
+use Rattle.fax_line.specs.declared.settling.PageToKeep.{PageToKeep}
+use Rattle.fax_line.specs.declared.settling.SlotEnd.{SlotEnd}
+use Rattle.fax_spool.specs.RecordOctets as spool
+use Rattle.fax_spool.specs.declared.opening.Opened.{Opened}
+use Rattle.fax_spool.specs.declared.spool.Spool.{Spool}
+use Rattle.fax_shelf.specs.Shelves.{ShelfValue}
+use Rattle.fax_serve.specs.Openings.{IsRestored}
+
+-- Each line of a configuration is restored with those of these pages that are its own, and its shelf has just these.
+abbrev pub AreRestored : List spool.PageValue → List LineConfig → List PlaceValue → List ShelfValue → Type 0
+AreRestored pages [] [] [] = Unit {0}
+AreRestored pages (config ∷ configs) (place ∷ places) (shelf ∷ shelves) = IsRestored pages config place shelf × AreRestored pages configs places shelves
+AreRestored pages configs places shelves = ⊥
+
+-- A run went on from these lines and this keeper, with slot 0 first: behind each turn of a slot, before anything else was done, the pages
+-- that its lines confirmed were put at once, and what confirms them went out where the answer was Ok (`IsSettled`).
+pub record RanKept {K : Type 0} (same : K → K → Type 0) (puts : List PageToKeep → Bool → K → K → Type 0) (notes : ℕ → ℕ → K → K → Type 0) (ends : ℕ → Report → K → K → Type 0) (begun : List PlaceValue) (before : K) : Type 0 where
+  pub left : List PlaceValue
+  pub after : K
+  pub done : List Done
+  pub settled : List SlotEnd
+  pub first : ℕ
+  pub first_is : first ≡ 0
+  pub ran : Ran same puts notes ends first done settled begun left before after
+
+-- A SERVER WITH A SPOOL RAN: the spool was opened, each line began with the pages of its own that waited in it, and its shelf with just
+-- these; and so they went on.
+pub record ServedKept {D K : Type 0} (same : K → K → Type 0) (puts : List PageToKeep → Bool → K → K → Type 0) (notes : ℕ → ℕ → K → K → Type 0) (ends : ℕ → Report → K → K → Type 0) (spool_of : K → Spool D) (shelves_of : K → List ShelfValue) (configs : List LineConfig) : Type 0 where
+  pub opened : Opened D
+  pub begun : List PlaceValue
+  pub keeper : K
+  pub spool_is : spool_of keeper ≡ opened.spool
+  pub restored : AreRestored opened.pages.items configs begun (shelves_of keeper)
+  pub run : RanKept same puts notes ends begun keeper
