@@ -7,3 +7,4 @@ mod Shelving
 mod Slots
 mod Waits
 mod Refusing
+mod Tags
