@@ -1,5 +1,5 @@
 -- One more page of a line that is restored.
-use Rattle.std.proofs.Common.{◌≡◌, ◌≢◌, ◌∙◌, ℕ, zero, suc, ◌-◌, inl, inr, Bool, true, false, not, ◌&&◌, cond, if◌then◌else◌, List, [], ◌∷◌, ◌++◌, length, map, Some, slice_get, refl, sym, ap, subst, arith, nat_eq, bytes_eq, Result, Ok, Err, OnOk}
+use Rattle.std.proofs.Common.{◌≡◌, ◌≢◌, ◌∙◌, ℕ, zero, suc, ◌-◌, inl, inr, Bool, true, false, not, ◌&&◌, cond, if◌then◌else◌, List, [], ◌∷◌, ◌++◌, length, map, Some, slice_get, refl, sym, ap, subst, arith, nat_eq, bytes_eq, append_assoc, Result, Ok, Err, OnOk}
 use Rattle.std.proofs.lemmas.Bool.Decides.{nat_tests}
 use Rattle.fax_pagestore.specs.Pages.{PageValue}
 use Rattle.fax_jobs.specs.Cuts.{Confirmation}
@@ -8,9 +8,10 @@ use Rattle.fax_spool.specs.RecordOctets as spool
 use Rattle.fax_gateway.specs.Restored.{RestoredCall, call_shown, confirmation_shown}
 use Rattle.fax_gateway.specs.declared.restored.RestoredCall as shown
 use Rattle.std.proofs.lemmas.List.{append-nil, map-append}
+use Rattle.fax_shelf.specs.Shelves.{TagValue}
 use Rattle.fax_shelf.specs.declared.shelf.Waiting.{Waiting}
 use Rattle.fax_shelf.specs.declared.restored.Restored.{Restored}
-use Rattle.fax_shelf.specs.Restorations.{AreIn, AreRead, Means, MeansNone, ReadPage, Restores, before, before_all, begins, begun, call_with, calls_of, confirmation_of, in_one_call, onto_last, own_pages, waiting_of}
+use Rattle.fax_shelf.specs.Restorations.{AreAside, AreIn, AreRead, Means, MeansNone, ReadPage, Restores, before, before_all, begins, begun, call_with, calls_of, confirmation_of, in_one_call, onto_last, own_pages, own_tag, tags_behind, tags_of, waiting_of}
 
 -- ---- the calls
 
@@ -88,6 +89,20 @@ read_aside (v ∷ waits) [] w are none = (are.0, read_aside waits [] w are.1 non
 read_aside (v ∷ waits) (r ∷ read) w (inl is) none = inl (is.0, is.1, read_aside waits read w is.2 none)
 read_aside (v ∷ waits) (r ∷ read) w (inr is) none = inr (is.0, read_aside waits (r ∷ read) w is.1 none)
 
+aside_same : (waits : List spool.PageValue) (aside : List (ℕ × ℕ)) (w : spool.PageValue) (page : PageValue) → AreAside waits aside → Means w page → AreAside (waits ++ w ∷ []) aside
+aside_same [] [] w page are means = ((page, means), refl)
+aside_same [] (a ∷ aside) w page are means = absurd (cc)
+aside_same (v ∷ waits) [] w page are means = (are.0, aside_same waits [] w page are.1 means)
+aside_same (v ∷ waits) (a ∷ aside) w page (inl is) means = inl (is.0, aside_same waits (a ∷ aside) w page is.1 means)
+aside_same (v ∷ waits) (a ∷ aside) w page (inr is) means = inr (is.0, is.1, aside_same waits aside w page is.2 means)
+
+aside_more : (waits : List spool.PageValue) (aside : List (ℕ × ℕ)) (w : spool.PageValue) → AreAside waits aside → MeansNone w → AreAside (waits ++ w ∷ []) (aside ++ (w.call, w.number) ∷ [])
+aside_more [] [] w are none = inr (none, refl, refl)
+aside_more [] (a ∷ aside) w are none = absurd (cc)
+aside_more (v ∷ waits) [] w are none = inl (are.0, aside_more waits [] w are.1 none)
+aside_more (v ∷ waits) (a ∷ aside) w (inl is) none = inl (is.0, aside_more waits (a ∷ aside) w is.1 none)
+aside_more (v ∷ waits) (a ∷ aside) w (inr is) none = inr (is.0, is.1, aside_more waits aside w is.2 none)
+
 -- ---- the last one that waits
 
 last_begins : (waits : List Waiting) (last : Waiting) (n : ℕ) (page : spool.PageValue) → n ≡ length waits - 1 → slice_get waits n ≡ Some last → begins waits page ≡ not (nat_eq last.life page.life && nat_eq last.call page.call)
@@ -139,15 +154,32 @@ is_begun {S} true page olds news call shows is =
     ap (λ (l : List (shown.RestoredCall S)). map call_shown l) is ∙ map-append call_shown olds (call ∷ []) ∙ ap (λ (r : RestoredCall). map call_shown olds ++ r ∷ []) shows
 is_begun {S} false page olds news call shows is = ap (λ (l : List (shown.RestoredCall S)). map call_shown l) is
 
+-- the tag of one more page's call
+tags_more : (before : List Waiting) (read : List ReadPage) (r : ReadPage)
+    → tags_behind before (read ++ r ∷ []) ≡ tags_behind before read ++ (if begins (before ++ map waiting_of read) r.waits then own_tag r.waits else [])
+tags_more before [] r =
+    append-nil (if begins before r.waits then own_tag r.waits else [])
+    ∙ ap (λ (l : List Waiting). if begins l r.waits then own_tag r.waits else []) (sym (append-nil before))
+tags_more before (x ∷ read) r =
+    let first : List TagValue = if begins before x.waits then own_tag x.waits else [] in
+    ap (λ (l : List TagValue). first ++ l) (tags_more (before ++ waiting_of x ∷ []) read r)
+    ∙ sym (append_assoc first (tags_behind (before ++ waiting_of x ∷ []) read) (if begins ((before ++ waiting_of x ∷ []) ++ map waiting_of read) r.waits then own_tag r.waits else []))
+    ∙ ap (λ (l : List Waiting). (first ++ tags_behind (before ++ waiting_of x ∷ []) read) ++ (if begins l r.waits then own_tag r.waits else [])) (append_assoc before (waiting_of x ∷ []) (map waiting_of read))
+
 pub in_more : (line : List ℕ) (read : List ReadPage) (r : ReadPage) (old new : Restored) (b : Bool) (between : List RestoredCall) → b ≡ begins old.shelf.waits r.waits → between ≡ with_begun b r.waits (map call_shown old.calls.items)
-    → map call_shown new.calls.items ≡ onto_last (confirmation_of r) between → new.shelf.waits ≡ old.shelf.waits ++ waiting_of r ∷ [] → new.shelf.line ≡ old.shelf.line → AreIn line read old → AreIn line (read ++ r ∷ []) new
-in_more line read r old new b between tells begun_is calls waits same are = record {
+    → map call_shown new.calls.items ≡ onto_last (confirmation_of r) between → new.shelf.waits ≡ old.shelf.waits ++ waiting_of r ∷ [] → new.shelf.line ≡ old.shelf.line → new.shelf.tags ≡ old.shelf.tags ++ (if b then own_tag r.waits else []) → AreIn line read old → AreIn line (read ++ r ∷ []) new
+in_more line read r old new b between tells begun_is calls waits same tags are = record {
   named = same ∙ are.named;
   calls =
       calls
       ∙ ap (λ (l : List RestoredCall). onto_last (confirmation_of r) l) (begun_is ∙ ap (λ (t : Bool). with_begun t r.waits (map call_shown old.calls.items)) (tells ∙ ap (λ (l : List Waiting). begins l r.waits) are.waits) ∙ ap (λ (l : List RestoredCall). with_begun (begins (map waiting_of read) r.waits) r.waits l) are.calls)
       ∙ sym (calls_more read r);
   waits = waits ∙ ap (λ (l : List Waiting). l ++ waiting_of r ∷ []) are.waits ∙ sym (map-append waiting_of read (r ∷ []));
+  tags =
+      tags
+      ∙ ap (λ (l : List TagValue). l ++ (if b then own_tag r.waits else [])) are.tags
+      ∙ ap (λ (t : Bool). tags_of read ++ (if t then own_tag r.waits else [])) (tells ∙ ap (λ (l : List Waiting). begins l r.waits) are.waits)
+      ∙ sym (tags_more [] read r);
 }
 
 pub shows_begun : {S : Type 0} (call : shown.RestoredCall S) (page : spool.PageValue) → call.number ≡ page.call → call.confirmed.items ≡ [] → call_shown call ≡ begun page
@@ -161,17 +193,20 @@ own_one : (line : List ℕ) (w : spool.PageValue) (b : Bool) → bytes_eq w.line
 own_one line w b is = ap (λ (t : Bool). cond t (w ∷ []) []) is
 
 pub restores_more : (line : List ℕ) (pages : List spool.PageValue) (w : spool.PageValue) (page : PageValue) (old new : Restored) → bytes_eq w.line line ≡ true → Means w page
-    → ((name : List ℕ) (read : List ReadPage) → AreIn name read old → AreIn name (read ++ record { waits = w; page = page } ∷ []) new) → Restores line pages old → Restores line (pages ++ w ∷ []) new
-restores_more line pages w page old new is means more was = record {
+    → ((name : List ℕ) (read : List ReadPage) → AreIn name read old → AreIn name (read ++ record { waits = w; page = page } ∷ []) new) → new.shelf.aside ≡ old.shelf.aside → Restores line pages old → Restores line (pages ++ w ∷ []) new
+restores_more line pages w page old new is means more same was = record {
   read = was.read ++ record { waits = w; page = page } ∷ [];
   own = subst (λ (l : List spool.PageValue). AreRead l (was.read ++ record { waits = w; page = page } ∷ [])) (sym (own_more line pages w ∙ ap (λ (l : List spool.PageValue). own_pages line pages ++ l) (own_one line w true is)))
       (read_more (own_pages line pages) was.read w page was.own means);
   are = more line was.read was.are;
+  aside = subst (λ (l : List spool.PageValue). AreAside l new.shelf.aside) (sym (own_more line pages w ∙ ap (λ (l : List spool.PageValue). own_pages line pages ++ l) (own_one line w true is)))
+      (subst (λ (l : List (ℕ × ℕ)). AreAside (own_pages line pages ++ w ∷ []) l) (sym same) (aside_same (own_pages line pages) old.shelf.aside w page was.aside means));
 }
 
 pub restores_aside : (line : List ℕ) (pages : List spool.PageValue) (w : spool.PageValue) (old new : Restored) → bytes_eq w.line line ≡ true → MeansNone w
-    → map call_shown new.calls.items ≡ map call_shown old.calls.items → new.shelf.line ≡ old.shelf.line → new.shelf.waits ≡ old.shelf.waits → Restores line pages old → Restores line (pages ++ w ∷ []) new
-restores_aside line pages w old new is none calls named waits was = record {
+    → map call_shown new.calls.items ≡ map call_shown old.calls.items → new.shelf.line ≡ old.shelf.line → new.shelf.waits ≡ old.shelf.waits → new.shelf.tags ≡ old.shelf.tags → new.shelf.aside ≡ old.shelf.aside ++ (w.call, w.number) ∷ []
+    → Restores line pages old → Restores line (pages ++ w ∷ []) new
+restores_aside line pages w old new is none calls named waits tags aside was = record {
   read = was.read;
   own = subst (λ (l : List spool.PageValue). AreRead l was.read) (sym (own_more line pages w ∙ ap (λ (l : List spool.PageValue). own_pages line pages ++ l) (own_one line w true is)))
       (read_aside (own_pages line pages) was.read w was.own none);
@@ -179,7 +214,10 @@ restores_aside line pages w old new is none calls named waits was = record {
     named = named ∙ was.are.named;
     calls = calls ∙ was.are.calls;
     waits = waits ∙ was.are.waits;
+    tags = tags ∙ was.are.tags;
   };
+  aside = subst (λ (l : List spool.PageValue). AreAside l new.shelf.aside) (sym (own_more line pages w ∙ ap (λ (l : List spool.PageValue). own_pages line pages ++ l) (own_one line w true is)))
+      (subst (λ (l : List (ℕ × ℕ)). AreAside (own_pages line pages ++ w ∷ []) l) (sym aside) (aside_more (own_pages line pages) old.shelf.aside w was.aside none));
 }
 
 pub restores_other : (line : List ℕ) (pages : List spool.PageValue) (w : spool.PageValue) (old : Restored) → bytes_eq w.line line ≡ false → Restores line pages old → Restores line (pages ++ w ∷ []) old
@@ -187,20 +225,23 @@ restores_other line pages w old is was = record {
   read = was.read;
   own = subst (λ (l : List spool.PageValue). AreRead l was.read) (sym (own_more line pages w ∙ ap (λ (l : List spool.PageValue). own_pages line pages ++ l) (own_one line w false is) ∙ append-nil (own_pages line pages))) was.own;
   are = was.are;
+  aside = subst (λ (l : List spool.PageValue). AreAside l old.shelf.aside) (sym (own_more line pages w ∙ ap (λ (l : List spool.PageValue). own_pages line pages ++ l) (own_one line w false is) ∙ append-nil (own_pages line pages))) was.aside;
 }
 
 -- ---- where an answer is an `Ok`
 
 pub taken : {E : Type 0} (answer : Result (Unit {0}) E) (line : List ℕ) (w : spool.PageValue) (page : PageValue) (old new : Restored) → bytes_eq w.line line ≡ true → Means w page
     → OnOk answer ((name : List ℕ) (read : List ReadPage) → AreIn name read old → AreIn name (read ++ record { waits = w; page = page } ∷ []) new)
+    → OnOk answer (new.shelf.aside ≡ old.shelf.aside)
     → OnOk answer ((pages : List spool.PageValue) → Restores line pages old → Restores line (pages ++ w ∷ []) new)
-taken (Ok u) line w page old new is means more = λ pages was. restores_more line pages w page old new is means more was
-taken (Err e) line w page old new is means more = more
+taken (Ok u) line w page old new is means more same = λ pages was. restores_more line pages w page old new is means more same was
+taken (Err e) line w page old new is means more same = tt
 
 pub put_aside : {E : Type 0} (answer : Result (Unit {0}) E) (line : List ℕ) (w : spool.PageValue) (old new : Restored) → bytes_eq w.line line ≡ true → MeansNone w
-    → map call_shown new.calls.items ≡ map call_shown old.calls.items → new.shelf.line ≡ old.shelf.line → new.shelf.waits ≡ old.shelf.waits → OnOk answer ((pages : List spool.PageValue) → Restores line pages old → Restores line (pages ++ w ∷ []) new)
-put_aside (Ok u) line w old new is none calls named waits = λ pages was. restores_aside line pages w old new is none calls named waits was
-put_aside (Err e) line w old new is none calls named waits = tt
+    → map call_shown new.calls.items ≡ map call_shown old.calls.items → new.shelf.line ≡ old.shelf.line → new.shelf.waits ≡ old.shelf.waits → new.shelf.tags ≡ old.shelf.tags
+    → OnOk answer (new.shelf.aside ≡ old.shelf.aside ++ (w.call, w.number) ∷ []) → OnOk answer ((pages : List spool.PageValue) → Restores line pages old → Restores line (pages ++ w ∷ []) new)
+put_aside (Ok u) line w old new is none calls named waits tags aside = λ pages was. restores_aside line pages w old new is none calls named waits tags aside was
+put_aside (Err e) line w old new is none calls named waits tags aside = tt
 
 -- where no page waits there is no call
 pub no_calls : (line : List ℕ) (pages : List spool.PageValue) (restored : Restored) → Restores line pages restored → pages ≡ [] → map call_shown restored.calls.items ≡ []

@@ -13,3 +13,4 @@ mod Shelving
 mod Slots
 mod Waits
 mod Refusing
+mod Tags

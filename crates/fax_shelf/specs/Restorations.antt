@@ -1,6 +1,7 @@
 -- What a line is restored with behind a crash: the pages of its own that wait, in the calls that they came in. Lists have the
 -- oldest first. (This project's profile.)
-use Rattle.std.specs.Prelude.{◌≡◌, ℕ, ◌⊎◌, Bool, true, not, ◌&&◌, nat_eq, bytes_eq, List, [], ◌∷◌, ◌++◌, map, if◌then◌else◌}
+use Rattle.std.specs.Prelude.{◌≡◌, ℕ, ◌⊎◌, Bool, true, not, ◌&&◌, nat_eq, bytes_eq, List, [], ◌∷◌, ◌++◌, length, map, if◌then◌else◌}
+use Rattle.std.specs.Str.{is_utf8}
 use Rattle.std.specs.List.{filter}
 use Rattle.fax_runcodes.specs.declared.format.Coding.TheVariants.{Mr}
 use Rattle.fax_pagestore.specs.Pages.{PageValue}
@@ -8,6 +9,7 @@ use Rattle.fax_pagestore.specs.PageTexts.{MeansPage}
 use Rattle.fax_jobs.specs.Cuts.{Confirmation}
 use Rattle.fax_spool.specs.RecordOctets as spool
 use Rattle.fax_gateway.specs.Restored.{RestoredCall, call_shown}
+use Rattle.fax_shelf.specs.Shelves.{TagValue}
 use Rattle.fax_shelf.specs.declared.shelf.Waiting.{Waiting}
 use Rattle.fax_shelf.specs.declared.restored.Restored.{Restored}
 
@@ -59,29 +61,50 @@ calls_of (r ∷ read) = before r read (calls_of read)
 abbrev pub waiting_of : ReadPage → Waiting
 waiting_of r = record { life = r.waits.life; call = r.waits.call; number = r.waits.number; is_kept = true }
 
+-- a page begins a call, where these wait before it
+abbrev pub begins : List Waiting → spool.PageValue → Bool
+begins [] page = true
+begins (w ∷ []) page = not (nat_eq w.life page.life && nat_eq w.call page.call)
+begins (w ∷ v ∷ waits) page = begins (v ∷ waits) page
+
+-- the tag of the call that a page came in, where it has one that is text
+abbrev pub own_tag : spool.PageValue → List TagValue
+own_tag page = if is_utf8 page.tag && not (nat_eq (length page.tag) 0) then record { life = page.life; call = page.call; tag = page.tag } ∷ [] else []
+
+-- The tags of the calls of these pages, where others wait before them: that of a call is its first page's.
+abbrev pub tags_behind : List Waiting → List ReadPage → List TagValue
+tags_behind before [] = []
+tags_behind before (r ∷ read) = (if begins before r.waits then own_tag r.waits else []) ++ tags_behind (before ++ waiting_of r ∷ []) read
+
+abbrev pub tags_of : List ReadPage → List TagValue
+tags_of read = tags_behind [] read
+
+-- of these pages, those whose texts mean none, by their calls and numbers
+abbrev pub AreAside : List spool.PageValue → List (ℕ × ℕ) → Type 0
+AreAside [] aside = aside ≡ []
+AreAside (w ∷ waits) [] = ((page : PageValue) × Means w page) × AreAside waits []
+AreAside (w ∷ waits) (a ∷ aside) = (((page : PageValue) × Means w page) × AreAside waits (a ∷ aside)) ⊎ (MeansNone w × (a ≡ (w.call, w.number)) × AreAside waits aside)
+
 -- these pages are in the calls, and on the shelf of the line, and no others
 pub record AreIn (line : List ℕ) (read : List ReadPage) (restored : Restored) : Type 0 where
   pub named : restored.shelf.line ≡ line
   pub calls : map call_shown restored.calls.items ≡ calls_of read
   pub waits : restored.shelf.waits ≡ map waiting_of read
+  pub tags : restored.shelf.tags ≡ tags_of read
 
--- THE CALLS OF A LINE THAT IS RESTORED are those of its own pages that wait, and so are the pages of its shelf.
+-- THE CALLS OF A LINE THAT IS RESTORED are those of its own pages that wait, and so are the pages of its shelf and the tags of
+-- their calls; a page whose text means none is set aside.
 pub record Restores (line : List ℕ) (pages : List spool.PageValue) (restored : Restored) : Type 0 where
   pub read : List ReadPage
   pub own : AreRead (own_pages line pages) read
   pub are : AreIn line read restored
+  pub aside : AreAside (own_pages line pages) restored.shelf.aside
 
 -- ---- one more page
 
 -- the call that it begins, with no page so far
 abbrev pub begun : spool.PageValue → RestoredCall
 begun page = record { number = page.call; confirmed = [] }
-
--- it begins a call, where these wait before it
-abbrev pub begins : List Waiting → spool.PageValue → Bool
-begins [] page = true
-begins (w ∷ []) page = not (nat_eq w.life page.life && nat_eq w.call page.call)
-begins (w ∷ v ∷ waits) page = begins (v ∷ waits) page
 
 -- it is the last of the last call
 abbrev pub onto_last : Confirmation → List RestoredCall → List RestoredCall

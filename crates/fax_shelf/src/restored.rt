@@ -1,8 +1,9 @@
 //! What a line is restored with behind a crash.
-ghost use Rattle.std.specs.Prelude.{◌≡◌, ℕ, List, [], ◌∷◌, ◌++◌, map, bytes_eq, IfOk, OnOk};
+ghost use Rattle.std.specs.Prelude.{◌≡◌, ◌&&◌, ℕ, List, [], ◌∷◌, ◌++◌, length, map, bytes_eq, nat_eq, not, true, false, IfOk, MatchOption, OnOk};
+ghost use Rattle.std.specs.Str.{is_utf8};
 ghost use Rattle.fax_spool.specs.RecordOctets.{PageValue as SpoolPage};
 ghost use Rattle.fax_gateway.specs.Restored.{call_shown, confirmation_shown};
-ghost use Rattle.fax_shelf.specs.Restorations.{AreIn, ReadPage, Restores, begins, begun, onto_last};
+ghost use Rattle.fax_shelf.specs.Restorations.{AreIn, ReadPage, Restores, begins, begun, onto_last, own_tag};
 
 use crate::shelf::{Shelf, Waiting};
 use fax_answer::Confirmed;
@@ -57,7 +58,8 @@ impl Restored {
         waits: &WaitingPage,
         page: Page<PackedRows>,
     ) -> Result<(), NoMemory>
-        ensures { OnOk result ((name : List ℕ) (read : List ReadPage) → AreIn name read self.old → AreIn name (read ++ record { waits = waits.now; page = page } ∷ []) self.new) }
+        ensures more { OnOk result ((name : List ℕ) (read : List ReadPage) → AreIn name read self.old → AreIn name (read ++ record { waits = waits.now; page = page } ∷ []) self.new) }
+        ensures aside { OnOk result (self.new.shelf.aside ≡ self.old.shelf.aside) }
     {
         if begins_call(self.shelf.waits(), waits) {
             self.begin_call(alloc, waits)?;
@@ -80,6 +82,7 @@ impl Restored {
     fn begin_call(&mut self, alloc: Global, waits: &WaitingPage) -> Result<(), NoMemory>
         ensures calls { OnOk result (map call_shown self.new.calls.items ≡ map call_shown self.old.calls.items ++ begun waits.now ∷ []) }
         ensures shelf { self.new.shelf ≡ record self.old.shelf { tags = self.new.shelf.tags } }
+        ensures tags { OnOk result (self.new.shelf.tags ≡ self.old.shelf.tags ++ own_tag waits.now) }
     {
         push_call(alloc, &mut self.calls, waits)?;
         set_tag(alloc, &mut self.shelf, waits)
@@ -103,11 +106,23 @@ fn push_call(
 
 /// Keeps the tag of the call that a page came in, where it has one.
 fn set_tag(alloc: Global, shelf: &mut Shelf, page: &WaitingPage) -> Result<(), NoMemory>
-    ensures { shelf.new ≡ record shelf.old { tags = shelf.new.tags } }
+    ensures same { shelf.new ≡ record shelf.old { tags = shelf.new.tags } }
+    ensures tags { OnOk result (shelf.new.tags ≡ shelf.old.tags ++ own_tag page.now) }
 {
-    match std::str::from_utf8(page.tag.as_slice()) {
-        Ok(tag) if !tag.is_empty() => shelf.set_tag(alloc, page.life, page.call, tag),
-        _ => Ok(()),
+    let Some(tag) = text_of(page.tag.as_slice()) else {
+        return Ok(());
+    };
+    shelf.set_tag(alloc, page.life, page.call, tag)
+}
+
+/// A tag as text. `None`: it is none, or no text.
+#[tactic(auto, using(crate::proofs::Tags::text_so, crate::proofs::Tags::empty_so, crate::proofs::Tags::no_text))]
+fn text_of(tag: &[u8]) -> Option<&str>
+    ensures { MatchOption result ((is_utf8 tag.now && not (nat_eq (length tag.now) 0)) ≡ false) (λ text. (text.now ≡ tag.now) × ((is_utf8 tag.now && not (nat_eq (length tag.now) 0)) ≡ true)) }
+{
+    match std::str::from_utf8(tag) {
+        Ok(text) => { if text.is_empty() { None } else { Some(text) } }
+        Err(_) => None,
     }
 }
 
