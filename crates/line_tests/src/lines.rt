@@ -2,14 +2,15 @@
 #[cfg(test)]
 mod rests;
 #[cfg(test)]
+mod runs;
+#[cfg(test)]
 mod settling;
 
 use crate::peers::PeerWire;
 use fax_bits::NoMemory;
 use fax_gateway::{Buffer, Kept, RingFault, Settings, Turned};
-use fax_hold::LineWire;
 use fax_jobs::{Outcome, Report};
-use fax_line::{Line, Lines, Order, Pace, SLOTS, serve};
+use fax_line::Line;
 use fax_pagestore::Format;
 use fax_repeat::{RepeatPolicy, RepeatingWire};
 use fax_runcodes::Width;
@@ -158,63 +159,5 @@ fn a_page_is_lost_without_repeats(rt: HostRuntime) -> Result<(), Fail> {
     assert!(rt; line.ring(0) == Ok(0));
     plays(&mut line, &mut Buffer::new(rt.alloc())?);
     assert!(rt; line.report(0) != Some(DELIVERED));
-    Ok(())
-}
-
-/// Gives a turn each millisecond, behind two rings, one of a line that is not there. Before each turn it wakes one of two lines,
-/// since it is not told what comes.
-#[derive(Drop)]
-struct Minute {
-    orders: u64,
-    rung: Vec<(usize, Option<Result<u32, RingFault>>)>,
-}
-
-impl<W: LineWire + Drop> Pace<W> for Minute {
-    ghost use Rattle.std.specs.Prelude.{None};
-
-    ghost words = { λ minute. None };
-
-    fn next(&mut self, _lines: &Lines<W>) -> Option<Order> {
-        self.orders = self.orders.saturating_add(1);
-        match self.orders {
-            1 => Some(Order::Ring { line: 1, now: 5 }),
-            2 => Some(Order::Ring { line: 7, now: 5 }),
-            orders if orders < 120_000 && orders % 2 == 0 => Some(Order::Turn { now: orders / 2 }),
-            orders if orders < 120_000 => Some(Order::Wake {
-                line: (orders / 2 % 2) as usize,
-            }),
-            _ => None,
-        }
-    }
-
-    #[tactic(auto, using(fax_line::proofs::Running::went_none))]
-    fn settle(&mut self, _lines: &mut Lines<W>) {}
-
-    fn rung(&mut self, line: usize, answer: Option<Result<u32, RingFault>>) {
-        let _ = self.rung.push((line, answer));
-    }
-}
-
-/// A line that rings is served, beside one that does not.
-#[test]
-fn lines_are_served(rt: HostRuntime) -> Result<(), Fail> {
-    let mut lines = Lines::new(rt.alloc())?;
-    for _ in 0..2 {
-        lines.add(line_of(rt.alloc(), 3, RepeatPolicy::Full)?)?;
-    }
-    assert_eq!(rt; lines.len(), 2);
-    assert_eq!(rt; SLOTS, 40);
-    let mut minute = Minute {
-        orders: 0,
-        rung: Vec::new(rt.alloc()),
-    };
-    serve(&mut lines, &mut minute);
-    assert!(rt; minute.rung.as_slice() == [(1, Some(Ok(0))), (7, None)].as_slice());
-    assert_eq!(rt; lines.slot(), (60_000 - 2) % SLOTS);
-    let rung = lines.line(1).expect(&rt, "a line");
-    assert!(rt; rung.report(0) == Some(DELIVERED));
-    let still = lines.line(0).expect(&rt, "a line");
-    assert!(rt; still.report(0).is_none() && still.goes_on());
-    assert!(rt; lines.line(2).is_none());
     Ok(())
 }

@@ -186,8 +186,7 @@ fn let_out(alloc: Global, lets: bool) -> Result<u32, Fail> {
     for now in 0..40 * SLOTS as u64 {
         lines.turn(now);
         if lets {
-            lines.let_out(0);
-            lines.let_out(7);
+            lines.let_out_slot();
         }
     }
     Ok(handed(&lines, 0))
