@@ -1,5 +1,6 @@
 //! What is heard on the called leg.
-ghost use Rattle.std.specs.Prelude.{◌≡◌, ◌+◌, ◌-◌, ◌^◌, min};
+ghost use Rattle.std.specs.Prelude.{◌≡◌, ◌≢◌, ◌+◌, ◌-◌, ◌^◌, min, None, Some, IfOk, IfSome};
+ghost use Rattle.fax_explain.specs.Places.{sent_place};
 
 use crate::keeper::Place;
 use crate::listener::Listener;
@@ -30,7 +31,12 @@ pub(crate) struct CalledLeg {
 
 impl CalledLeg {
     /// A leg on which nothing came or was given.
-    pub(crate) fn new(alloc: Global) -> Self {
+    pub(crate) fn new(alloc: Global) -> Self
+        ensures asked { result.asked ≡ None }
+        ensures call { result.call ≡ None }
+        ensures before { result.before ≡ 0 }
+        ensures delivered { result.delivered ≡ 0 }
+    {
         CalledLeg {
             alloc,
             theirs: Listener::new(alloc, Lane::FromCalled),
@@ -45,7 +51,13 @@ impl CalledLeg {
     }
 
     /// The call of a job begins, whose pages came in this call.
-    pub(crate) fn begin(&mut self, call: u32) {
+    pub(crate) fn begin(&mut self, call: u32)
+        ensures asked { self.new.asked ≡ None }
+        ensures call { self.new.call ≡ Some call }
+        ensures delivered { self.new.delivered ≡ 0 }
+        ensures before { self.old.call ≡ Some call → self.new.before ≡ self.old.before }
+        ensures first { self.old.call ≢ Some call → self.new.before ≡ 0 }
+    {
         self.theirs = Listener::new(self.alloc, Lane::FromCalled);
         self.ours = Listener::new(self.alloc, Lane::ToCalled);
         self.asked = None;
@@ -73,7 +85,10 @@ impl CalledLeg {
     }
 
     /// The octets of a datagram come from the called machine.
-    pub(crate) fn hear(&mut self, octets: &[u8], tale: &mut Tale) -> Result<(), NoMemory> {
+    pub(crate) fn hear(&mut self, octets: &[u8], tale: &mut Tale) -> Result<(), NoMemory>
+        ensures call { self.new.call ≡ self.old.call }
+        ensures before { self.new.before ≡ self.old.before }
+    {
         self.theirs.hear(octets, tale)?;
         for frame in self.theirs.frames() {
             if let Frame::Dis(_) = frame {
@@ -96,7 +111,9 @@ impl CalledLeg {
     }
 
     /// The octets of a datagram come from the called machine while no call is on.
-    pub(crate) fn hear_outside(&mut self, octets: &[u8], tale: &mut Tale) -> Result<(), NoMemory> {
+    pub(crate) fn hear_outside(&mut self, octets: &[u8], tale: &mut Tale) -> Result<(), NoMemory>
+        ensures { self.new ≡ record self.old { theirs = self.new.theirs } }
+    {
         self.theirs.end_call();
         self.theirs.hear(octets, tale)
     }
@@ -106,7 +123,9 @@ impl CalledLeg {
         &mut self,
         given: &Given,
         tale: &mut Tale,
-    ) -> Result<Option<FoundPage>, NoMemory> {
+    ) -> Result<Option<FoundPage>, NoMemory>
+        ensures { IfOk result (λ found. IfSome found (λ page. page.place ≡ sent_place self.old)) }
+    {
         let Some(octets) = &given.called else {
             return Ok(None);
         };
@@ -133,7 +152,9 @@ impl CalledLeg {
     }
 
     /// A command was given, where there is one. Where the same one has no answer, that is told, with what gave it again.
-    fn ask(&mut self, command: Option<Command>, tale: &mut Tale) -> Result<(), NoMemory> {
+    fn ask(&mut self, command: Option<Command>, tale: &mut Tale) -> Result<(), NoMemory>
+        ensures { self.new ≡ record self.old { asked = self.new.asked } }
+    {
         if command.is_none() {
             return Ok(());
         }

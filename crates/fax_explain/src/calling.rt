@@ -1,4 +1,7 @@
 //! What is heard on the calling leg.
+ghost use Rattle.std.specs.Prelude.{◌≡◌, IfOk, IfSome};
+ghost use Rattle.fax_explain.specs.Places.{IsConfirmedAt};
+
 use crate::keeper::Place;
 use crate::listener::Listener;
 use crate::stage::FoundPage;
@@ -21,7 +24,10 @@ pub(crate) struct CallingLeg {
 
 impl CallingLeg {
     /// A leg on which nothing came or was given: our DIS waits.
-    pub(crate) fn new(alloc: Global) -> Self {
+    pub(crate) fn new(alloc: Global) -> Self
+        ensures exchange { result.exchange ≡ Exchange.Before }
+        ensures pages { result.pages ≡ 0 }
+    {
         let mut theirs = Listener::new(alloc, Lane::FromCaller);
         theirs.attend(true);
         CallingLeg {
@@ -34,7 +40,9 @@ impl CallingLeg {
     }
 
     /// The octets of a datagram come from the caller.
-    pub(crate) fn hear(&mut self, octets: &[u8], tale: &mut Tale) -> Result<(), NoMemory> {
+    pub(crate) fn hear(&mut self, octets: &[u8], tale: &mut Tale) -> Result<(), NoMemory>
+        ensures { self.new.pages ≡ self.old.pages }
+    {
         self.theirs.hear(octets, tale)?;
         for frame in self.theirs.frames() {
             if let Frame::Dcs(_) = frame {
@@ -45,7 +53,9 @@ impl CallingLeg {
     }
 
     /// The octets of a datagram come from the caller while no call is on.
-    pub(crate) fn hear_outside(&mut self, octets: &[u8], tale: &mut Tale) -> Result<(), NoMemory> {
+    pub(crate) fn hear_outside(&mut self, octets: &[u8], tale: &mut Tale) -> Result<(), NoMemory>
+        ensures { self.new ≡ record self.old { theirs = self.new.theirs } }
+    {
         self.theirs.end_call();
         self.theirs.hear(octets, tale)
     }
@@ -55,7 +65,9 @@ impl CallingLeg {
         &mut self,
         given: &Given,
         tale: &mut Tale,
-    ) -> Result<Option<FoundPage>, NoMemory> {
+    ) -> Result<Option<FoundPage>, NoMemory>
+        ensures { IfOk result (λ found. IfSome found (λ page. IsConfirmedAt given.now.kept self.old page.place)) }
+    {
         let Some(octets) = &given.calling else {
             return Ok(None);
         };
@@ -89,7 +101,9 @@ impl CallingLeg {
         &mut self,
         kept: Option<Kept>,
         tale: &mut Tale,
-    ) -> Result<Option<FoundPage>, NoMemory> {
+    ) -> Result<Option<FoundPage>, NoMemory>
+        ensures { IfOk result (λ found. IfSome found (λ page. IsConfirmedAt kept self.old page.place)) }
+    {
         let Some(kept) = kept else {
             tale.add(" again, to a command that came again")?;
             return Ok(None);

@@ -1,5 +1,5 @@
 //! An image signal, as far as it has come.
-ghost use Rattle.std.specs.Prelude.{◌≡◌, ◌+◌, ◌-◌, ◌^◌, ◌++◌, ◌∷◌, [], length, min, IfOk, OnOk, string_bytes};
+ghost use Rattle.std.specs.Prelude.{◌≡◌, ◌+◌, ◌-◌, ◌^◌, ◌++◌, ◌∷◌, [], length, min, is_some, IfOk, OnOk, string_bytes};
 ghost use Rattle.fax_telling.specs.Words.{wholeness_text};
 
 use fax_bits::NoMemory;
@@ -27,6 +27,7 @@ impl Image {
     pub(crate) fn new(alloc: Global, page: Option<Dcs>) -> Self
         ensures octets { result.octets ≡ 0 }
         ensures missing { string_bytes result.missing ≡ [] }
+        ensures due { is_some result.reader ≡ is_some page }
     {
         let reader = match page {
             Some(dcs) => Some(PageReader::new(alloc, dcs.format(), dcs.coding())),
@@ -101,7 +102,10 @@ impl Image {
     }
 
     /// The page that it means, where one was due.
-    pub(crate) fn finish(&mut self) -> Option<Result<Page<PackedRows>, PageFault>> {
+    pub(crate) fn finish(&mut self) -> Option<Result<Page<PackedRows>, PageFault>>
+        ensures due { is_some result ≡ is_some self.old.reader }
+        ensures left { self.new ≡ record self.old { reader = self.new.reader } }
+    {
         match &mut self.reader {
             Some(reader) => Some(reader.finish()),
             None => None,

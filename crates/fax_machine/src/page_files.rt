@@ -1,5 +1,5 @@
 //! Pages that are kept in files.
-ghost use Rattle.std.specs.Prelude.{◌≡◌};
+ghost use Rattle.std.specs.Prelude.{◌≡◌, ◌≤◌, None, IfOk};
 
 use crate::watch::Watch;
 use fax_pagestore::{PackedRows, Page};
@@ -34,7 +34,10 @@ impl<'a, H: Files, E: Eprint> PageFiles<'a, H, E> {
         alloc: Global,
         prefix: &'a str,
         call: u32,
-    ) -> Self {
+    ) -> Self
+        ensures pages { result.pages ≡ 0 }
+        ensures fault { result.fault ≡ None }
+    {
         PageFiles {
             host,
             watch,
@@ -54,7 +57,9 @@ impl<'a, H: Files, E: Eprint> PageFiles<'a, H, E> {
     }
 
     /// Why that page was not written. `None`: it was, or memory was wanted.
-    pub(crate) fn into_fault(self) -> Option<io::Error> {
+    pub(crate) fn into_fault(self) -> Option<io::Error>
+        ensures { result ≡ self.entry.fault }
+    {
         self.fault
     }
 
@@ -70,11 +75,14 @@ impl<'a, H: Files, E: Eprint> PageFiles<'a, H, E> {
 }
 
 impl<H: Files, E: Eprint> Keeper<PackedRows> for PageFiles<'_, H, E> {
-    ghost use Rattle.std.specs.Prelude.{None};
+    ghost use Rattle.std.specs.Prelude.{◌≡◌, ◌+◌, ◌-◌, ◌^◌, min, None, OnOk};
 
     ghost given = { λ _. None };
 
-    fn keep(&mut self, page: &Page<PackedRows>) -> Result<(), KeepFault> {
+    fn keep(&mut self, page: &Page<PackedRows>) -> Result<(), KeepFault>
+        ensures counted { self.new.pages ≡ min (self.old.pages + 1) (2 ^ 32 - 1) }
+        ensures kept { OnOk result (self.new.fault ≡ self.old.fault) }
+    {
         self.pages = self.pages.saturating_add(1);
         let Ok(octets) = write_pbm(self.alloc, page) else {
             return Err(KeepFault);
@@ -94,7 +102,9 @@ pub(crate) fn free_call<H: Files>(
     alloc: Global,
     prefix: &str,
     from: u32,
-) -> Result<u32, AllocError> {
+) -> Result<u32, AllocError>
+    ensures { IfOk result (λ call. from ≤ call) }
+{
     for call in from..u32::MAX {
         let path = path_of(alloc, prefix, call, 1)?;
         if OpenOptions::new()

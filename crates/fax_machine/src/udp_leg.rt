@@ -1,5 +1,5 @@
 //! Legs over UDP sockets.
-ghost use Rattle.std.specs.Prelude.{◌≡◌, ◌+◌, ◌≤◌, min, length, IfOk, IfSome};
+ghost use Rattle.std.specs.Prelude.{◌≡◌, ◌+◌, ◌≤◌, min, length, slice_get, Some, IfOk, IfSome, IsTrue, ◌↔◌};
 ghost use Rattle.fax_gateway.specs.Wires.{greatest_count};
 
 use crate::clock_pace::ClockPace;
@@ -35,7 +35,9 @@ pub(crate) struct Port {
 
 impl Port {
     /// Nothing failed at this socket.
-    pub(crate) fn new(socket: UdpSocket) -> Self {
+    pub(crate) fn new(socket: UdpSocket) -> Self
+        ensures { result.socket ≡ socket }
+    {
         Port {
             socket,
             count: Cell::new(0),
@@ -44,7 +46,9 @@ impl Port {
     }
 
     /// The socket.
-    pub(crate) fn socket(&self) -> &UdpSocket {
+    pub(crate) fn socket(&self) -> &UdpSocket
+        ensures { result.now ≡ self.now.socket }
+    {
         &self.socket
     }
 
@@ -191,7 +195,9 @@ fn is_peer_of<W: TimedWire + Drop>(last: &Option<LastCall<W>>, peer: SocketAddr)
 }
 
 /// Whether a datagram is numbered as the first of a call (ITU-T T.38, annex C: the number is its first two octets).
-fn is_numbered_first(octets: &[u8]) -> bool {
+fn is_numbered_first(octets: &[u8]) -> bool
+    ensures { IsTrue result ↔ ((slice_get octets.now 0 ≡ Some 0) × (slice_get octets.now 1 ≡ Some 0)) }
+{
     octets.first() == Some(&0) && octets.get(1) == Some(&0)
 }
 

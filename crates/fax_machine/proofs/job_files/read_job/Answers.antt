@@ -1,11 +1,10 @@
-use Rattle.std.proofs.Common.{rules, arith, ℕ, List, [], ◌∷◌, All, ap, sym, subst}
+use Rattle.std.proofs.Common.{rules, arith, List, [], ◌∷◌, All, ap, sym, subst}
 use Rattle.std.proofs.lemmas.Grind.{common_steps}
 use Rattle.std.proofs.lemmas.List.Elements.{All-append, All-cons, All-nil}
 use Rattle.std.proofs.lemmas.Result.{err_from_is_err_and}
 use Rattle.fax_pagestore.specs.Pages.{PageValue}
 use Rattle.fax_jobs.specs.Jobs.{JobValue}
 use Rattle.fax_machine.specs.Files.{IsPageOfFile}
-use Rattle.fax_machine.specs.Runs.{IsJobOfFiles}
 use Rattle.fax_machine.proofs.FileLemmas.{of_later_file}
 use Rattle.fax_machine.proofs.job_files.read_job.Goals as goal
 
