@@ -1,7 +1,7 @@
 -- Lines of the whole width, in which the elements right of a0 turn.
 use Rattle.std.proofs.Common.{◌≡◌, ◌≢◌, ℕ, zero, suc, ◌+◌, ◌-◌, ◌<◌, ◌≤◌, List, [], ◌∷◌, ◌++◌, length, take, drop, replicate, slice_index, slice_index_or, Bool, true, refl, sym, ◌∙◌, ap, subst, arith, inl, inr, ◌⊎◌, take_at, length-append, length-drop, append_assoc}
 use Rattle.std.proofs.lemmas.Bool.{cases_lt, cases_eq}
-use Rattle.std.proofs.lemmas.List.{take_all, take_more, get_or-take, get_or_default, drop-drop, drop_at, drop_all, length-replicate, length-take-le, replicate-append-replicate, get_or-drop, get_or-replicate}
+use Rattle.std.proofs.lemmas.List.{take_all, take_more, get_or-take, get_or_default, get_or_past, drop-drop, drop_at, drop_all, length-replicate, length-take-le, replicate-append-replicate, get_or-drop, get_or-replicate}
 use Rattle.std.proofs.Math.Seq.{take-add}
 use Rattle.fax_runcodes.specs.declared.Colour.{Colour}
 use Rattle.fax_runcodes.specs.declared.Colour.TheVariants.{White}
@@ -17,9 +17,9 @@ use Rattle.fax_mrcode.specs.Starts.{IsBack, IsCursor, IsIndexOfB1, IsStart, IsSt
 use Rattle.fax_runcodes.proofs.PaintedLemmas.{colour_behind, painted-join, painted-turn, rising_le}
 use Rattle.fax_runcodes.proofs.RowPixelsLemmas.{rising_before_end}
 use Rattle.fax_runcodes.proofs.TurningLemmas.{rising_behind}
-use Rattle.fax_mrcode.proofs.CursorLemmas.{IsCursor-back, IsCursor-right, IsCursor-second, other_twice, colour_after-more, b2_right, place_le}
-use Rattle.fax_mrcode.proofs.StepLemmas.{IsStart-next, TakesStep-horizontal, TakesStep-pass, TakesStep-vertical, length-painted_more, TakesSteps-at, cursor_on}
-use Rattle.fax_mrcode.proofs.VerticalLemmas.{TakesStep-at}
+use Rattle.fax_mrcode.proofs.CursorLemmas.{IsCursor-back, IsCursor-more, IsCursor-right, rising_below, IsCursor-second, other_twice, colour_after-more, b2_right, place_le}
+use Rattle.fax_mrcode.proofs.StepLemmas.{IsStart-next, TakesStep-horizontal, TakesStep-pass, TakesStep-vertical, length-painted_more, TakesSteps-at, cursor_near}
+use Rattle.fax_mrcode.proofs.VerticalLemmas.{TakesStep-at, TakesStep-to}
 use Rattle.fax_mrcode.proofs.ZerosLemmas.{last_le, steps_rise, steps_taken}
 
 -- the first of elements that have one colour, and the rest of them
@@ -170,18 +170,22 @@ module _ (ps : List ℕ) (width : ℕ) (rising : AreRising 0 ps width) (line : E
 
   -- pass mode: nothing turns
   pub pass_taken : (b1 : ℕ) → IsIndexOfB1 ps start.colour start.from b1 → (place : ℕ) → place ≡ slice_index_or ps (b1 + 1) width → place ≢ width
-      → let next : Start = record { from = place + 1; colour = start.colour; index = b1 } in
+      → let next : Start = record { from = place + 1; colour = start.colour; index = b1 + 2 } in
       IsStartIn ps width line next × TakesStep (painted White 0 ps width) width Pass [] (left_of_a0 line start) start (left_of_a0 line next) next
   pass_taken b1 at place place_is apart =
-      let next : Start = record { from = place + 1; colour = start.colour; index = b1 } in
+      let next : Start = record { from = place + 1; colour = start.colour; index = b1 + 2 } in
       let right : start.from ≤ place = omega (arith, b2_right ps width rising start.colour start.from b1 inside at) in
       let high : place ≤ width = omega (arith, place_le ps width rising (b1 + 1)) in
       let rests : Rests width line place start.colour = Rests-right width line (run_start start.from) start.colour is.rests place (omega arith) high in
-      let is_next = IsStart-next ps width rising (left_of_a0 line start) (record { from = start.from; colour = start.colour; index = b1 }) (at_b1 b1 at) inside start.colour place b1 right high
-      (λ le. IsCursor-right ps start.colour start.from (place + 1) b1 (omega arith) at.cursor) in
+      let more : b1 + 1 < length ps = elim (cases_lt (b1 + 1) (length ps)) [ inl lt ↦ lt | inr past ↦ absurd (apart (place_is ∙ get_or_past ps (b1 + 1) width past)) ] in
+      let b2_is : slice_index_or ps (b1 + 1) width ≡ slice_index ps (b1 + 1) = get_or_default ps (b1 + 1) width 0 more in
+      let order : slice_index ps b1 < slice_index ps (b1 + 1) = rising_below ps width b1 (b1 + 1) rising (omega arith) more in
+      let is_next = IsStart-next ps width rising (left_of_a0 line start) (record { from = start.from; colour = start.colour; index = b1 }) (at_b1 b1 at) inside start.colour place (b1 + 2) right high
+      (λ le. IsCursor-more ps start.colour (place + 1) b1 (IsCursor-right ps start.colour start.from (place + 1) b1 (omega arith) at.cursor) (omega arith) (omega arith)) in
       let in_line = IsStartIn-of ps width line next place (left_of_a0 line start ++ replicate (place - length (left_of_a0 line start)) start.colour) refl (left_of place right high) is_next rests in
       let taken = TakesStep-at (painted White 0 ps width) width Pass [] (left_of_a0 line start) start b1 (left_of_a0 line start ++ replicate (place - length (left_of_a0 line start)) start.colour) next
-      (TakesStep-pass ps width rising (left_of_a0 line start) (record { from = start.from; colour = start.colour; index = b1 }) (at_b1 b1 at) inside at place place_is apart) in
+      (TakesStep-to (painted White 0 ps width) width Pass [] (left_of_a0 line start) (record { from = start.from; colour = start.colour; index = b1 }) _ next b1
+      (TakesStep-pass ps width rising (left_of_a0 line start) (record { from = start.from; colour = start.colour; index = b1 }) (at_b1 b1 at) inside at place place_is apart)) in
       (in_line.0, subst (λ (es : Elements). TakesStep (painted White 0 ps width) width Pass [] (left_of_a0 line start) start es next) (sym in_line.1) taken)
 
   -- horizontal mode: the elements turn at a1 and at a2
@@ -268,18 +272,18 @@ module _ (b1 back index : ℕ) (is : (index + back ≡ b1 + 1) ⊎ ((b1 + 1 < ba
   less_of : back ≡ 2 → b1 ≢ 0 → index ≡ b1 - 1
   less_of two some = elim is [ inl sum ↦ omega arith | inr few ↦ absurd (omega (arith, few.0)) ]
 
--- the one behind that of b1, or two further back where a1 lies left of b1 and there are so many
+-- the one behind that of b1, or two further back where a1 lies two elements or more left of b1 and there are so many
 pub next_index : (ps : List ℕ) (width : ℕ) → AreRising 0 ps width → (colour : Colour) (from b1 : ℕ) → IsIndexOfB1 ps colour from b1 → (offset : Offset) (back : ℕ) → IsBack offset back
-    → (place : ℕ) → IsAt offset place (slice_index_or ps b1 width) → from ≤ place → (index : ℕ) → (index + back ≡ b1 + 1) ⊎ ((b1 + 1 < back) × (index ≡ 1))
+    → b1 ≤ length ps → (place : ℕ) → IsAt offset place (slice_index_or ps b1 width) → from ≤ place → (index : ℕ) → (index + back ≡ b1 + 1) ⊎ ((b1 + 1 < back) × (index ≡ 1))
     → (colour_after_changes index ≡ other colour) × (place + 1 ≤ width → IsCursor ps (other colour) (place + 1) index)
-next_index ps width rising colour from b1 at offset back is_back place is_at right index is = elim (cases_eq b1 0) [
+next_index ps width rising colour from b1 at offset back is_back within place is_at right index is = elim (cases_eq b1 0) [
   | inl none ↦ elim (is_back) [
     | inl two ↦
         let one : index ≡ 1 = one_of b1 back index is two none in
         rw one ((IsCursor-second ps colour from (place + 1) (subst (λ (n : ℕ). IsCursor ps colour from n) none at.cursor)).parity, λ le. IsCursor-second ps colour from (place + 1) (subst (λ (n : ℕ). IsCursor ps colour from n) none at.cursor))
     | inr on ↦
         let more : index ≡ b1 + 1 = more_of b1 back index is on.0 in
-        rw more (colour_after-more b1 ∙ ap other at.cursor.parity, λ le. cursor_on ps width rising colour from b1 place at right le (inl (on.1 place (slice_index_or ps b1 width) is_at)))
+        rw more (colour_after-more b1 ∙ ap other at.cursor.parity, λ le. cursor_near ps width rising colour from b1 place at within (on.1 place (slice_index_or ps b1 width) is_at))
   ]
   | inr some ↦ elim is_back [
     | inl two ↦
@@ -287,7 +291,7 @@ next_index ps width rising colour from b1 at offset back is_back place is_at rig
         rw less ((IsCursor-back ps width colour from b1 (place + 1) rising at.cursor (omega arith) (omega arith)).parity, λ le. IsCursor-back ps width colour from b1 (place + 1) rising at.cursor (omega arith) (omega arith))
     | inr on ↦
         let more : index ≡ b1 + 1 = more_of b1 back index is on.0 in
-        rw more (colour_after-more b1 ∙ ap other at.cursor.parity, λ le. cursor_on ps width rising colour from b1 place at right le (inl (on.1 place (slice_index_or ps b1 width) is_at)))
+        rw more (colour_after-more b1 ∙ ap other at.cursor.parity, λ le. cursor_near ps width rising colour from b1 place at within (on.1 place (slice_index_or ps b1 width) is_at))
   ]
 ]
 

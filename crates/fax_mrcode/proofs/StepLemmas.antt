@@ -7,7 +7,8 @@ use Rattle.fax_bits.proofs.ReadingLemmas.{Passes-none, Passes-then}
 use Rattle.fax_runcodes.specs.declared.Colour.{Colour}
 use Rattle.fax_runcodes.specs.declared.Colour.TheVariants.{White}
 use Rattle.fax_runcodes.specs.Rows.{Elements, other, colour_at, colour_before}
-use Rattle.fax_runcodes.specs.Painted.{painted, AreRising}
+use Rattle.fax_runcodes.specs.Painted.{painted, AreRising, colour_after_changes}
+use Rattle.fax_runcodes.proofs.RowPixelsLemmas.{rising_before_end}
 use Rattle.fax_runcodes.specs.Spelling.{SpellsRun}
 use Rattle.fax_mhcode.specs.declared.fault.LineFault.{LineFault}
 use Rattle.fax_mhcode.specs.declared.fault.LineFault.TheVariants.{Run, PastWidth, NoMode, BadPlace, NoMemory}
@@ -22,7 +23,7 @@ use Rattle.fax_mrcode.specs.Lines.{Steps, SpellsLine}
 use Rattle.fax_mrcode.specs.LineFaults.{FailsLine, Stops, StopsAtRun}
 use Rattle.fax_mrcode.specs.Starts.{IsCursor, IsIndexOfB1, IsStart, IsTaken, Completes, TakesStep, TakesSteps, StepsSoFar, behind_step}
 use Rattle.fax_mrcode.proofs.PlaceLemmas.{IsStretch, IsA1, IsA2, a1_is, a2_is}
-use Rattle.fax_mrcode.proofs.CursorLemmas.{other_apart, IsCursor-first, IsCursor-on, IsCursor-right, IsCursor-second, place_le, b1_is, b2_is, b2_right}
+use Rattle.fax_mrcode.proofs.CursorLemmas.{colour_after-more, other_apart, rising_below, IsCursor-first, IsCursor-on, IsCursor-right, IsCursor-second, place_le, b1_is, b2_is, b2_right}
 
 -- ---- rows that begin with the elements so far
 
@@ -245,6 +246,30 @@ cursor_on ps width rising colour from index place at right inside (inl no_left) 
 cursor_on ps width rising colour from index place at right inside (inr none) =
     let one : 1 ≡ index + 1 = omega arith in
     subst (λ n. IsCursor ps (other colour) (place + 1) n) one (IsCursor-second ps colour from (place + 1) (subst (λ n. IsCursor ps colour from n) none at.cursor))
+
+-- and where a1 lies one element left of b1, since the changes lie one element apart at least
+pub cursor_near : (ps : List ℕ) (width : ℕ) → AreRising 0 ps width → (colour : Colour) (from index place : ℕ) → IsIndexOfB1 ps colour from index → index ≤ length ps
+    → slice_index_or ps index width ≤ place + 1 → IsCursor ps (other colour) (place + 1) (index + 1)
+cursor_near ps width rising colour from index place at within near = record {
+  parity = colour_after-more index ∙ ap other at.cursor.parity;
+  passed = λ k lt inside same. elim (cases_lt k index) [
+    | inl before ↦
+        elim (cases_lt index (length ps)) [
+          | inl more ↦
+              let here : slice_index_or ps index width ≡ slice_index ps index = get_or_default ps index width 0 more in
+              let order : slice_index ps k < slice_index ps index = rising_below ps width k index rising before more in
+              omega arith
+          | inr past ↦
+              let here : slice_index_or ps index width ≡ width = get_or_past ps index width past in
+              let order : slice_index ps k < width = rising_before_end ps width k inside rising in
+              omega arith
+        ]
+    | inr from_here ↦
+        let here : k ≡ index = omega arith in
+        absurd (other_apart colour (sym same ∙ ap colour_after_changes here ∙ at.cursor.parity))
+  ];
+  few = omega arith;
+}
 
 -- ---- steps that are taken whatever stands left of a0
 

@@ -90,7 +90,7 @@ other_not_vertical text more h o rest e = elim (or_else (begins (mode_word Pass)
 abbrev pub back_of : Offset → ℕ
 back_of Left3 = 2
 back_of Left2 = 2
-back_of Left1 = 2
+back_of Left1 = 0
 back_of Zero = 0
 back_of Right1 = 0
 back_of Right2 = 0
@@ -99,7 +99,7 @@ back_of Right3 = 0
 pub IsBack-of : (offset : Offset) → IsBack offset (back_of offset)
 IsBack-of Left3 = inl refl
 IsBack-of Left2 = inl refl
-IsBack-of Left1 = inl refl
+IsBack-of Left1 = inr (refl, λ a b at. omega arith)
 IsBack-of Zero = inr (refl, λ a b at. omega arith)
 IsBack-of Right1 = inr (refl, λ a b at. omega arith)
 IsBack-of Right2 = inr (refl, λ a b at. omega arith)
@@ -311,3 +311,7 @@ passes_shown p k n next text few is e =
 pub TakesStep-at : (reference : Elements) (width : ℕ) (mode : Mode) (text : List Bool) (before : Elements) (start : Start) (index : ℕ) (after : Elements) (next : Start)
     → TakesStep reference width mode text before (record { from = start.from; colour = start.colour; index = index }) after next → TakesStep reference width mode text before start after next
 TakesStep-at reference width mode text before start index after next t = record { place = t.place; from_is = t.from_is; right = t.right; completes = t.completes; step = t.step }
+
+pub TakesStep-to : (reference : Elements) (width : ℕ) (mode : Mode) (text : List Bool) (before : Elements) (start : Start) (after : Elements) (next : Start) (index : ℕ)
+    → TakesStep reference width mode text before start after (record { from = next.from; colour = next.colour; index = index }) → TakesStep reference width mode text before start after next
+TakesStep-to reference width mode text before start after next index t = record { place = t.place; from_is = t.from_is; right = t.right; completes = t.completes; step = t.step }

@@ -33,9 +33,9 @@ pub record IsIndexOfB1 (changes : List ℕ) (colour : Colour) (from index : ℕ)
   pub cursor : IsCursor changes colour from index
   pub right : index < length changes → from ≤ slice_index changes index
 
--- how many changing places further back than behind b1 the next b1 is looked for: 2, or none where a1 does not lie left of b1
+-- how many changing places further back than behind b1 the next b1 is looked for: 2, or none where a1 lies at most one element left of b1
 abbrev pub IsBack : Offset → ℕ → Type 0
-IsBack offset back = (back ≡ 2) ⊎ ((back ≡ 0) × ((a1 b1 : ℕ) → IsAt offset a1 b1 → b1 ≤ a1))
+IsBack offset back = (back ≡ 2) ⊎ ((back ≡ 0) × ((a1 b1 : ℕ) → IsAt offset a1 b1 → b1 ≤ a1 + 1))
 
 -- A step may start here: the elements left of a0 are painted, and the colour at a0 = -1 is white.
 pub record IsStart (changes : List ℕ) (width : ℕ) (line : Elements) (start : Start) : Type 0 where

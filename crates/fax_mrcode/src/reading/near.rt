@@ -18,6 +18,11 @@ use crate::places::place_at;
 use fax_bits::BitReader;
 use fax_runcodes::{Colour, RowBuilder};
 
+/// How many bits a step in horizontal mode has at most where both of its runs are of fewer than 64
+/// elements: the word of the mode, 8 for a white run and 12 for a black one (ITU-T T.4, tables 2/T.4 and
+/// 4/T.4). Where fewer are left the next window is read first.
+const SHORT_STEP_BITS: u32 = 23;
+
 /// Where a coding step starts, and the bits from it on. The colour at a0 is that up to the changing
 /// place of the index.
 #[derive(Clone, Copy)]
@@ -56,7 +61,7 @@ pub(super) fn read_near_steps(
         → StepsSoFar (painted Colour.White 0 changes.now width) width old reader.new (left_of_a0 line.new result) result }
 {
     let known = reader.known();
-    let mut near = Near {
+    let first = Near {
         from: start.from,
         index: start.index,
         ahead: Ahead {
@@ -64,6 +69,7 @@ pub(super) fn read_near_steps(
             left: known,
         },
     };
+    let mut near = near_start(line, changes, width, first);
     while near.from <= width {
         let Some(next) = near_step(line, changes, width, near) else {
             break;
@@ -78,8 +84,25 @@ pub(super) fn read_near_steps(
     }
 }
 
-/// Takes the step that the bits begin with, where they show all of it and its runs are short, and with
-/// a step whose a1 is at b1 those like it behind it. `None` changes nothing.
+/// Takes the steps with a1 at b1 that a window begins with, where it shows eight of them or more, all at
+/// once. Fewer are taken one by one.
+#[inline]
+fn near_start(line: &mut RowBuilder, changes: &[u16], width: u16, near: Near) -> Near
+    requires start { IsStartIn changes.now width line.old (start_of near) }
+    requires at { StepsAt changes.now width near.from }
+    requires known { near.ahead.left ≤ 56 }
+    ensures next { IsStartIn changes.now width line.new (start_of result) }
+    ensures taken { (line.new ≡ line.old) × (result ≡ near) ⊎ TakesNear (painted Colour.White 0 changes.now width) width line.old near line.new result }
+{
+    if near.ahead.window >> 56 == 0xff && near.ahead.left >= 8 {
+        near_zeros(line, changes, width, near)
+    } else {
+        near
+    }
+}
+
+/// Takes the step that the bits begin with, where they show all of it and its runs are short. `None`
+/// changes nothing.
 #[inline]
 fn near_step(line: &mut RowBuilder, changes: &[u16], width: u16, near: Near) -> Option<Near>
     requires start { IsStartIn changes.now width line.old (start_of near) }
@@ -89,9 +112,6 @@ fn near_step(line: &mut RowBuilder, changes: &[u16], width: u16, near: Near) -> 
     ensures taken { IfSome result (λ next. TakesNear (painted Colour.White 0 changes.now width) width line.old near line.new next) }
     ensures none { IsNone result → line.new ≡ line.old }
 {
-    if near.ahead.window >> 63 == 1 && near.ahead.left > 0 {
-        return Some(near_zeros(line, changes, width, near));
-    }
     let word = vertical_word(near.ahead.window);
     if word.bits > 0 {
         return near_vertical(line, changes, width, near, word);
@@ -116,7 +136,7 @@ fn near_zeros(line: &mut RowBuilder, changes: &[u16], width: u16, near: Near) ->
     ensures taken { TakesNear (painted Colour.White 0 changes.now width) width line.old near line.new result }
 {
     let b1 = next_change(changes, width, near);
-    if near.ahead.window >> 62 == 0b11 && near.from > 0 {
+    if near.from > 0 {
         let steps = (ones(near.ahead) as usize).min(changes.len().saturating_sub(b1.index));
         if steps > 0 {
             let index = b1.index + steps;
@@ -161,14 +181,15 @@ fn near_vertical(
         return None;
     }
     let b1 = next_change(changes, width, near);
+    // two past the last changing place none stands behind: such a step is taken the slow way
+    if b1.index > changes.len() {
+        return None;
+    }
     let past_a1 = b1.place + word.offset.right_of_left3();
-    if past_a1 < 3 {
+    if past_a1 < near.from + 3 || past_a1 > width + 3 {
         return None;
     }
     let a1 = past_a1 - 3;
-    if a1 < near.from || a1 > width {
-        return None;
-    }
     turn_below(line, width, a1);
     Some(Near {
         from: a1 + 1,
@@ -178,7 +199,7 @@ fn near_vertical(
 }
 
 /// From where on the next b1 is looked for: behind this one, or so many changing places further back, as
-/// left of b1 the changing place before it may be right of a1. Before the first none is.
+/// the changing place before b1 may be right of a1. Before the first none is.
 #[inline]
 fn index_behind(b1: usize, back: u16) -> usize
     requires { b1 + 1 < 2 ^ 64 }
@@ -210,7 +231,7 @@ fn near_pass(changes: &[u16], width: u16, near: Near) -> Option<Near>
     }
     Some(Near {
         from: b2 + 1,
-        index: b1.index,
+        index: b1.index + 2,
         ahead: past(near.ahead, PASS_BITS),
     })
 }
@@ -227,7 +248,7 @@ fn near_horizontal(line: &mut RowBuilder, changes: &[u16], width: u16, near: Nea
     ensures taken { IfSome result (λ next. TakesNear (painted Colour.White 0 changes.now width) width line.old near line.new next) }
     ensures none { IsNone result → line.new ≡ line.old }
 {
-    if near.ahead.left < HORIZONTAL_BITS {
+    if near.ahead.left < SHORT_STEP_BITS {
         return None;
     }
     let behind = past(near.ahead, HORIZONTAL_BITS);

@@ -9,8 +9,9 @@ ghost use Rattle.fax_mrcode.specs.Starts.{IsBack};
 
 use crate::Offset;
 
-/// How far a1 lies from b1, and how many bits say so: none where no word of vertical mode does. Left of
-/// b1 the next b1 is looked for 2 changing places further back than else.
+/// How far a1 lies from b1, and how many bits say so: none where no word of vertical mode does. Where a1
+/// lies two or three elements left of b1, the next b1 is looked for 2 changing places further back than
+/// else: the changing place before b1 may be right of a1.
 #[derive(Clone, Copy)]
 pub(super) struct VerticalWord {
     pub(super) offset: Offset,
@@ -205,7 +206,7 @@ const RIGHT3: VerticalWord = VerticalWord {
 const LEFT1: VerticalWord = VerticalWord {
     offset: Offset::Left1,
     bits: 3,
-    back: 2,
+    back: 0,
 };
 
 const LEFT2: VerticalWord = VerticalWord {

@@ -30,7 +30,7 @@ next : (c : After-past) → (colour_after_changes c.index_behind.result ≡ othe
     × (c.next_change-b1.result.place + c.right_of_left3.result - 3 + 1 ≤ c.args.width
     → IsCursor c.args.changes.now (other (colour_after_changes c.args.near.index)) (c.next_change-b1.result.place + c.right_of_left3.result - 3 + 1) c.index_behind.result)
 next c =
-    next_index c.args.changes.now c.args.width c.requires.at.rising (colour_after_changes c.args.near.index) c.args.near.from c.next_change-b1.result.index c.next_change-b1.ensures.b1 c.args.word.offset c.args.word.back c.requires.back
+    next_index c.args.changes.now c.args.width c.requires.at.rising (colour_after_changes c.args.near.index) c.args.near.from c.next_change-b1.result.index c.next_change-b1.ensures.b1 c.args.word.offset c.args.word.back c.requires.back (omega (arith, c.if-b1-changes.false))
     (c.next_change-b1.result.place + c.right_of_left3.result - 3) (is_at c) (omega arith) c.index_behind.result
     c.index_behind.ensures
 

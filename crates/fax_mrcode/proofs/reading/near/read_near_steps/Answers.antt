@@ -1,22 +1,52 @@
-use Rattle.std.proofs.Common.{◌+◌, ◌-◌, ◌≤◌, ◌≡◌, drop, length, refl, ◌∙◌, arith}
+use Rattle.std.proofs.Common.{◌+◌, ◌-◌, ◌*◌, ◌%◌, ◌^◌, ◌≤◌, ◌≡◌, drop, length, refl, ◌∙◌, arith, inl, inr}
 use Rattle.std.proofs.lemmas.List.{drop-drop}
 use Rattle.fax_runcodes.specs.declared.Colour.TheVariants.{White}
-use Rattle.fax_runcodes.specs.Painted.{painted}
+use Rattle.fax_runcodes.specs.Painted.{painted, colour_after_changes}
 use Rattle.fax_mrcode.specs.Starts.{start_of, left_of_a0}
 use Rattle.fax_mrcode.proofs.StepLemmas.{StepsSoFar-then}
 use Rattle.fax_mrcode.proofs.VerticalLemmas.{Shows-first, behind_place, behind_none, skipped, passes_shown}
 use Rattle.fax_mrcode.proofs.reading.near.read_near_steps.Goals as goal
-use Rattle.fax_mrcode.proofs.reading.near.read_near_steps.Goals.{After-skip, else-loop-near-test, then-loop-near-test+in_default}
+use Rattle.fax_mrcode.proofs.reading.near.read_near_steps.Goals.{After-near_start-near, After-skip, else-loop-near-test, then-loop-near-test+in_default}
+
+-- the start of a window, by the colour up to the changing place of its index
+parity : (c : After-near_start-near) → colour_after_changes c.args.start.index ≡ c.args.start.colour
+parity c = (c.requires.start.is_start.cursor c.requires.at.within).parity
+
+pub near_start-near-requires-clause-start : goal.near_start-near-requires-clause-start
+near_start-near-requires-clause-start c = rw (c.requires.start.is_start.cursor c.requires.at.within).parity c.requires.start
 
 pub loop-near-init : goal.loop-near-init
 loop-near-init c =
-    rw (c.requires.start.is_start.cursor c.requires.at.within).parity (record {
-      few = omega arith;
-      shows = Shows-first c.window.result c.known-known.result c.args.reader.now.left c.known-known.ensures c.window.ensures.bits;
-      is_start = c.requires.start;
-      right = omega arith;
-      so_far = λ old so_far. rw (behind_none c.args.reader.now c.known-known.result) so_far;
-    })
+    let known = c.known-known.result in
+    let reader = c.args.reader.now in
+    let shows = Shows-first c.window.result known reader.left c.known-known.ensures c.window.ensures.bits in
+    elim c.near_start-near.ensures.taken [
+      | inl same ↦ rw (same.0, same.1, parity (goal.at.loop-near-init c).After-near_start-near) (record {
+        few = omega arith;
+        shows = shows;
+        is_start = c.requires.start;
+        right = omega arith;
+        so_far = λ old so_far. rw (behind_none reader known) so_far;
+      })
+      | inr taken ↦
+          let next = c.near_start-near.result in
+          let n = known - next.ahead.left in
+          let bits = drop (known - known) reader.left in
+          let there : known ≤ length bits = shows.there in
+          let further : known - next.ahead.left ≡ known - known + n = omega (arith, taken.behind.less) in
+          let begun = start_of (record { from = c.args.start.from; index = c.args.start.index; ahead = record { window = c.window.result * 2 ^ 8 % 2 ^ 64; left = known } }) in
+          record {
+            few = omega (arith, taken.behind.less);
+            shows = rw (further, ← drop-drop n (known - known) reader.left) (taken.behind.shows bits shows);
+            is_start = c.near_start-near.ensures.next;
+            right = omega (arith, taken.takes.right);
+            so_far = λ old so_far. StepsSoFar-then (painted White 0 c.args.changes.now c.args.width) c.args.width old (behind_place reader (known - known)) (behind_place reader (known - next.ahead.left))
+                (left_of_a0 c.args.line.now begun) begun (left_of_a0 c.near_start-near.new.line (start_of next)) (start_of next) taken.text
+                (rw (parity (goal.at.loop-near-init c).After-near_start-near, behind_none reader known) so_far)
+                (passes_shown reader (known - known) n (known - next.ahead.left) taken.text (omega arith) (taken.first bits shows) further)
+                taken.takes;
+          }
+    ]
 
 pub loop-near-preserved : goal.loop-near-preserved
 loop-near-preserved c =
