@@ -1,5 +1,5 @@
 //! Pages read.
-ghost use Rattle.std.specs.Prelude.{◌≡◌, ◌++◌, ◌+◌, ◌≤◌, ◌<◌, List, [], ◌∷◌, ℕ, length, take, drop, true, false, Ok, Err, IfOk, IfErr, OnErr, IfSome, IfNone, IsNone};
+ghost use Rattle.std.specs.Prelude.{◌≡◌, ◌++◌, ◌+◌, ◌-◌, ◌≤◌, ◌<◌, List, [], ◌∷◌, ℕ, length, take, drop, replicate, true, false, Ok, Err, IfOk, IfErr, OnErr, IfSome, IfNone, IsNone};
 ghost use Rattle.fax_runcodes.specs.Rows.{Elements, IsWidth, AreRuns};
 ghost use Rattle.fax_pagestore.specs.PageTexts.{MeansRows};
 ghost use Rattle.fax_pagestore.specs.PageFaults.{HasNoEol};
@@ -143,15 +143,35 @@ fn fill_pixels<S: RowStore>(page: &Page<S>, pixels: &mut [u8]) -> Result<Filled,
         return Err(Refusal::Room(wanted));
     }
     let mut filled = 0;
+    // from where on the rows are white, and not put yet
+    let mut white = 0;
     for i in 0..rows.len() {
-        rows.lend(i)
-            .put_pixels(&mut pixels[filled..filled + octets]);
+        let row = rows.lend(i);
+        let from = filled;
         filled += octets;
+        if row.changes().is_empty() {
+            continue;
+        }
+        clear(pixels, white, from);
+        row.put_pixels(&mut pixels[from..filled]);
+        white = filled;
     }
+    clear(pixels, white, filled);
     Ok(Filled {
         rows: rows.len(),
         items: filled,
     })
+}
+
+/// Puts zeros into a slice, from one place to another: the picture elements of white rows.
+fn clear(octets: &mut [u8], from: usize, end: usize)
+    requires order { from ≤ end }
+    requires within { end ≤ length octets.old }
+    ensures zeros { take end octets.new ≡ take from octets.old ++ replicate (end - from) 0 }
+    ensures behind { drop end octets.new ≡ drop end octets.old }
+    ensures same_room { length octets.new ≡ length octets.old }
+{
+    octets[from..end].fill(0);
 }
 
 /// Puts items into a slice, from a place on, and answers the place behind them, or `None` where they have
