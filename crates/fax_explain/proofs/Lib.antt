@@ -1,4 +1,6 @@
+pub mod OpenedLemmas
 pub mod ExplainLemmas
+pub mod GivenLemmas
 pub mod LadderLemmas
 pub mod PlayLemmas
 pub mod Told

@@ -1,5 +1,8 @@
 pub mod FrameEnds
+pub mod Openings
 pub mod Listening
+pub mod Heard
+pub mod Given
 pub mod Places
 pub mod Ladders
 pub mod Explained

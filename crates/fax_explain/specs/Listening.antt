@@ -1,12 +1,14 @@
 -- LISTENING: what a gateway makes of the frames that come on a direction of a leg. (ITU-T T.30, 5.3.6.1; what is passed over is
 -- this project's profile.)
-use Rattle.std.specs.Prelude.{Bool, true, false}
+use Rattle.std.specs.Prelude.{ℕ, ◌==◌, Bool, true, false, List, Option, Some, None, if◌then◌else◌, codes}
+use Rattle.fax_frames.specs.declared.dis.Dis.{Dis as Offer}
 use Rattle.fax_frames.specs.declared.frame.Frame.{Frame}
-use Rattle.fax_frames.specs.declared.frame.Frame.TheVariants.{Csi, Nsf, Tsi, Eom, Mps, Eop, Crp, Other}
+use Rattle.fax_frames.specs.declared.frame.Frame.TheVariants.{Dis, Csi, Nsf, Tsi, Eom, Mps, Eop, Crp, Other}
+use Rattle.fax_telling.specs.Words.{frame_text}
 use Rattle.fax_explain.specs.declared.listener.Attention.{Attention}
 use Rattle.fax_explain.specs.declared.listener.Attention.TheVariants.{Hears, Waits}
 use Rattle.fax_explain.specs.declared.listener.Due.{Due}
-use Rattle.fax_explain.specs.declared.listener.Due.TheVariants.{Check, Page}
+use Rattle.fax_explain.specs.declared.listener.Due.TheVariants.{Nothing, Check, Page}
 
 -- the commands behind a page
 abbrev pub is_command : Frame → Bool
@@ -37,3 +39,27 @@ due_behind_cfr due = due
 abbrev pub is_page_due : Due → Bool
 is_page_due (Page dcs) = true
 is_page_due due = false
+
+-- the last DIS, behind a frame
+abbrev pub dis_behind : Option Offer → Option Frame → Option Offer
+dis_behind last (Some (Dis dis)) = Some dis
+dis_behind last frame = last
+
+abbrev pub is_same : Option Offer → Offer → Bool
+is_same None dis = false
+is_same (Some last) dis = last.caps.0 == dis.caps.0
+
+-- what a frame says: a DIS like the last one is told as such
+abbrev pub words_behind : Option Offer → (octets : List ℕ) → Option Frame → List ℕ
+words_behind last octets (Some (Dis dis)) = if is_same last dis then codes "DIS as before" else frame_text octets
+words_behind last octets frame = frame_text octets
+
+-- what a signal is called that is due, and what a training check was
+abbrev pub signal_name : Due → List ℕ
+signal_name Nothing = codes "a signal"
+signal_name (Check dcs) = codes "training check"
+signal_name (Page dcs) = codes "image"
+
+abbrev pub verdict_name : (is_good : Bool) → List ℕ
+verdict_name true = codes "good"
+verdict_name false = codes "bad"

@@ -1,10 +1,13 @@
 -- PLACES: where a page stands that is handed out. (This project's profile.)
-use Rattle.std.specs.Prelude.{◌≡◌, ℕ, ◌+◌, ◌-◌, ◌^◌, min, Option, None, Some, unwrap_or}
+use Rattle.std.specs.Prelude.{ℕ, ◌+◌, ◌-◌, ◌^◌, min, List, ◌++◌, Option, None, Some, codes, decimal, option_map, unwrap_or}
+use Rattle.fax_pagestore.specs.Pages.{PageValue}
 use Rattle.fax_gateway.specs.declared.given.Kept.{Kept}
 use Rattle.fax_gateway.specs.declared.side.Side.TheVariants as side
 use Rattle.fax_explain.specs.declared.called.CalledLeg.{CalledLeg}
 use Rattle.fax_explain.specs.declared.calling.CallingLeg.{CallingLeg}
 use Rattle.fax_explain.specs.declared.keeper.Place.{Place}
+use Rattle.fax_explain.specs.declared.stage.FoundPage.{FoundPage}
+use Rattle.fax_telling.specs.Words.{format_text}
 
 -- the number behind this one; the greatest stays
 abbrev pub next_number : ℕ → ℕ
@@ -15,6 +18,23 @@ abbrev pub sent_place : CalledLeg → Place
 sent_place leg = record { side = side.Called; call = unwrap_or leg.call 0; page = next_number (min (leg.before + leg.delivered) (2 ^ 32 - 1)) }
 
 -- a page that is confirmed: in its call, behind those that were confirmed
-abbrev pub IsConfirmedAt : Option Kept → CallingLeg → Place → Type 0
-IsConfirmedAt None leg place = ⊥
-IsConfirmedAt (Some kept) leg place = place ≡ record { side = side.Calling; call = kept.call; page = next_number leg.pages }
+abbrev pub confirmed_place : Kept → CallingLeg → Place
+confirmed_place kept leg = record { side = side.Calling; call = kept.call; page = next_number leg.pages }
+
+-- a page, where there is one, at its place
+abbrev pub found_at : Place → Option PageValue → Option FoundPage
+found_at place = option_map (λ (page : PageValue). record { place = place; page = page })
+
+-- the page that a tick confirms, where it confirms one and it was read: it is handed out with the datagram
+abbrev pub page_of : Option Kept → CallingLeg → Option FoundPage
+page_of None leg = None
+page_of (Some kept) leg = found_at (confirmed_place kept leg) leg.theirs.page
+
+abbrev pub confirmed_page : (given : Option (List ℕ)) → Option Kept → CallingLeg → Option FoundPage
+confirmed_page None kept leg = None
+confirmed_page (Some octets) kept leg = page_of kept leg
+
+-- what is told of it behind its MCF
+abbrev pub confirmed_text : Kept → (page : ℕ) → List ℕ
+confirmed_text kept page =
+    codes " page " ++ (decimal page ++ (codes " of call " ++ (decimal kept.call ++ (codes ": " ++ (format_text kept.format ++ (codes ", rows: " ++ decimal kept.rows))))))

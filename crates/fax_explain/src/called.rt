@@ -1,6 +1,9 @@
 //! What is heard on the called leg.
-ghost use Rattle.std.specs.Prelude.{◌≡◌, ◌≢◌, ◌+◌, ◌-◌, ◌^◌, min, None, Some, IfOk, IfSome};
-ghost use Rattle.fax_explain.specs.Places.{sent_place};
+ghost use Rattle.std.specs.Prelude.{◌≡◌, ◌≢◌, ◌+◌, ◌-◌, ◌^◌, min, List, None, Some, OnOk};
+ghost use Rattle.fax_udptl.specs.Datagrams.{DatagramValue, datagram_of};
+ghost use Rattle.fax_explain.specs.Given.{GoesOnInLine, TellsGiven, arrived_behind};
+ghost use Rattle.fax_explain.specs.Heard.{IsHearing, TellsDatagram, arrived_with};
+ghost use Rattle.fax_explain.specs.Places.{found_at, sent_place};
 
 use crate::keeper::Place;
 use crate::listener::Listener;
@@ -84,8 +87,13 @@ impl CalledLeg {
         self.asked
     }
 
-    /// The octets of a datagram come from the called machine.
+    /// The octets of a datagram come from the called machine: what it brings is told.
     pub(crate) fn hear(&mut self, octets: &[u8], tale: &mut Tale) -> Result<(), NoMemory>
+        ensures told { OnOk result ((arrived : List DatagramValue) → IsHearing arrived self.old.theirs
+            → TellsDatagram arrived (datagram_of octets.now) self.old.theirs.lane tale.old tale.new) }
+        ensures hearing { OnOk result ((arrived : List DatagramValue) → IsHearing arrived self.old.theirs
+            → IsHearing (arrived_with arrived (datagram_of octets.now)) self.new.theirs) }
+        ensures lane { OnOk result ((arrived : List DatagramValue) → IsHearing arrived self.old.theirs → self.new.theirs.lane ≡ self.old.theirs.lane) }
         ensures call { self.new.call ≡ self.old.call }
         ensures before { self.new.before ≡ self.old.before }
     {
@@ -112,48 +120,70 @@ impl CalledLeg {
 
     /// The octets of a datagram come from the called machine while no call is on.
     pub(crate) fn hear_outside(&mut self, octets: &[u8], tale: &mut Tale) -> Result<(), NoMemory>
-        ensures { self.new ≡ record self.old { theirs = self.new.theirs } }
+        ensures told { OnOk result ((arrived : List DatagramValue) → IsHearing arrived self.old.theirs
+            → TellsDatagram arrived (datagram_of octets.now) self.old.theirs.lane tale.old tale.new) }
+        ensures hearing { OnOk result ((arrived : List DatagramValue) → IsHearing arrived self.old.theirs
+            → IsHearing (arrived_with arrived (datagram_of octets.now)) self.new.theirs) }
+        ensures lane { OnOk result ((arrived : List DatagramValue) → IsHearing arrived self.old.theirs → self.new.theirs.lane ≡ self.old.theirs.lane) }
+        ensures left { self.new ≡ record self.old { theirs = self.new.theirs } }
     {
         self.theirs.end_call();
         self.theirs.hear(octets, tale)
     }
 
-    /// What a tick gives on this leg. It answers the page that it sends, where the last of it is given.
-    pub(crate) fn give(
-        &mut self,
-        given: &Given,
-        tale: &mut Tale,
-    ) -> Result<Option<FoundPage>, NoMemory>
-        ensures { IfOk result (λ found. IfSome found (λ page. page.place ≡ sent_place self.old)) }
+    /// What a tick gives on this leg is told.
+    pub(crate) fn give(&mut self, given: &Given, tale: &mut Tale) -> Result<(), NoMemory>
+        ensures told { OnOk result ((arrived : List DatagramValue) → IsHearing arrived self.old.ours
+            → TellsGiven arrived given.now.called self.old.ours.lane tale.old tale.new) }
+        ensures hearing { OnOk result ((arrived : List DatagramValue) → IsHearing arrived self.old.ours
+            → IsHearing (arrived_behind arrived given.now.called) self.new.ours) }
+        ensures lane { OnOk result ((arrived : List DatagramValue) → IsHearing arrived self.old.ours → self.new.ours.lane ≡ self.old.ours.lane) }
+        ensures place { sent_place self.new ≡ sent_place self.old }
     {
         let Some(octets) = &given.called else {
-            return Ok(None);
+            return Ok(());
         };
-        self.ours.hear(octets.as_slice(), tale)?;
+        self.give_datagram(octets.as_slice(), tale)
+    }
+
+    /// A datagram is given: what it brings is told.
+    fn give_datagram(&mut self, octets: &[u8], tale: &mut Tale) -> Result<(), NoMemory>
+        ensures told { OnOk result ((arrived : List DatagramValue) → IsHearing arrived self.old.ours
+            → TellsDatagram arrived (datagram_of octets.now) self.old.ours.lane tale.old tale.new) }
+        ensures hearing { OnOk result ((arrived : List DatagramValue) → IsHearing arrived self.old.ours
+            → IsHearing (arrived_with arrived (datagram_of octets.now)) self.new.ours) }
+        ensures lane { OnOk result ((arrived : List DatagramValue) → IsHearing arrived self.old.ours → self.new.ours.lane ≡ self.old.ours.lane) }
+        ensures place { sent_place self.new ≡ sent_place self.old }
+    {
+        self.ours.hear(octets, tale)?;
         self.theirs.attend(!self.ours.rests());
-        match self.ours.frames().last().copied() {
-            Some(frame) => self.ask(Command::of(frame), tale)?,
+        match self.ours.last_frame() {
+            Some(frame) => self.ask(Command::of(frame), tale),
             None => {
                 self.had_dis = self.has_dis;
                 self.has_dis = false;
-            }
-        }
-        match self.ours.take_page() {
-            None => Ok(None),
-            Some(page) => {
-                let place = Place {
-                    side: Side::Called,
-                    call: self.call.unwrap_or(0),
-                    page: self.before.saturating_add(self.delivered).saturating_add(1),
-                };
-                Ok(Some(FoundPage { place, page }))
+                Ok(())
             }
         }
     }
 
+    /// The page that was sent, where the last of it was given and none took it.
+    pub(crate) fn take_page(&mut self) -> Option<FoundPage>
+        ensures { result ≡ found_at (sent_place self.old) self.old.ours.page }
+    {
+        let page = self.ours.take_page()?;
+        let place = Place {
+            side: Side::Called,
+            call: self.call.unwrap_or(0),
+            page: self.before.saturating_add(self.delivered).saturating_add(1),
+        };
+        Some(FoundPage { place, page })
+    }
+
     /// A command was given, where there is one. Where the same one has no answer, that is told, with what gave it again.
     fn ask(&mut self, command: Option<Command>, tale: &mut Tale) -> Result<(), NoMemory>
-        ensures { self.new ≡ record self.old { asked = self.new.asked } }
+        ensures told { OnOk result (GoesOnInLine tale.old tale.new) }
+        ensures left { self.new ≡ record self.old { asked = self.new.asked } }
     {
         if command.is_none() {
             return Ok(());

@@ -1,6 +1,10 @@
 //! What is heard on the calling leg.
-ghost use Rattle.std.specs.Prelude.{◌≡◌, IfOk, IfSome};
-ghost use Rattle.fax_explain.specs.Places.{IsConfirmedAt};
+ghost use Rattle.std.specs.Prelude.{◌≡◌, ◌++◌, List, IfOk, OnOk};
+ghost use Rattle.fax_udptl.specs.Datagrams.{DatagramValue, datagram_of};
+ghost use Rattle.fax_telling.specs.Tales.{last_with};
+ghost use Rattle.fax_explain.specs.Given.{GoesOnInLine, TellsTimed, arrived_behind, timer_lines};
+ghost use Rattle.fax_explain.specs.Heard.{IsHearing, TellsDatagram, arrived_with};
+ghost use Rattle.fax_explain.specs.Places.{confirmed_page, confirmed_text, next_number, page_of};
 
 use crate::keeper::Place;
 use crate::listener::Listener;
@@ -39,9 +43,14 @@ impl CallingLeg {
         }
     }
 
-    /// The octets of a datagram come from the caller.
+    /// The octets of a datagram come from the caller: what it brings is told.
     pub(crate) fn hear(&mut self, octets: &[u8], tale: &mut Tale) -> Result<(), NoMemory>
-        ensures { self.new.pages ≡ self.old.pages }
+        ensures told { OnOk result ((arrived : List DatagramValue) → IsHearing arrived self.old.theirs
+            → TellsDatagram arrived (datagram_of octets.now) self.old.theirs.lane tale.old tale.new) }
+        ensures hearing { OnOk result ((arrived : List DatagramValue) → IsHearing arrived self.old.theirs
+            → IsHearing (arrived_with arrived (datagram_of octets.now)) self.new.theirs) }
+        ensures lane { OnOk result ((arrived : List DatagramValue) → IsHearing arrived self.old.theirs → self.new.theirs.lane ≡ self.old.theirs.lane) }
+        ensures pages { self.new.pages ≡ self.old.pages }
     {
         self.theirs.hear(octets, tale)?;
         for frame in self.theirs.frames() {
@@ -54,39 +63,91 @@ impl CallingLeg {
 
     /// The octets of a datagram come from the caller while no call is on.
     pub(crate) fn hear_outside(&mut self, octets: &[u8], tale: &mut Tale) -> Result<(), NoMemory>
-        ensures { self.new ≡ record self.old { theirs = self.new.theirs } }
+        ensures told { OnOk result ((arrived : List DatagramValue) → IsHearing arrived self.old.theirs
+            → TellsDatagram arrived (datagram_of octets.now) self.old.theirs.lane tale.old tale.new) }
+        ensures hearing { OnOk result ((arrived : List DatagramValue) → IsHearing arrived self.old.theirs
+            → IsHearing (arrived_with arrived (datagram_of octets.now)) self.new.theirs) }
+        ensures lane { OnOk result ((arrived : List DatagramValue) → IsHearing arrived self.old.theirs → self.new.theirs.lane ≡ self.old.theirs.lane) }
+        ensures left { self.new ≡ record self.old { theirs = self.new.theirs } }
     {
         self.theirs.end_call();
         self.theirs.hear(octets, tale)
     }
 
-    /// What a tick gives on this leg. It answers the page that it confirms.
+    /// What a tick gives on this leg is told, behind the timer by which the call is given up, where it is. It answers the page
+    /// that it confirms.
     pub(crate) fn give(
         &mut self,
         given: &Given,
         tale: &mut Tale,
     ) -> Result<Option<FoundPage>, NoMemory>
-        ensures { IfOk result (λ found. IfSome found (λ page. IsConfirmedAt given.now.kept self.old page.place)) }
+        ensures told { OnOk result ((arrived : List DatagramValue) → IsHearing arrived self.old.ours
+            → TellsTimed arrived given.now.calling given.now.gave_up self.old.ours.lane tale.old tale.new) }
+        ensures hearing { OnOk result ((arrived : List DatagramValue) → IsHearing arrived self.old.ours
+            → IsHearing (arrived_behind arrived given.now.calling) self.new.ours) }
+        ensures lane { OnOk result ((arrived : List DatagramValue) → IsHearing arrived self.old.ours → self.new.ours.lane ≡ self.old.ours.lane) }
+        ensures found { IfOk result (λ found. found ≡ confirmed_page given.now.calling given.now.kept self.old) }
     {
         let Some(octets) = &given.calling else {
             return Ok(None);
         };
-        if given.gave_up.is_some() {
-            tale.tell(Lane::Inside, self.exchange.why_given_up())?;
+        self.tell_timer(given.gave_up, tale)?;
+        self.give_datagram(octets.as_slice(), given.kept, tale)?;
+        Ok(self.confirm(given.kept))
+    }
+
+    /// The timer is told by which a call is given up, where one is.
+    fn tell_timer(&self, gave_up: Option<u32>, tale: &mut Tale) -> Result<(), NoMemory>
+        ensures { OnOk result (tale.new ≡ tale.old ++ timer_lines gave_up self.now.exchange) }
+    {
+        match gave_up {
+            Some(_) => tale.tell(Lane::Inside, self.exchange.why_given_up()),
+            None => Ok(()),
         }
-        self.ours.hear(octets.as_slice(), tale)?;
-        let frame = self.ours.frames().last().copied();
+    }
+
+    /// A datagram is given, which confirms this page, where it confirms one: what it brings is told.
+    fn give_datagram(
+        &mut self,
+        octets: &[u8],
+        kept: Option<Kept>,
+        tale: &mut Tale,
+    ) -> Result<(), NoMemory>
+        ensures told { OnOk result ((arrived : List DatagramValue) → IsHearing arrived self.old.ours
+            → TellsDatagram arrived (datagram_of octets.now) self.old.ours.lane tale.old tale.new) }
+        ensures hearing { OnOk result ((arrived : List DatagramValue) → IsHearing arrived self.old.ours
+            → IsHearing (arrived_with arrived (datagram_of octets.now)) self.new.ours) }
+        ensures lane { OnOk result ((arrived : List DatagramValue) → IsHearing arrived self.old.ours → self.new.ours.lane ≡ self.old.ours.lane) }
+        ensures pages { self.new.pages ≡ self.old.pages }
+        ensures page { self.new.theirs.page ≡ self.old.theirs.page }
+    {
+        self.ours.hear(octets, tale)?;
+        let frame = self.ours.last_frame();
         self.theirs.attend(frame.is_none());
         match frame {
-            Some(Frame::Dis(_)) => self.identify(tale)?,
-            Some(Frame::Mcf) => return self.confirm(given.kept, tale),
-            _ => {}
+            Some(frame) => self.go_on(frame, kept, tale),
+            None => Ok(()),
         }
-        Ok(None)
+    }
+
+    /// A frame was given, which confirms this page, where it confirms one: its line goes on.
+    fn go_on(&mut self, frame: Frame, kept: Option<Kept>, tale: &mut Tale) -> Result<(), NoMemory>
+        ensures told { OnOk result (GoesOnInLine tale.old tale.new) }
+        ensures left { self.new ≡ record self.old { exchange = self.new.exchange } }
+    {
+        match (frame, kept) {
+            (Frame::Dis(_), _) => self.identify(tale),
+            (Frame::Mcf, Some(kept)) => self.tell_confirmed(kept, tale),
+            (Frame::Mcf, None) => tale.add(" again, to a command that came again"),
+            _ => Ok(()),
+        }
     }
 
     /// Our DIS was given. Where it was given before, the timer that gave it again is told.
-    fn identify(&mut self, tale: &mut Tale) -> Result<(), NoMemory> {
+    fn identify(&mut self, tale: &mut Tale) -> Result<(), NoMemory>
+        ensures told { OnOk result (GoesOnInLine tale.old tale.new) }
+        ensures left { self.new ≡ record self.old { exchange = self.new.exchange } }
+    {
         match self.exchange {
             Exchange::Before => {}
             Exchange::Awaited => tale.add(", again: T4, no DCS in 3 s")?,
@@ -96,31 +157,29 @@ impl CallingLeg {
         Ok(())
     }
 
-    /// MCF was given, with the page that it confirms, or again.
-    fn confirm(
-        &mut self,
-        kept: Option<Kept>,
-        tale: &mut Tale,
-    ) -> Result<Option<FoundPage>, NoMemory>
-        ensures { IfOk result (λ found. IfSome found (λ page. IsConfirmedAt kept self.old page.place)) }
+    /// The page that MCF confirms is told behind it.
+    fn tell_confirmed(&self, kept: Kept, tale: &mut Tale) -> Result<(), NoMemory>
+        ensures { OnOk result (tale.new ≡ last_with (confirmed_text kept (next_number self.now.pages)) tale.old) }
     {
-        let Some(kept) = kept else {
-            tale.add(" again, to a command that came again")?;
-            return Ok(None);
-        };
+        let format = words_of_format(self.alloc, kept.format)?;
+        let (page, call, rows) = (self.pages.saturating_add(1), kept.call, kept.rows);
+        let words = format!(in self.alloc; " page {page} of call {call}: {format}, rows: {rows}")?;
+        tale.add(words.as_str())
+    }
+
+    /// A page is confirmed, where one is: it is counted, and handed out as it was read.
+    fn confirm(&mut self, kept: Option<Kept>) -> Option<FoundPage>
+        ensures found { result ≡ page_of kept self.old }
+        ensures ours { self.new.ours ≡ self.old.ours }
+    {
+        let call = kept?.call;
         self.pages = self.pages.saturating_add(1);
+        let page = self.theirs.take_page()?;
         let place = Place {
             side: Side::Calling,
-            call: kept.call,
+            call,
             page: self.pages,
         };
-        let format = words_of_format(self.alloc, kept.format)?;
-        let (page, call, rows) = (place.page, place.call, kept.rows);
-        let words = format!(in self.alloc; " page {page} of call {call}: {format}, rows: {rows}")?;
-        tale.add(words.as_str())?;
-        match self.theirs.take_page() {
-            Some(page) => Ok(Some(FoundPage { place, page })),
-            None => Ok(None),
-        }
+        Some(FoundPage { place, page })
     }
 }

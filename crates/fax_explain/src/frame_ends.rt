@@ -1,6 +1,7 @@
 //! The ends of frames in a packet.
 ghost use Rattle.std.specs.Prelude.{◌≡◌, ◌-◌, count_by};
-ghost use Rattle.fax_explain.specs.FrameEnds.{ends_in, ends_rightly, ends_wrongly, is_frame};
+ghost use Rattle.fax_ifp.specs.Shown.{piece_of, pieces_shown};
+ghost use Rattle.fax_explain.specs.FrameEnds.{ends_in, ends_rightly, ends_wrongly, frames_in, is_frame};
 
 use fax_ifp::{Field, Head, Ifp, Piece};
 
@@ -40,7 +41,7 @@ impl FrameEnds {
 
     /// How many of those that end rightly are none of these pieces: something is missing in them.
     pub(crate) fn lacking(self, pieces: &[Piece<'_>]) -> usize
-        ensures { result ≡ self.good - count_by is_frame pieces.now }
+        ensures { result ≡ self.good - frames_in (pieces_shown pieces.now) }
     {
         let whole = pieces.iter().filter(|piece| is_frame(piece)).count();
         self.good.saturating_sub(whole)
@@ -49,7 +50,7 @@ impl FrameEnds {
 
 /// Whether a piece is a whole frame.
 fn is_frame(piece: &Piece<'_>) -> bool
-    ensures { result ≡ is_frame piece.now }
+    ensures { result ≡ is_frame (piece_of piece.now) }
 {
     matches!(piece, Piece::Frame(_))
 }

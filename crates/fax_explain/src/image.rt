@@ -73,7 +73,8 @@ impl Image {
 
     /// The datagrams of these numbers are missing in it.
     pub(crate) fn miss(&mut self, numbers: &str) -> Result<(), NoMemory>
-        ensures { OnOk result (string_bytes self.new.missing ≡ string_bytes self.old.missing ++ 32 ∷ numbers.now) }
+        ensures missing { OnOk result (string_bytes self.new.missing ≡ string_bytes self.old.missing ++ 32 ∷ numbers.now) }
+        ensures left { self.new ≡ record self.old { missing = self.new.missing } }
     {
         self.missing.push_str(" ")?;
         self.missing.push_str(numbers)?;

@@ -174,8 +174,8 @@ impl Stage {
         ensures goes_on { OnOk result (GoesOn scene.old.tale scene.new.tale) }
     {
         let mut behind = Tale::new(self.alloc);
-        let found = self.called.give(given, &mut behind)?;
-        keep_found(&mut scene.pages, found)?;
+        self.called.give(given, &mut behind)?;
+        keep_found(&mut scene.pages, self.called.take_page())?;
         scene.tale.append(behind)
     }
 
