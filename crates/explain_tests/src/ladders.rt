@@ -385,7 +385,7 @@ const AT_ONCE: &[Step] = &[
 const AT_ONCE_LADDER: &[&str] = &[
     "3080      caller --> gateway             DCS 1728, standard, MH, V.27ter 2400, 20 ms a row, passed over while the gateway sends",
     "3080      caller --> gateway             a signal begins, V.27ter 2400",
-    "3080      caller --> gateway             a signal of 300 octets, passed over: no DCS is before it",
+    "3080      caller --> gateway             a signal of 300 octets, passed over: no DCS is before it, or FTT answered it",
     "3120      caller <-- gateway             DIS as before, again: T4, no DCS in 3 s",
     "3120      caller --> gateway             DCS 1728, standard, MH, V.27ter 2400, 20 ms a row",
     "3120      caller --> gateway             training check begins, V.27ter 2400",

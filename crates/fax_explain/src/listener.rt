@@ -541,7 +541,7 @@ impl Listener {
         let octets = self.image.octets();
         match self.due {
             Due::Nothing => Ok(format!(in self.alloc;
-                "a signal of {octets} octets, passed over: no DCS is before it"
+                "a signal of {octets} octets, passed over: no DCS is before it, or FTT answered it"
             )?),
             Due::Check(dcs) => self.end_check(whole, dcs),
             Due::Page(_) => {
