@@ -190,7 +190,7 @@ rung-given : (setup : Setup) (now : ℕ) (leg : Option CallingLeg) → (rung_onc
 rung-given setup now None = refl
 rung-given setup now (Some l) = refl
 
-called_with-given : (setup : Setup) (now : ℕ) (came : List Came) (leg : Option CallingLeg) → given_on (called_with setup now came leg) ≡ given_on leg
+pub called_with-given : (setup : Setup) (now : ℕ) (came : List Came) (leg : Option CallingLeg) → given_on (called_with setup now came leg) ≡ given_on leg
 called_with-given setup now [] leg = refl
 called_with-given setup now (c ∷ came) leg =
     let l : CallingLeg = rung_once setup now (called_with setup now came leg) in
@@ -200,7 +200,7 @@ datagrams_of-given : (setup : Setup) (o : Option Waiting) (given : List (List �
 datagrams_of-given setup None given = refl
 datagrams_of-given setup (Some w) given = refl
 
-datagrams_of-ticked : (setup : Setup) (leg : Option CallingLeg) (now : ℕ) → datagrams_of setup (given_on (ticked_on leg now)) ≡ handed (told_calling setup leg now) ++ datagrams_of setup (given_on leg)
+pub datagrams_of-ticked : (setup : Setup) (leg : Option CallingLeg) (now : ℕ) → datagrams_of setup (given_on (ticked_on leg now)) ≡ handed (told_calling setup leg now) ++ datagrams_of setup (given_on leg)
 datagrams_of-ticked setup None now = refl
 datagrams_of-ticked setup (Some l) now = datagrams_of-given setup (answers l now).given l.given
 

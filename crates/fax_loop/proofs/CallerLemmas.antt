@@ -41,7 +41,7 @@ calling_with-job writes now [] l = refl
 calling_with-job writes now (octets ∷ came) l =
     hears-job (is_over (core_of writes (calling_with writes now came l)).state) (calling_with writes now came l) now (datagram_of octets) ∙ calling_with-job writes now came l
 
-calling_with-given : (writes : Writing) (now : ℕ) (came : List (List ℕ)) (l : CalledLeg) → (calling_with writes now came l).given ≡ l.given
+pub calling_with-given : (writes : Writing) (now : ℕ) (came : List (List ℕ)) (l : CalledLeg) → (calling_with writes now came l).given ≡ l.given
 calling_with-given writes now [] l = refl
 calling_with-given writes now (octets ∷ came) l =
     hears-given (is_over (core_of writes (calling_with writes now came l)).state) (calling_with writes now came l) now (datagram_of octets) ∙ calling_with-given writes now came l
@@ -96,7 +96,7 @@ caller_turns setup writes l now job a b c old new packet datagram same ticks giv
     }
 
 -- what was sent in a turn, in front of what was before
-datagrams_of-given : (setup : Setup) (o : Option Packet) (given : List (List ℕ)) → datagrams_of setup (packets_given o given) ≡ handed (told_by setup given o) ++ datagrams_of setup given
+pub datagrams_of-given : (setup : Setup) (o : Option Packet) (given : List (List ℕ)) → datagrams_of setup (packets_given o given) ≡ handed (told_by setup given o) ++ datagrams_of setup given
 datagrams_of-given setup None given = refl
 datagrams_of-given setup (Some packet) given = refl
 

@@ -9,6 +9,7 @@ pub mod Delivers
 pub mod ExchangeLemmas
 pub mod Faithfully
 pub mod FramesTold
+pub mod GoingOn
 pub mod LegsHear
 pub mod LegsTick
 pub mod Linked

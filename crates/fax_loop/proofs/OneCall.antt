@@ -213,7 +213,7 @@ tick_given setup writes earlier at given t open_so =
     ∙ ap (λ (xs : List (List ℕ)). handed given.on_called ++ datagrams_of setup xs) same
 
 -- ---- A TURN, as its log tells
-abbrev IsQuiet : Entry → Type 0
+abbrev pub IsQuiet : Entry → Type 0
 IsQuiet (Accepts (Ring at number)) = ⊥
 IsQuiet (Accepts (FromCalling octets at decided read)) = Unit {0}
 IsQuiet (Accepts (FromCalled octets at decided)) = Unit {0}
@@ -225,11 +225,11 @@ IsQuiet (ReceivesNothing at) = Unit {0}
 IsQuiet (FailsToReceive at) = Unit {0}
 IsQuiet (Sends at octets fails) = ⊥
 
-abbrev AreQuiet : List Entry → Type 0
+abbrev pub AreQuiet : List Entry → Type 0
 AreQuiet [] = Unit {0}
 AreQuiet (entry ∷ log) = IsQuiet entry × AreQuiet log
 
-quiet_both : (log more : List Entry) → AreQuiet log → AreQuiet more → AreQuiet (log ++ more)
+pub quiet_both : (log more : List Entry) → AreQuiet log → AreQuiet more → AreQuiet (log ++ more)
 quiet_both [] more a b = b
 quiet_both (entry ∷ log) more a b = (a.0, quiet_both log more a.1 b)
 
@@ -253,7 +253,7 @@ brings_quiet : (at : Side) (entry : Entry) → BringsNone at entry → IsQuiet e
 brings_quiet at entry (inl e) = subst IsQuiet (sym e) tt
 brings_quiet at entry (inr e) = subst IsQuiet (sym e) tt
 
-receives_quiet : (at : Side) (now : ℕ) (log : List Entry) → AreReceives at now log → AreQuiet log
+pub receives_quiet : (at : Side) (now : ℕ) (log : List Entry) → AreReceives at now log → AreQuiet log
 receives_quiet at now log (inl a) = all_quiet at now log (recursion_from_All (Comes at now) log a.0)
 receives_quiet at now log (inr r) = subst AreQuiet (sym r.2) (brings_quiet at r.1 r.5, all_quiet at now r.0 (recursion_from_All (Comes at now) r.0 r.3))
 
@@ -270,7 +270,7 @@ quiet_events (ReceivesNothing at ∷ log) q = quiet_events log q.1
 quiet_events (FailsToReceive at ∷ log) q = quiet_events log q.1
 quiet_events (Sends at octets fails ∷ log) q = absurd q.0
 
-quiet_sent : (log : List Entry) → AreQuiet log → sent log ≡ []
+pub quiet_sent : (log : List Entry) → AreQuiet log → sent log ≡ []
 quiet_sent [] q = refl
 quiet_sent (Accepts (Ring at number) ∷ log) q = absurd q.0
 quiet_sent (Accepts (FromCalling octets at decided read) ∷ log) q = quiet_sent log q.1
@@ -288,11 +288,11 @@ record TickTells (setup : Setup) (writes : Writing) (log : List Entry) (trace : 
   hands : (earlier : List Handed) → handed_called earlier ≡ datagrams_of setup (given_by (sides setup writes trace).leg)
       → handed_called (sent log ++ earlier) ≡ datagrams_of setup (given_by (sides setup writes (events log ++ trace)).leg)
 
-sent_called : (o : Option (List ℕ)) (log : List Entry) (earlier : List Handed) → IsSent side.Called o log → handed_called (sent log ++ earlier) ≡ handed o ++ handed_called earlier
+pub sent_called : (o : Option (List ℕ)) (log : List Entry) (earlier : List Handed) → IsSent side.Called o log → handed_called (sent log ++ earlier) ≡ handed o ++ handed_called earlier
 sent_called None log earlier e = subst (λ (l : List Entry). handed_called (sent l ++ earlier) ≡ handed_called earlier) (sym e) refl
 sent_called (Some octets) log earlier e = subst (λ (l : List Entry). handed_called (sent l ++ earlier) ≡ octets ∷ handed_called earlier) (sym e.1) refl
 
-sent_calling : (o : Option (List ℕ)) (log : List Entry) (earlier : List Handed) → IsSent side.Calling o log → handed_called (sent log ++ earlier) ≡ handed_called earlier
+pub sent_calling : (o : Option (List ℕ)) (log : List Entry) (earlier : List Handed) → IsSent side.Calling o log → handed_called (sent log ++ earlier) ≡ handed_called earlier
 sent_calling None log earlier e = subst (λ (l : List Entry). handed_called (sent l ++ earlier) ≡ handed_called earlier) (sym e) refl
 sent_calling (Some octets) log earlier e = subst (λ (l : List Entry). handed_called (sent l ++ earlier) ≡ handed_called earlier) (sym e.1) refl
 

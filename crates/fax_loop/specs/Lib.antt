@@ -2,6 +2,7 @@ pub mod Answers
 pub mod Ends
 pub mod Exchanges
 pub mod Faithful
+pub mod GoesOn
 pub mod Kept
 pub mod Links
 pub mod Machines

@@ -1,8 +1,9 @@
 //! Laws of an exchange: functions that do nothing, each of whose contracts is a theorem.
 ghost use Rattle.fax_loop.specs.Faithful.{ConfirmsIfDelivered, ConfirmsThePage};
+ghost use Rattle.fax_loop.specs.GoesOn.{LinksArePlayed, LinksBegin, LinksGoOn};
 ghost use Rattle.fax_loop.specs.Links.{ConfirmsThePageOver};
 
-use fax_gateway::laws::{jobs_are_of_their_calls, jobs_have_states};
+use fax_gateway::laws::{jobs_are_of_their_calls, jobs_have_states, traces_go_on};
 
 /// In rounds over honest links, which lose, repeat, delay and reorder at will, each page that the machine that is called confirms
 /// is the page that the machine that calls was given.
@@ -28,4 +29,16 @@ pub fn confirms_the_page_over_links()
 {
     jobs_are_of_their_calls();
     jobs_have_states();
+}
+
+/// There are such exchanges, over lines that are linked both ways: they begin with no round; behind any rounds there is a further one,
+/// whichever comes of what was handed over, in any order, once, several times or not at all (of images that come it has to be known
+/// what they mean or how they fail); and there are some that are played to their end. So what is told of lines that are linked
+/// speaks of something.
+pub fn links_go_on()
+    ensures begin { LinksBegin }
+    ensures go_on { LinksGoOn }
+    ensures played { LinksArePlayed }
+{
+    traces_go_on();
 }
