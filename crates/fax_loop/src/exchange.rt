@@ -20,6 +20,7 @@ use crate::laws::confirms_the_page_over_links;
 use crate::loop_error::LoopError;
 use crate::socket::socket_pair;
 use crate::udp_wire::UdpWire;
+use fax_bits::NoMemory;
 use fax_gateway::{Driver, Gateway, Settings, Wire};
 use fax_jobs::{Job, Report};
 use fax_pagestore::{PackedRows, Page};
@@ -41,14 +42,14 @@ pub(crate) const MOST_OCTETS: usize = 1024;
 
 /// How a call ended: what the gateway reported, where it did, and the pages that the called machine confirmed.
 #[derive(Drop)]
-pub(crate) struct Ended {
+pub struct Ended {
     pub report: Option<Report>,
     pub confirmed: Vec<Page<PackedRows>>,
 }
 
 /// What an exchange goes over: the end of the machine that calls, the gateway's wire, and the end of the machine that is called.
 #[derive(Drop)]
-pub(crate) struct Lines<E: End + Drop, W: Wire + Drop> {
+pub struct Lines<E: End + Drop, W: Wire + Drop> {
     pub caller: E,
     pub wire: W,
     pub answerer: E,
@@ -91,13 +92,14 @@ fn open_lines<R: Net>(net: &R) -> io::Result<Lines<UdpEnd, UdpWire>> {
 
 /// Sends a page from machine to machine over these lines, in rounds, until the gateway reports the job. All three have these
 /// settings. Where the lines carry what was handed to them, lost, repeated, late and out of order at will, each page that the called
-/// machine confirmed is the page that was handed in, and where the job is reported as delivered, there is one at least.
-pub(crate) fn exchange<E: End + Drop, W: Wire + Drop>(
+/// machine confirmed is the page that was handed in, and where the job is reported as delivered, there is one at least. An `Err`: memory
+/// was wanted.
+pub fn exchange<E: End + Drop, W: Wire + Drop>(
     alloc: Global,
     lines: &mut Lines<E, W>,
     page: Page<PackedRows>,
     settings: Settings,
-) -> Result<Ended, LoopError>
+) -> Result<Ended, NoMemory>
     requires { AreAllowed settings }
     ensures played { IfOk result (λ ended. IsExchange settings (job_of 0 page)
         (record { caller = E.told lines.old.caller; wire = W.known lines.old.wire; answerer = E.told lines.old.answerer })
@@ -112,7 +114,7 @@ pub(crate) fn exchange<E: End + Drop, W: Wire + Drop>(
     // what it ensures of the page's rows makes this a page
     let _ = page.rows();
     let Ok(job) = Job::of_page(alloc, 0, page) else {
-        return Err(LoopError::NoMemory);
+        return Err(NoMemory);
     };
     let parties = Parties::new(alloc, &job, settings)?;
     let ended = parties.run(lines, &job)?;
@@ -120,18 +122,21 @@ pub(crate) fn exchange<E: End + Drop, W: Wire + Drop>(
 }
 
 /// A gateway with these settings that was rung at moment 0.
-fn rung_gateway(alloc: Global, settings: Settings) -> Result<Gateway<PackedRows>, LoopError>
+fn rung_gateway(alloc: Global, settings: Settings) -> Result<Gateway<PackedRows>, NoMemory>
     requires { AreAllowed settings }
     ensures { IfOk result (λ gateway. (setup : Setup) (writes : Writing) → AreSet setup settings → IsReachedBy setup writes (Ring 0 0 ∷ []) gateway) }
 {
     let mut gateway = Gateway::with_settings(alloc, settings)?;
-    gateway.ring(0)?;
+    // a new gateway is neither busy nor short of numbers
+    let Ok(_) = gateway.ring(0) else {
+        return Err(NoMemory);
+    };
     Ok(gateway)
 }
 
 impl Parties {
     /// The machines and the gateway, which was rung at moment 0.
-    fn new(alloc: Global, job: &Job<PackedRows>, settings: Settings) -> Result<Self, LoopError>
+    fn new(alloc: Global, job: &Job<PackedRows>, settings: Settings) -> Result<Self, NoMemory>
         requires { AreAllowed settings }
         ensures job { IfOk result (λ parties. IsJobOfCall parties.caller.caller.procedure job.now) }
         ensures begun { IfOk result (λ parties. (setup : Setup) (writes : Writing) (lines : LinesShown) → AreSet setup settings
@@ -154,7 +159,7 @@ impl Parties {
         mut self,
         lines: &mut Lines<E, W>,
         job: &Job<PackedRows>,
-    ) -> Result<Ended, LoopError>
+    ) -> Result<Ended, NoMemory>
         requires { IsJobOfCall self.caller.caller.procedure job.now }
         ensures { IfOk result (λ ended. (setup : Setup) (writes : Writing) (before : LinesShown) → IsWriting writes
             → HasPlayed setup writes job.now [] before (record { caller = E.told lines.old.caller; wire = W.known lines.old.wire; answerer = E.told lines.old.answerer }) self
@@ -170,7 +175,7 @@ impl Parties {
         &mut self,
         lines: &mut Lines<E, W>,
         job: &Job<PackedRows>,
-    ) -> Result<(), LoopError>
+    ) -> Result<(), NoMemory>
         requires { IsJobOfCall self.old.caller.caller.procedure job.now }
         ensures { OnOk result ((setup : Setup) (writes : Writing) (before : LinesShown) → IsWriting writes
             → HasPlayed setup writes job.now [] before (record { caller = E.told lines.old.caller; wire = W.known lines.old.wire; answerer = E.told lines.old.answerer }) self.old
@@ -196,7 +201,7 @@ impl Parties {
         lines: &mut Lines<E, W>,
         job: &Job<PackedRows>,
         now: u64,
-    ) -> Result<bool, LoopError>
+    ) -> Result<bool, NoMemory>
         requires { IsJobOfCall self.old.caller.caller.procedure job.now }
         ensures job { OnOk result (IsJobOfCall self.new.caller.caller.procedure job.now) }
         ensures played { IfOk result (λ goes_on. (setup : Setup) (writes : Writing) (rounds : List Round) (before : LinesShown) → IsWriting writes → now ≡ moment_behind rounds

@@ -7,7 +7,7 @@ mod answering_machine;
 mod calling_machine;
 mod end;
 mod ending;
-mod exchange;
+pub mod exchange;
 pub mod laws;
 mod link;
 mod loop_error;
@@ -15,6 +15,7 @@ mod run;
 mod socket;
 mod udp_wire;
 
+pub use end::End;
 pub use ending::Ending;
 pub use run::{play_loop, run_loop};
 pub use udp_wire::UdpWire;

@@ -1,6 +1,5 @@
 //! Why a call is not played to its end.
 use fax_bits::NoMemory;
-use fax_gateway::RingFault;
 use std::io;
 
 /// Why a call is not played to its end.
@@ -18,18 +17,6 @@ impl From<NoMemory> for LoopError {
     ghost from_gives = { λ _ e. e ≡ loop_errors.NoMemory };
 
     fn from(_: NoMemory) -> Self {
-        LoopError::NoMemory
-    }
-}
-
-/// A new gateway is neither busy nor short of numbers.
-impl From<RingFault> for LoopError {
-    ghost use Rattle.std.specs.Prelude.{◌≡◌};
-    ghost use Rattle.fax_loop.specs.declared.loop_error.LoopError.TheVariants as loop_errors;
-
-    ghost from_gives = { λ _ e. e ≡ loop_errors.NoMemory };
-
-    fn from(_: RingFault) -> Self {
         LoopError::NoMemory
     }
 }

@@ -5,5 +5,5 @@ use Rattle.fax_loop.proofs.exchange.rung_gateway.Goals as goal
 
 pub returns : goal.returns
 returns c = λ setup writes set.
-    let r = c.in_ok-ring.ensures.rung setup writes [] (c.in_ok-gateway.ensures.reached setup writes set) in
+    let r = c.in-Ok.ensures.rung setup writes [] (c.in_ok-gateway.ensures.reached setup writes set) in
     subst (λ (n : ℕ). IsReachedBy setup writes (Ring 0 n ∷ []) c.ring.new.self) r.is_trace.0.0 r
