@@ -103,7 +103,7 @@ fn push_line(lines: &mut Vec<u8>, margin: &str, times: u8, end: &str) -> Result<
 }
 
 /// The lines of twice so many rows of 1,728 elements, of strokes as text has them.
-fn lines_of_text(alloc: Global, twice: u32) -> Result<Vec<u8>, AllocError> {
+pub(crate) fn lines_of_text(alloc: Global, twice: u32) -> Result<Vec<u8>, AllocError> {
     let mut lines = Vec::new(alloc);
     for _ in 0..twice {
         push_line(&mut lines, "128", 15, " 8 92\n")?;
@@ -113,7 +113,7 @@ fn lines_of_text(alloc: Global, twice: u32) -> Result<Vec<u8>, AllocError> {
 }
 
 /// The exit status and the hex text of the page that these lines tell, in one-dimensional lines.
-fn page_of(alloc: Global, lines: &[u8]) -> (u8, Vec<u8>) {
+pub(crate) fn page_of(alloc: Global, lines: &[u8]) -> (u8, Vec<u8>) {
     let options = PageOptions {
         format: Format {
             width: Width::W1728,
@@ -157,7 +157,7 @@ fn loopback_socket<R: Net>(net: &R) -> io::Result<UdpSocket> {
 }
 
 /// Two such sockets, each of which is the other's only peer.
-fn socket_pair<R: Net>(net: &R) -> io::Result<(UdpSocket, UdpSocket)> {
+pub(crate) fn socket_pair<R: Net>(net: &R) -> io::Result<(UdpSocket, UdpSocket)> {
     let here = loopback_socket(net)?;
     let there = loopback_socket(net)?;
     here.connect(there.local_addr()?)?;

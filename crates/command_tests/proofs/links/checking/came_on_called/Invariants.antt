@@ -1,0 +1,8 @@
+use Rattle.std.proofs.Common.{[], ◌∷◌, take}
+use Rattle.std.specs.Prelude.{All, Contains}
+use Rattle.fax_loop.specs.Links.{came_called}
+use Rattle.command_tests.proofs.links.checking.came_on_called.Given as goal
+
+-- each so far brought none, or one of these
+abbrev pub invariant-loop-receipt : goal.invariant-loop-receipt
+invariant-loop-receipt l = All (λ r. All (Contains l.sent) (came_called (r ∷ []))) (take l.receipt-index l.receipts)
