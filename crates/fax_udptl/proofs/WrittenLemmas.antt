@@ -156,6 +156,19 @@ pub datagram_room : (number : ℕ) (primary : List ℕ) (ps : List (List ℕ)) (
     → length (written_datagram (record { number = number; primary = primary; secondaries = ps })) ≤ room → 4 + length (written_packet primary) + packets_size ps ≤ room
 datagram_room number primary ps room few fits = omega (arith, datagram_size_is number primary ps few)
 
+two_at_most : (n : ℕ) (b : Bool) → length (if b then n ∷ [] else (128 + n / 256) ∷ n % 256 ∷ []) ≤ 2
+two_at_most n true = omega arith
+two_at_most n false = omega arith
+
+length_within : (n : ℕ) → length (written_length n) ≤ 2
+unfolding written_length
+length_within n = two_at_most n (nat_lt n 128)
+
+pub datagram_size_within : (number : ℕ) (primary : List ℕ) (ps : List (List ℕ)) → length ps < 128
+    → length (written_datagram (record { number = number; primary = primary; secondaries = ps })) ≤ 6 + length primary + packets_size ps
+datagram_size_within number primary ps few =
+    omega (arith, datagram_size_is number primary ps few, packet_size_is primary, length_within (length primary))
+
 pub no_octets : (octets : List ℕ) → length octets ≡ 0 → octets ≡ []
 no_octets [] h = refl
 no_octets (o ∷ octets) h = cc

@@ -69,6 +69,9 @@ impl Sender {
         ensures sent { (redundancy : ℕ) (given : List (List ℕ)) → HasSent redundancy given self.old → HasSent redundancy given self.new }
         ensures err { OnErr result (self.new ≡ self.old) }
     {
+        if octets < self.spare {
+            return Ok(());
+        }
         // a length has two octets at most
         let size = FRAME_SIZE + 2 + octets + packets_size(&self.last);
         self.datagram.reserve_exact(size)?;
@@ -89,18 +92,34 @@ impl Sender {
         ensures err { OnErr result (self.new ≡ self.old) }
         ensures memory { OnErr result (self.old.spare ≤ length packet.now) }
     {
-        self.datagram
-            .reserve_exact(datagram_size(packet, &self.last))?;
-        self.copy.reserve_exact(packet.len())?;
+        let _few = self.last.len();
+        if self.spare <= packet.len() {
+            self.datagram
+                .reserve_exact(datagram_size(packet, &self.last))?;
+            self.copy.reserve_exact(packet.len())?;
+        }
         let mut datagram = mem::replace(&mut self.datagram, Vec::new(self.alloc));
         put_datagram(&mut datagram, self.count, packet, &self.last);
         let mut copy = mem::replace(&mut self.copy, Vec::new(self.alloc));
         put(&mut copy, packet);
         self.spare = 0;
-        self.last.push_front(Octets::from_vec(copy));
+        let oldest = self.last.push_front(Octets::from_vec(copy));
+        self.copy = room_of(self.alloc, oldest);
         self.count = self.count.wrapping_add(1);
         Ok(Octets::from_vec(datagram))
     }
+}
+
+/// A list without octets, in the memory of a packet that is not kept any more, where there is one. It takes none.
+fn room_of(alloc: Global, packet: Option<Octets>) -> Vec<u8>
+    ensures { vec_len result ≡ 0 }
+{
+    let mut room = match packet {
+        None => Vec::new(alloc),
+        Some(octets) => octets.into_vec(),
+    };
+    room.clear();
+    room
 }
 
 /// How many octets the datagram of a packet has.
@@ -166,7 +185,7 @@ fn put_datagram(octets: &mut Vec<u8>, number: u16, packet: &[u8], last: &HeapCir
     put(octets, &number.to_be_bytes());
     put_packet(octets, packet);
     // no error correction
-    put(octets, &[0]);
+    octets.push_reserved(0);
     put_length(octets, count);
     put_packets(octets, last);
 }
@@ -204,7 +223,7 @@ fn put_length(octets: &mut Vec<u8>, count: usize)
     ensures capacity { vec_capacity octets.old ≤ vec_capacity octets.new }
 {
     if count < 128 {
-        put(octets, &[count as u8]);
+        octets.push_reserved(count as u8);
     } else {
         put(octets, &(0x8000 + count as u16).to_be_bytes());
     }
