@@ -264,6 +264,30 @@ pub(crate) fn read_row(
     }
 }
 
+/// Reads the one-dimensional line behind n rows into the builder, in place of what is there, passes the separator behind
+/// the line, and answers its tag.
+#[inline]
+pub(crate) fn read_row_alone(
+    line: &mut RowBuilder,
+    reader: &mut BitReader,
+    width: Width,
+    coding: Coding,
+    n: u32,
+) -> Result<bool, PageFault>
+    ensures ok { IfOk result (λ next. (text separator : List Bool) × SpellsRow (elements_of width) true None text line.new × IsSeparator coding next separator
+        × Passes reader.old reader.new (text ++ separator)) }
+    ensures fault { IfErr result (λ fault. (rows : List Elements) → length rows ≡ n → WantsLine rows 0 reader.old.left → Stops coding (elements_of width) rows 0 true reader.old.left fault) }
+{
+    line.clear();
+    if read_line_1d_into(line, reader, width).is_err() {
+        return Err(PageFault::BadLine(n));
+    }
+    match pass_separator(reader, coding)? {
+        Ahead::Separator(next) => Ok(next),
+        Ahead::Line => Err(PageFault::BadLine(n)),
+    }
+}
+
 /// Reads the lines of a page behind its first EOL and the tag of that, and passes the return to control.
 fn read_rows<S: RowStore>(
     alloc: Global,

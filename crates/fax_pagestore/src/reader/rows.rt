@@ -2,17 +2,17 @@
 ghost use Rattle.std.specs.Prelude.{ℕ, Bool, List, ◌≡◌, ◌<◌, ◌≤◌, ◌*◌, ◌++◌, Some, None, All, drop, length, IfOk, OnOk, OnErr, IfSome, IsSome, IsNone, Ok, Err, false};
 ghost use Rattle.fax_bits.specs.Bits.{bits_of};
 ghost use Rattle.fax_bits.specs.Reading.{Passes};
-ghost use Rattle.fax_runcodes.specs.Rows.{Elements};
+ghost use Rattle.fax_runcodes.specs.Rows.{Elements, IsWidth};
 ghost use Rattle.fax_runcodes.specs.Widths.{elements_of};
 ghost use Rattle.fax_pagestore.specs.PageRows.{most_rows};
-ghost use Rattle.fax_pagestore.specs.PageTexts.{ReadSoFar};
-ghost use Rattle.fax_pagestore.specs.PageFaults.{LineBegins, Stops, last_of};
+ghost use Rattle.fax_pagestore.specs.PageTexts.{IsSeparator, ReadSoFar, SpellsRow};
+ghost use Rattle.fax_pagestore.specs.PageFaults.{LineBegins, Stops, WantsLine, last_of, row_before};
 ghost use Rattle.fax_pagestore.specs.Ends.{HoldsEol, HoldsNoTaggedEol};
 ghost use Rattle.fax_pagestore.specs.Readers.{ReadsOne, IsReadUpTo, NoMoreIsWhole, AreJudged, fault_of};
 
 use super::settled::{Settled, settle};
 use crate::ends::bits_before_eol;
-use crate::reading::{MOST_ROWS, line_ahead, pass_front, read_row};
+use crate::reading::{MOST_ROWS, line_ahead, pass_front, read_row, read_row_alone};
 use crate::white::pass_white_row;
 use crate::{Coding, PageFault, RowStore};
 use fax_bits::{BitReader, NoMemory};
@@ -163,13 +163,15 @@ fn read_rows_on<S: RowStore>(
     ensures no_line { IfOk result (λ halt. halt.stop ≡ Stop.NoLine → LineBegins reader.new.left → ⊥) }
     ensures no_eol { IfOk result (λ halt. halt.stop ≡ Stop.NoEols → end ≤ reader.new.passed) }
 {
-    let mut line = RowBuilder::new(alloc)?;
     // the row before, where the next line is two-dimensional
     let mut kept = RowBuilder::new(alloc)?;
     keep_last(&mut kept, rows, width, first);
+    let mut spare = None;
     let mut tag = first;
     loop {
-        match read_next(rows, &mut line, &mut kept, reader, width, coding, tag, end)? {
+        match read_next(
+            alloc, rows, &mut kept, &mut spare, reader, width, coding, tag, end,
+        )? {
             Ok(next) => tag = next,
             Err(stop) => return Ok(Halt { tag, stop }),
         }
@@ -179,9 +181,10 @@ fn read_rows_on<S: RowStore>(
 /// Reads the next row behind this tag, and the separator behind it, where an EOL stands before this place, and answers the
 /// separator's tag. The last row is kept where that is 0. Where none is read the reader stays.
 fn read_next<S: RowStore>(
+    alloc: Global,
     rows: &mut S,
-    line: &mut RowBuilder,
     kept: &mut RowBuilder,
+    spare: &mut Option<RowBuilder>,
     reader: &mut BitReader,
     width: Width,
     coding: Coding,
@@ -215,15 +218,46 @@ fn read_next<S: RowStore>(
         return Ok(Ok(next));
     }
     let mut ahead = reader.copy();
-    match read_row(line, &mut ahead, width, coding, tag, kept, n) {
+    match read_over(alloc, kept, spare, &mut ahead, width, coding, tag, n)? {
         Ok(next) => {
-            rows.push_lent(&line.lend())?;
+            rows.push_lent(&kept.lend())?;
             *reader = ahead;
-            mem::swap(line, kept);
             Ok(Ok(next))
         }
         Err(fault) => Ok(Err(Stop::Fault(fault))),
     }
+}
+
+/// Reads the line behind n rows and this tag in place of the last of the rows, which is kept where the tag is 0, passes the
+/// separator behind the line, and answers its tag. A two-dimensional line is read beside the row before it, whose builder is
+/// spare then. An `Err` leaves the reader.
+fn read_over(
+    alloc: Global,
+    kept: &mut RowBuilder,
+    spare: &mut Option<RowBuilder>,
+    reader: &mut BitReader,
+    width: Width,
+    coding: Coding,
+    tag: bool,
+    n: u32,
+) -> Result<Result<bool, PageFault>, NoMemory>
+    requires { tag ≡ false → 0 < n → IsWidth (length kept.old) }
+    ensures ok { (next : Bool) → result ≡ Ok (Ok next) → (text separator : List Bool) × SpellsRow (elements_of width) tag (row_before n kept.old) text kept.new × IsSeparator coding next separator
+        × Passes reader.old reader.new (text ++ separator) }
+    ensures fault { (fault : PageFault) → result ≡ Ok (Err fault) → (rows : List Elements) → length rows ≡ n → (tag ≡ false → row_before n kept.old ≡ last_of rows) → WantsLine rows 0 reader.old.left
+        → Stops coding (elements_of width) rows 0 tag reader.old.left fault }
+{
+    if tag {
+        return Ok(read_row_alone(kept, reader, width, coding, n));
+    }
+    let mut line = match spare.take() {
+        Some(line) => line,
+        None => RowBuilder::new(alloc)?,
+    };
+    let read = read_row(&mut line, reader, width, coding, tag, kept, n);
+    mem::swap(&mut line, kept);
+    *spare = Some(line);
+    Ok(read)
 }
 
 /// Keeps the last of rows, if there is one, where this tag says that the next line is two-dimensional.
