@@ -16,6 +16,9 @@ use fax_pagestore::{Mark as ReaderMark, PageFault, PageReader, RowStore};
 use std::alloc::Global;
 use std::marker::Model;
 
+/// How many readers are kept behind a datagram at most.
+const MOST_KEPT: usize = 2;
+
 /// The images of a call. In Page each octet goes to a reader; else the runs of zero octets alone are counted.
 #[derive(Drop)]
 pub(crate) struct Image<S: RowStore> {
@@ -86,6 +89,9 @@ impl<S: RowStore> Image<S> {
     {
         let alloc = *self.readers.allocator();
         let reader = PageReader::new(alloc, dcs.format(), dcs.coding());
+        if self.readers.len() < MOST_KEPT {
+            self.readers.reserve_exact(1)?;
+        }
         self.readers.push(reader)?;
         Ok(())
     }

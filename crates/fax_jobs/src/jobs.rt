@@ -84,7 +84,7 @@ impl<S: RowStore> Jobs<S> {
             Some(job) => job.page_count() as usize,
         };
         self.first.reserve_exact(1)?;
-        self.larger.reserve(pages + 1)?;
+        self.larger.reserve_exact(pages + 1)?;
         // a job that is closed for the page waits, and the page's own has its place
         self.waiting.reserve(2)?;
         self.spare = 1;
