@@ -1,6 +1,6 @@
 -- Slots and pieces that come, one after another.
 use Rattle.std.proofs.Common.{◌≡◌, ℕ, zero, suc, ◌+◌, ◌<◌, false, List, [], ◌∷◌, ◌++◌, length, take, reverse, replicate, map, Some, None, Result, Ok, Err, get_or, refl, sym, ◌∙◌, ap, subst, append_assoc}
-use Rattle.std.proofs.lemmas.List.{reverse-append, map-append, take_more}
+use Rattle.std.proofs.lemmas.List.{append-nil, reverse-append, map-append, take_more}
 use Rattle.std.specs.Borrow.{Bor}
 use Rattle.std.specs.Result.{OnOk, is_err}
 use Rattle.fax_ifp.specs.declared.piece.Piece as code_pieces
@@ -83,3 +83,12 @@ hears_more writes job slots now packet heard core mid new tracked given h tracks
         follows = subst (λ (a : Calling). Follows writes job a new.writer new.procedure) (sym (came_append core h.given given now)) (takes (came_all core h.given now) h.reached.follows);
       };
     }
+
+-- the slot of a packet alone
+pub hears_one : (writes : Writing) (job : JobValue) (now : ℕ) (packet : List ℕ) (heard : List Slot) (core : Calling) (old new : Kept) (tracked : Tracked) (given : List Piece)
+    → IsReached writes job heard core old → Tracks (Some packet) old.tracked tracked → Gives (Some packet) old.tracked given → new.tracked ≡ tracked
+    → ((a : Calling) → Follows writes job a old.writer old.procedure → Follows writes job (came_all a given now) new.writer new.procedure)
+    → Hears writes job (Some packet ∷ []) now heard core new
+hears_one writes job now packet heard core old new tracked given r tracks gives same takes =
+    let none : Hears writes job [] now heard core old = record { given = []; pieces = sym (append-nil (pieces heard)); reached = r } in
+    hears_more writes job [] now packet heard core old new tracked given none tracks gives same takes

@@ -1,5 +1,5 @@
 //! What the calling side makes of the slots that come.
-ghost use Rattle.std.specs.Prelude.{◌≡◌, ℕ, List, [], IsOk, OnOk, OnErr};
+ghost use Rattle.std.specs.Prelude.{◌≡◌, ℕ, List, [], ◌∷◌, Some, IsOk, OnOk, OnErr};
 ghost use Rattle.fax_ifp.specs.Elements.{Slot as SlotShown};
 ghost use Rattle.fax_ifp.specs.Shown.{pieces_shown};
 ghost use Rattle.fax_ifp.specs.Tracked.{lost_slots};
@@ -45,12 +45,29 @@ impl Caller {
         ensures spare { self.new.spare ≡ self.old.spare }
         ensures no_packet { decided.now.packets ≡ [] → IsOk result }
     {
+        if let Some(packet) = decided.only() {
+            return self.hear_packet(packet, now);
+        }
         self.lose(decided.lost());
         let mut pieces = Pieces::new(self.alloc);
         for packet in decided.packets() {
             self.signals.slot_into(Slot::Packet(packet), &mut pieces)?;
             self.hear_all(pieces.as_slice(), now);
         }
+        Ok(())
+    }
+
+    /// Hears the slot of a packet. An `Err` leaves the writer of the text, and the room.
+    fn hear_packet(&mut self, packet: &[u8], now: u64) -> Result<(), NoMemory>
+        ensures heard { OnOk result ((writes : Writing) (job : JobValue) (heard : List SlotShown) (core : Calling)
+            → IsReached writes job heard core self.old → Hears writes job (Some packet.now ∷ []) now heard core self.new) }
+        ensures job { (job : JobValue) → IsJobOfCall self.old.procedure job → IsJobOfCall self.new.procedure job }
+        ensures writer { self.new.writer ≡ self.old.writer }
+        ensures spare { self.new.spare ≡ self.old.spare }
+    {
+        let mut pieces = Pieces::new(self.alloc);
+        self.signals.slot_into(Slot::Packet(packet), &mut pieces)?;
+        self.hear_all(pieces.as_slice(), now);
         Ok(())
     }
 

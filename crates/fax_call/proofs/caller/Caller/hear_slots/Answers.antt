@@ -1,4 +1,5 @@
 use Rattle.std.proofs.Common.{◌≡◌, ◌++◌, ℕ, List, Some, map, sym, ◌∙◌, ap, subst}
+use Rattle.std.proofs.lemmas.Result.{on_ok_weaker}
 use Rattle.fax_ifp.specs.Elements.{Slot}
 use Rattle.fax_ifp.specs.Pieces.{Piece}
 use Rattle.fax_ifp.specs.Tracked.{Tracked, Tracks, Gives, lost_slots}
@@ -19,10 +20,10 @@ loop-packet-preserved c =
     let told = c.as_slice.ensures in
     record {
       heard = λ writes job heard core r.
-          subst (λ (s : List Slot). Hears writes job s c.args.now heard core c.hear_all.new.self) (slots_more c.args.decided.now.lost c.loop-packet.yielded c.in-Some.packet)
-          (hears_more writes job (lost_slots c.args.decided.now.lost ++ map (λ (x : List ℕ). Some x) (texts c.loop-packet.yielded)) c.args.now c.in-Some.packet.now heard core mid c.hear_all.new.self c.slot_into.new.self given (before.heard writes job heard core r)
-          (subst (λ (t : Tracked). Tracks (Some c.in-Some.packet.now) t c.slot_into.new.self) tracked c.in_ok-slot_into.ensures.tracked)
-          (subst (λ (t : Tracked). Gives (Some c.in-Some.packet.now) t given) tracked c.in_ok-slot_into.ensures.pieces)
+          subst (λ (s : List Slot). Hears writes job s c.args.now heard core c.hear_all.new.self) (slots_more c.args.decided.now.lost c.loop-packet.yielded c.in-Some-packet.packet)
+          (hears_more writes job (lost_slots c.args.decided.now.lost ++ map (λ (x : List ℕ). Some x) (texts c.loop-packet.yielded)) c.args.now c.in-Some-packet.packet.now heard core mid c.hear_all.new.self c.slot_into.new.self given (before.heard writes job heard core r)
+          (subst (λ (t : Tracked). Tracks (Some c.in-Some-packet.packet.now) t c.slot_into.new.self) tracked c.in_ok-slot_into.ensures.tracked)
+          (subst (λ (t : Tracked). Gives (Some c.in-Some-packet.packet.now) t given) tracked c.in_ok-slot_into.ensures.pieces)
           c.hear_all.ensures.tracked
           (λ a f.
           subst (λ (ps : List Piece). Follows writes job (came_all a ps c.args.now) c.hear_all.new.self.writer c.hear_all.new.self.procedure) told
@@ -34,3 +35,9 @@ loop-packet-preserved c =
 
 pub returns-in_err-slot_into-clause-job : goal.returns-in_err-slot_into-clause-job
 returns-in_err-slot_into-clause-job c job h = subst (λ (k : Kept). IsJobOfCall k.procedure job) (sym c.self-in-loop-packet.view_is) (c.loop-packet.invariant.job job h)
+
+pub returns-in-Some-clause-heard : goal.returns-in-Some-clause-heard
+returns-in-Some-clause-heard c =
+    on_ok_weaker c.hear_packet.result
+    (λ hears. λ writes job heard core r. subst (λ (s : List Slot). Hears writes job s c.args.now heard core c.hear_packet.new.self) (sym c.in-Some.ensures.some) (hears writes job heard core r))
+    c.hear_packet.ensures.heard
