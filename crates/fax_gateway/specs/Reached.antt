@@ -204,9 +204,13 @@ pub record HearsFrom (setup : Setup) (writes : Writing) (trace : List Event) (oc
 abbrev pub most_octets : ℕ
 most_octets = 100
 
+-- how many octets a packet of the answering side has at most
+abbrev pub most_answered : ℕ
+most_answered = 12
+
 pub record CallingHasRoom (side : CallingValue) : Type 0 where
   pub packet : 1 ≤ side.kept.spare
-  pub datagram : most_octets < side.leg.sender.spare
+  pub datagram : most_answered < side.leg.sender.spare
 
 pub record CalledHasRoom (side : CalledSide) : Type 0 where
   pub packet : 1 ≤ side.caller.spare

@@ -9,7 +9,7 @@ ghost use Rattle.fax_gateway.specs.CalledLegs.{CalledLeg, begun_leg, core_left, 
 ghost use Rattle.fax_gateway.specs.Due.{call_due};
 ghost use Rattle.fax_gateway.specs.Reached.{Begins, CalledHasRoom, IsCalled, IsLeg, IsServed, TicksOn, called_alone, most_octets, outcome_kept};
 
-use crate::leg::Leg;
+use crate::leg::{Leg, MOST_OCTETS};
 use crate::settings::Settings;
 use fax_bits::{NoMemory, Octets};
 use fax_call::{Caller, State};
@@ -99,7 +99,7 @@ impl CalledSide {
         ensures procedure { self.new.caller.procedure ≡ self.old.caller.procedure }
     {
         self.caller.reserve()?;
-        self.leg.reserve()
+        self.leg.reserve(MOST_OCTETS)
     }
 
     /// The call of a job begins, where no call is on, with a leg of its own. It takes no memory.

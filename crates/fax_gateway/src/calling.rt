@@ -15,6 +15,9 @@ use fax_pagestore::RowStore;
 use std::alloc::Global;
 use std::marker::Model;
 
+/// How many octets a packet of the answering side has at most.
+const MOST_ANSWERED: usize = 12;
+
 /// The answering side of the calling leg, with the number of its last call.
 #[derive(Drop)]
 pub(crate) struct CallingSide<S: RowStore> {
@@ -123,7 +126,7 @@ impl<S: RowStore> CallingSide<S> {
         ensures same { calling_alone self.new ≡ calling_alone self.old }
     {
         self.answerer.reserve()?;
-        self.leg.reserve()
+        self.leg.reserve(MOST_ANSWERED)
     }
 
     /// Time goes on: it answers the datagram that is given, the page that is confirmed, why one is refused, and whether the call

@@ -11,7 +11,7 @@ use fax_udptl::{Receiver, Sender};
 use std::alloc::Global;
 
 /// How many octets a packet of either side has at most.
-const MOST_OCTETS: usize = 100;
+pub(crate) const MOST_OCTETS: usize = 100;
 
 /// A receiver and a sender, which each call has anew.
 #[derive(Drop)]
@@ -41,24 +41,25 @@ impl Leg {
         ensures room { IfOk result (λ leg. most_octets < leg.sender.spare) }
     {
         let mut leg = Leg::new(alloc, redundancy)?;
-        leg.reserve()?;
+        leg.reserve(MOST_OCTETS)?;
         Ok(leg)
     }
 
-    /// Takes the memory of the next datagram, where its packet has at most `MOST_OCTETS` octets. An `Err` changes nothing.
-    pub fn reserve(&mut self) -> Result<(), NoMemory>
-        ensures room { OnOk result (most_octets < self.new.sender.spare) }
+    /// Takes the memory of the next datagram, where its packet has at most so many octets. An `Err` changes nothing.
+    pub fn reserve(&mut self, octets: usize) -> Result<(), NoMemory>
+        requires { octets ≤ most_octets }
+        ensures room { OnOk result (octets < self.new.sender.spare) }
         ensures reached { (setup : Setup) (arrived : List DatagramValue) (given : List (List ℕ)) → IsLeg setup arrived given self.old → IsLeg setup arrived given self.new }
         ensures same { leg_alone self.new ≡ leg_alone self.old }
         ensures err { OnErr result (self.new ≡ self.old) }
     {
-        self.sender.reserve(MOST_OCTETS)
+        self.sender.reserve(octets)
     }
 
     /// The octets of the datagram of the next packet, whose memory is reserved.
     pub fn send(&mut self, packet: &[u8]) -> Octets
         requires short { length packet.now ≤ most_octets }
-        requires room { most_octets < self.old.sender.spare }
+        requires room { length packet.now < self.old.sender.spare }
         ensures { (setup : Setup) (arrived : List DatagramValue) (given : List (List ℕ)) → IsLeg setup arrived given self.old
             → (result ≡ sent setup given packet.now) × IsLeg setup arrived (packet.now ∷ given) self.new }
     {
@@ -71,7 +72,7 @@ impl Leg {
     /// The same of a packet that may be given.
     pub fn send_if(&mut self, packet: Option<Octets>) -> Option<Octets>
         requires short { IfSome packet (λ packet. length packet ≤ most_octets) }
-        requires room { most_octets < self.old.sender.spare }
+        requires room { IfSome packet (λ packet. length packet < self.old.sender.spare) }
         ensures { (setup : Setup) (arrived : List DatagramValue) (given : List (List ℕ)) → IsLeg setup arrived given self.old
             → (result ≡ sent_if setup given packet) × IsLeg setup arrived (given_with packet given) self.new }
     {
