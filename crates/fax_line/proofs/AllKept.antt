@@ -64,6 +64,6 @@ module _
   run_keeps first (Turned now rests ∷ done) [] old new before after pages ran kept = absurd ran
   run_keeps first (Turned now rests ∷ done) (end ∷ settled) old new before after pages ran kept =
       subst (λ (l : List PageToKeep). keeps after l) (append_assoc pages (kept_pages settled) (kept_if (is_ok end.answer) end.pages.items))
-      (settles (next_slot first done) end ran.1 new ran.2 after (pages ++ kept_pages settled) ran.5 (run_keeps first done settled old ran.0 before ran.2 pages ran.3 kept))
+      (settles (next_slot first done) end ran.1 new ran.2 after (pages ++ kept_pages settled) ran.6 (run_keeps first done settled old ran.0 before ran.2 pages ran.3 kept))
   run_keeps first (Rung line now answer ∷ done) settled old new before after pages ran kept = run_keeps first done settled old ran.0 before after pages ran.1 kept
   run_keeps first (Woken line ∷ done) settled old new before after pages ran kept = run_keeps first done settled old ran.0 before after pages ran.1 kept

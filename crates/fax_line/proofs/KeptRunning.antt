@@ -4,7 +4,7 @@ use Rattle.std.proofs.lemmas.Bool.{eqb-true}
 use Rattle.fax_jobs.specs.declared.report.Report.{Report}
 use Rattle.fax_gateway.specs.declared.fault.RingFault.{RingFault}
 use Rattle.fax_line.specs.declared.settling.PageToKeep.{PageToKeep}
-use Rattle.fax_line.specs.Deeds.{LinesValue, RingsLine, TurnsSlot, WakesLine, Went, slot_after, slot_before}
+use Rattle.fax_line.specs.Deeds.{LinesValue, RingsLine, SlotTells, TurnsSlot, WakesLine, Went, slot_after, slot_before}
 use Rattle.fax_line.specs.KeptRuns.{IsSettledIf, RanIf}
 use Rattle.fax_line.specs.Places.{PlaceValue}
 use Rattle.fax_line.specs.Runs.{Done, Rung, Turned, Woken, call_if, latest, next_slot}
@@ -17,11 +17,12 @@ module _ (K : Type 0) (same : K → K → Type 0) (puts : List PageToKeep → Bo
   pub ran_turned :
       (first now : ℕ) (rests : ℕ → Bool) (done : List Done) (a b c d : List PlaceValue) (k l m : Option K)
       → RanIf same puts notes ends first done a b k l → Went (TurnsSlot (next_slot first done) (max (latest done) now) rests ∷ []) b c
+      → SlotTells (next_slot first done) (max (latest done) now) rests b c
       → IsSettledIf same puts notes ends (next_slot first done) c d l m → RanIf same puts notes ends first (Turned now rests ∷ done) a d k m
-  ran_turned first now rests done a b c d None l m ran went settled = subst (λ (o : Option K). IsSettledIf same puts notes ends (next_slot first done) c d o m) ran settled
-  ran_turned first now rests done a b c d (Some k) l m (x, is, all, ran) went settled =
+  ran_turned first now rests done a b c d None l m ran went tells settled = subst (λ (o : Option K). IsSettledIf same puts notes ends (next_slot first done) c d o m) ran settled
+  ran_turned first now rests done a b c d (Some k) l m (x, is, all, ran) went tells settled =
       let here = subst (λ (o : Option K). IsSettledIf same puts notes ends (next_slot first done) c d o m) is settled in
-      (here.0, here.1, here.2 ∷ all, (b, c, x, ran, went, here.3))
+      (here.0, here.1, here.2 ∷ all, (b, c, x, ran, went, tells, here.3))
 
   pub ran_rung :
       (first line now : ℕ) (answer : Option (Result ℕ RingFault)) (done : List Done) (a b c : List PlaceValue) (k l : Option K)
@@ -42,13 +43,14 @@ module _ (K : Type 0) (same : K → K → Type 0) (puts : List PageToKeep → Bo
       subst (λ (o : Option K). RanIf same puts notes ends first done a lines.lines k o) (sym same_keeper)
       (subst (λ (v : LinesValue). RanIf same puts notes ends first done a v.lines k m) (sym same_lines) ran)
 
+-- what is true of the slot and of the moment of a turn
+pub of_turn :
+    (holds : ℕ → ℕ → Type 0) (first now moment later slot : ℕ) (done : List Done) → slot ≡ next_slot first done → moment ≡ latest done → later ≡ max moment now
+    → holds slot later → holds (next_slot first done) (max (latest done) now)
+of_turn holds first now moment later slot done slot_is moment_is later_is here =
+    subst (λ (s : ℕ). holds s (max (latest done) now)) slot_is (subst (λ (m : ℕ). holds slot m) (later_is ∙ ap (λ (m : ℕ). max m now) moment_is) here)
+
 -- the deed of an order
-pub went_turn :
-    (first now moment later slot : ℕ) (rests : ℕ → Bool) (done : List Done) (b c : List PlaceValue) → slot ≡ next_slot first done → moment ≡ latest done → later ≡ max moment now
-    → Went (TurnsSlot slot later rests ∷ []) b c → Went (TurnsSlot (next_slot first done) (max (latest done) now) rests ∷ []) b c
-went_turn first now moment later slot rests done b c slot_is moment_is later_is went =
-    subst (λ (s : ℕ). Went (TurnsSlot s (max (latest done) now) rests ∷ []) b c) slot_is
-    (subst (λ (m : ℕ). Went (TurnsSlot slot m rests ∷ []) b c) (later_is ∙ ap (λ (m : ℕ). max m now) moment_is) went)
 
 pub went_ring :
     (now moment later line : ℕ) (call : Option ℕ) (done : List Done) (b c : List PlaceValue) → moment ≡ latest done → later ≡ max moment now

@@ -6,4 +6,5 @@ mod Places
 mod Slots
 mod Stepping
 mod Telling
+mod Turning
 pub mod Running

@@ -7,23 +7,30 @@ use Rattle.std.proofs.lemmas.List.{get_or-set_other, length-set}
 use Rattle.std.proofs.lemmas.List.Elements.{All-append, All-cons}
 use Rattle.std.proofs.lemmas.List.Folds.{list_any-append, list_any_none}
 use Rattle.std.proofs.lemmas.List.Quantifiers.{all_pairs_push}
+use Rattle.fax_repeat.specs.Policies.{IsToldAs}
 use Rattle.fax_hold.specs.Holding.{HoldingValue}
 use Rattle.fax_hold.specs.Keeping.{Deed, HasDone, HoldsBehind, Turn}
 use Rattle.fax_line.specs.declared.settling.PageToKeep.{PageToKeep}
 use Rattle.fax_line.specs.Actions.{LineValue}
 use Rattle.fax_line.specs.Places.{PlaceValue}
-use Rattle.fax_line.specs.Settling.{EachComes, EndsAtOnce, EndsTurn, EndsWhere, HandsOver, IsOfTurn, IsPageOf, Waits, WaitsOrEnds, has_page, is_of, was_turned}
+use Rattle.fax_line.specs.Deeds.{EachComes}
+use Rattle.fax_line.specs.Settling.{EndsAtOnce, EndsTurn, EndsWhere, HandsOver, IsOfTurn, IsPageOf, Waits, WaitsOrEnds, has_page, is_of, was_turned}
 
 -- by what ends the turn of its wire
 pub ends_by :
     (is_kept confirms : Bool) (old new : LineValue) (before after : HoldingValue) → old.holding ≡ Some before → new.holding ≡ Some after → confirms ≡ is_some old.turned.kept
+    → new.gateway ≡ old.gateway → new.driver ≡ old.driver → IsToldAs old.wire new.wire → new.turned ≡ old.turned
     → ((deeds : List Deed) (given : Option (List ℕ)) → HoldsBehind deeds given before → HasDone (Turn given confirms is_kept ∷ deeds) after) → EndsTurn is_kept old new
-ends_by is_kept confirms old new before after was is same done = record {
+ends_by is_kept confirms old new before after was is same gateway driver wire told done = record {
   before = before;
   was = was;
   after = after;
   is = is;
   done = λ deeds given holds. subst (λ (b : Bool). HasDone (Turn given b is_kept ∷ deeds) after) same (done deeds given holds);
+  gateway = gateway;
+  driver = driver;
+  wire = wire;
+  told = told;
 }
 
 -- This is true of the lines of the first rounds, and those of the rounds to come are as they were.
@@ -157,7 +164,7 @@ waited true true false old new x y z same = absurd (cc)
 waited true false has old new x y z same = absurd (cc)
 waited false b has old new x y z same = absurd (cc)
 
-ended : (a b has : Bool) (old new : PlaceValue) → a ≡ true → b ≡ true → has ≡ false → EndsTurn false old.line new.line → WaitsOrEnds (a && b) has old new
+ended : (a b has : Bool) (old new : PlaceValue) → a ≡ true → b ≡ true → has ≡ false → EndsWhere true false old new → WaitsOrEnds (a && b) has old new
 ended true true true old new x y z ends = absurd (cc)
 ended true true false old new x y z ends = ends
 ended true false has old new x y z ends = absurd (cc)
@@ -168,7 +175,7 @@ both_true true true x y = refl
 both_true true false x y = cc
 both_true false b x y = cc
 
-of_slot : (at round slot : ℕ) → at ≡ round * 40 + slot → slot < 40 → nat_eq (at % 40) slot ≡ true
+pub of_slot : (at round slot : ℕ) → at ≡ round * 40 + slot → slot < 40 → nat_eq (at % 40) slot ≡ true
 of_slot at round slot is low = eq-eqb (at % 40) slot (omega arith)
 
 later : (round : ℕ) (pages : List PageToKeep) → All (λ page. page.line < round * 40) pages → All (λ page. page.line < (round + 1) * 40) pages
@@ -279,7 +286,7 @@ left_alone false b is_kept place one = refl
 pub ends_passes : (slot round : ℕ) (pages : List PageToKeep) (is_kept : Bool) → PassesOver (ends_if slot pages is_kept) slot round
 ends_passes slot round pages is_kept i place far off = left_alone (nat_eq (i % 40) slot) (has_page pages i) is_kept place (inl (ne_eqb (i % 40) slot off))
 
-ends_so : (a b is_kept : Bool) (old new : PlaceValue) → a ≡ true → b ≡ true → EndsTurn is_kept old.line new.line → EndsWhere (a && b) is_kept old new
+ends_so : (a b is_kept : Bool) (old new : PlaceValue) → a ≡ true → b ≡ true → EndsWhere true is_kept old new → EndsWhere (a && b) is_kept old new
 ends_so true true is_kept old new x y ends = ends
 ends_so true false is_kept old new x y ends = absurd (cc)
 ends_so false b is_kept old new x y ends = absurd (cc)
@@ -288,7 +295,7 @@ ends_so false b is_kept old new x y ends = absurd (cc)
 pub ends_on :
     (slot round at : ℕ) (olds lines : List PlaceValue) (old new : PlaceValue) (pages : List PageToKeep) (is_kept : Bool) → at ≡ round * 40 + slot → slot < 40 → at < length lines
     → ((d : PlaceValue) → old ≡ slice_index_or lines at d) → Rounds (ends_if slot pages is_kept) round olds lines → has_page pages at ≡ true
-    → EndsTurn is_kept old.line new.line → Rounds (ends_if slot pages is_kept) (round + 1) olds (slice_set lines at new)
+    → EndsWhere true is_kept old new → Rounds (ends_if slot pages is_kept) (round + 1) olds (slice_set lines at new)
 ends_on slot round at olds lines old new pages is_kept is low inside was before has ends =
     on_round (ends_if slot pages is_kept) slot round at olds lines new is low inside (ends_passes slot round pages is_kept) before
     (λ d. subst (λ (p : PlaceValue). ends_if slot pages is_kept at p new) (was d ∙ before.to_come at d (omega (arith, is)))
@@ -321,8 +328,8 @@ ends_off slot round at olds lines pages is_kept is none before = record {
 -- ---- one behind the other
 
 joined : (a b has is_kept : Bool) (old mid new : PlaceValue) → WaitsOrEnds (a && b) has old mid → EndsWhere (a && has) is_kept mid new → EndsWhere (a && b) (has && is_kept) old new
-joined true true true is_kept old mid new same ends = subst (λ (p : PlaceValue). EndsTurn is_kept p.line new.line) same ends
-joined true true false is_kept old mid new ends same = subst (λ (p : PlaceValue). EndsTurn false old.line p.line) (sym same) ends
+joined true true true is_kept old mid new same ends = subst (λ (p : PlaceValue). EndsWhere true is_kept p new) same ends
+joined true true false is_kept old mid new ends same = subst (λ (p : PlaceValue). EndsWhere true false old p) (sym same) ends
 joined true false true is_kept old mid new none ends = absurd none
 joined true false false is_kept old mid new first then = then ∙ first
 joined false b true is_kept old mid new none ends = absurd none

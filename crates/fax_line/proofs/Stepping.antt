@@ -139,14 +139,6 @@ all_done actions slot rounds olds lines many before =
 abbrev pub AreUntouched : ℕ → List PlaceValue → List PlaceValue → Type 0
 AreUntouched rounds olds lines = (i : ℕ) (d : PlaceValue) → rounds * 40 ≤ i → slice_index_or lines i d ≡ slice_index_or olds i d
 
-pub untouched_on : (slot round at : ℕ) (olds lines : List PlaceValue) (new : PlaceValue) → at ≡ round * 40 + slot → slot < 40
-    → AreUntouched round olds lines → AreUntouched (round + 1) olds (slice_set lines at new)
-untouched_on slot round at olds lines new is low before i d far =
-    get_or-set_other lines at i new d (λ (same : i ≡ at). absurd (omega (arith, same))) ∙ before i d (omega arith)
-
-pub untouched_off : (round : ℕ) (olds lines : List PlaceValue) → AreUntouched round olds lines → AreUntouched (round + 1) olds lines
-untouched_off round olds lines before i d far = before i d (omega arith)
-
 -- so the one of this round rests as it did
 pub rests_same : (now at round slot : ℕ) (olds lines : List PlaceValue) (place : PlaceValue) → at ≡ round * 40 + slot → at < length olds
     → AreUntouched round olds lines → slice_index_or lines at place ≡ place → is_at_rest now place ≡ rests_at now olds at

@@ -1,9 +1,9 @@
 -- All lines of a server, in forty slots: what is done with them, and what each goes through. Lists of deeds have the newest
 -- first. (This project's profile.)
-use Rattle.std.specs.Prelude.{◌≡◌, ℕ, ◌<◌, ◌≤◌, ◌+◌, ◌-◌, ◌%◌, Bool, false, nat_eq, List, [], ◌∷◌, ◌++◌, length, map, slice_get, slice_index_or, Option, Some, if◌then◌else◌}
+use Rattle.std.specs.Prelude.{◌≡◌, ℕ, ◌<◌, ◌≤◌, ◌+◌, ◌-◌, ◌%◌, Bool, true, false, nat_eq, List, [], ◌∷◌, ◌++◌, length, map, slice_get, slice_index_or, Option, Some, if◌then◌else◌}
 use Rattle.std.specs.List.{All}
 use Rattle.fax_line.specs.Actions.{Action, LineValue, Rings, Wakes}
-use Rattle.fax_line.specs.Places.{GoesInPlace, IsBegun, IsNewPlace, PlaceValue, is_at_rest, visit_of}
+use Rattle.fax_line.specs.Places.{GoesInPlace, IsBegun, IsNewPlace, PlaceValue, TellsOrRests, is_at_rest, visit_of}
 
 -- the lines, in the order in which they were added, and the slot that has the next turn
 pub record LinesValue : Type 0 where
@@ -54,6 +54,15 @@ pub record EachGoes (actions : ℕ → List Action) (old new : List PlaceValue) 
 
 abbrev pub Went : List Deed → List PlaceValue → List PlaceValue → Type 0
 Went deeds old new = EachGoes (λ line. actions_of line deeds) old new
+
+-- so many lines, and of each this is true of what it was and what it is
+pub record EachComes (comes : ℕ → PlaceValue → PlaceValue → Type 0) (old new : List PlaceValue) : Type 0 where
+  pub as_many : length new ≡ length old
+  pub each : (number : ℕ) (other : PlaceValue) → number < length old → comes number (slice_index_or old number other) (slice_index_or new number other)
+
+-- THE TURN OF A SLOT TELLS of each of its lines what that line's ticks told, but of those that are left at rest.
+abbrev pub SlotTells : ℕ → ℕ → (ℕ → Bool) → List PlaceValue → List PlaceValue → Type 0
+SlotTells slot now rests old new = EachComes (λ number before after. nat_eq (slot_of number) slot ≡ true → TellsOrRests now (rests number) before after) old new
 
 abbrev pub AreNew : List PlaceValue → Type 0
 AreNew lines = All IsNewPlace lines

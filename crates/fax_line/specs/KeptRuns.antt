@@ -5,7 +5,7 @@ use Rattle.fax_jobs.specs.declared.report.Report.{Report}
 use Rattle.fax_gateway.specs.declared.given.Kept.{Kept}
 use Rattle.fax_gateway.specs.declared.turned.Turned.{Turned as Told}
 use Rattle.fax_hold.specs.Keeping.{PutsIf}
-use Rattle.fax_line.specs.Deeds.{RingsLine, TurnsSlot, WakesLine, Went}
+use Rattle.fax_line.specs.Deeds.{RingsLine, SlotTells, TurnsSlot, WakesLine, Went}
 use Rattle.fax_line.specs.Places.{PlaceValue}
 use Rattle.fax_line.specs.Runs.{Done, Rung, Turned, Woken, call_if, latest, next_slot}
 use Rattle.fax_line.specs.Settling.{ArePagesOf, EndsSlot, has_page, is_kept_in, was_turned}
@@ -81,7 +81,8 @@ Ran same puts notes ends first [] (end ∷ settled) old new before after = ⊥
 Ran same puts notes ends first (Turned now rests ∷ done) [] old new before after = ⊥
 Ran {K} same puts notes ends first (Turned now rests ∷ done) (end ∷ settled) old new before after =
     (mid : List PlaceValue) × (turned : List PlaceValue) × (between : K) × Ran same puts notes ends first done settled old mid before between
-    × Went (TurnsSlot (next_slot first done) (max (latest done) now) rests ∷ []) mid turned × IsSettled same puts notes ends (next_slot first done) end turned new between after
+    × Went (TurnsSlot (next_slot first done) (max (latest done) now) rests ∷ []) mid turned × SlotTells (next_slot first done) (max (latest done) now) rests mid turned
+    × IsSettled same puts notes ends (next_slot first done) end turned new between after
 Ran same puts notes ends first (Rung line now answer ∷ done) settled old new before after =
     (mid : List PlaceValue) × Ran same puts notes ends first done settled old mid before after × Went (RingsLine line (max (latest done) now) (call_if answer) ∷ []) mid new
 Ran same puts notes ends first (Woken line ∷ done) settled old new before after =

@@ -8,11 +8,12 @@ use Rattle.fax_pagestore.specs.Pages.{PageValue}
 use Rattle.fax_pagestore.specs.WrittenPages.{WritesPage}
 use Rattle.fax_jobs.specs.Newest.{newest_page}
 use Rattle.fax_gateway.specs.declared.given.Kept.{Kept}
+use Rattle.fax_repeat.specs.Policies.{IsToldAs}
 use Rattle.fax_hold.specs.Holding.{HoldingValue}
 use Rattle.fax_hold.specs.Keeping.{Deed, HasDone, HoldsBehind, Turn}
 use Rattle.fax_line.specs.Actions.{LineValue}
 use Rattle.fax_line.specs.Places.{PlaceValue}
-use Rattle.fax_line.specs.Deeds.{slot_of}
+use Rattle.fax_line.specs.Deeds.{EachComes, slot_of}
 use Rattle.fax_line.specs.declared.settling.PageToKeep.{PageToKeep}
 use Rattle.fax_line.specs.declared.settling.SlotEnd.{SlotEnd}
 
@@ -36,13 +37,18 @@ abbrev pub IsOfTurnIf : ℕ → LineValue → Option PageToKeep → Type 0
 IsOfTurnIf number line None = line.turned.kept ≡ None
 IsOfTurnIf number line (Some page) = (page.line ≡ number) × IsOfTurn line page
 
--- THE END OF A LINE'S TURN, whose page is kept or not: its wire has done one turn more, whatever it did before.
+-- THE END OF A LINE'S TURN, whose page is kept or not: its wire has done one turn more, whatever it did before, of which that tells
+-- nothing; the rest of the line is as it was.
 pub record EndsTurn (is_kept : Bool) (old new : LineValue) : Type 0 where
   pub before : HoldingValue
   pub was : old.holding ≡ Some before
   pub after : HoldingValue
   pub is : new.holding ≡ Some after
   pub done : (deeds : List Deed) (given : Option (List ℕ)) → HoldsBehind deeds given before → HasDone (Turn given (is_some old.turned.kept) is_kept ∷ deeds) after
+  pub gateway : new.gateway ≡ old.gateway
+  pub driver : new.driver ≡ old.driver
+  pub wire : IsToldAs old.wire new.wire
+  pub told : new.turned ≡ old.turned
 
 -- whether a page is of the line of this number, and whether one of these is
 abbrev pub is_of : ℕ → PageToKeep → Bool
@@ -72,13 +78,8 @@ pub record ArePagesOf (slot : ℕ) (lines : List PlaceValue) (pages : List PageT
 
 -- where a line had a turn, that ends; else the line stays as it was
 abbrev pub EndsWhere : Bool → Bool → PlaceValue → PlaceValue → Type 0
-EndsWhere true is_kept old new = EndsTurn is_kept old.line new.line
+EndsWhere true is_kept old new = EndsTurn is_kept old.line new.line × (new.turned ≡ old.turned)
 EndsWhere false is_kept old new = new ≡ old
-
--- so many lines, and of each this is true of what it was and what it is
-pub record EachComes (comes : ℕ → PlaceValue → PlaceValue → Type 0) (old new : List PlaceValue) : Type 0 where
-  pub as_many : length new ≡ length old
-  pub each : (number : ℕ) (other : PlaceValue) → number < length old → comes number (slice_index_or old number other) (slice_index_or new number other)
 
 -- THE END OF A SLOT'S TURN, where the pages of these lines are kept: the turn of each line that had one ends by itself, and no
 -- other line is touched.
@@ -98,7 +99,7 @@ pub record Waits (number : ℕ) (old new : PlaceValue) (before after : List Page
 -- or its turn ends without one.
 pub record EndsAtOnce (old new : PlaceValue) (before after : List PageToKeep) : Type 0 where
   pub same : after ≡ before
-  pub ends : EndsTurn false old.line new.line
+  pub ends : EndsWhere true false old new
 
 -- where a line had a turn
 abbrev pub HandsOver : Bool → ℕ → PlaceValue → PlaceValue → List PageToKeep → List PageToKeep → Type 0
@@ -108,7 +109,7 @@ HandsOver false number old new before after = (after ≡ before) × (new ≡ old
 -- A line that had a turn waits where its page is to be kept, and its turn has ended where it has none.
 abbrev pub WaitsOrEnds : Bool → Bool → PlaceValue → PlaceValue → Type 0
 WaitsOrEnds true true old new = new ≡ old
-WaitsOrEnds true false old new = EndsTurn false old.line new.line
+WaitsOrEnds true false old new = EndsWhere true false old new
 WaitsOrEnds false true old new = ⊥
 WaitsOrEnds false false old new = new ≡ old
 

@@ -1,13 +1,13 @@
 //! All lines of a server, in forty slots.
-ghost use Rattle.std.specs.Prelude.{◌≡◌, ◌+◌, ◌<◌, ◌&&◌, List, [], ◌∷◌, ◌++◌, ℕ, Bool, true, false, IsTrue, IfOk, OnOk, OnErr, IsSome, ◌≤◌, ◌↔◌, MatchOption, is_ok, length, map, nat_eq, slice_index_or, if◌then◌else◌};
+ghost use Rattle.std.specs.Prelude.{◌≡◌, ◌≢◌, ◌+◌, ◌<◌, ◌&&◌, List, [], ◌∷◌, ◌++◌, ℕ, Bool, true, false, IsTrue, IfOk, OnOk, OnErr, IsSome, ◌≤◌, ◌↔◌, MatchOption, is_ok, length, map, nat_eq, slice_index_or, if◌then◌else◌};
 ghost use Rattle.fax_gateway.specs.Restored.{RestoredCall};
 ghost use Rattle.fax_hold.specs.Keeping.{PutsIf};
 ghost use Rattle.fax_line.specs.Actions.{BeginsWith, IsNew, Rings, Wakes, call_of};
 ghost use Rattle.fax_line.specs.Places.{visit_of};
-ghost use Rattle.fax_line.specs.Deeds.{AreBegun, AreNew, EachGoes, IsAdded, IsLineAt, RingsLine, TurnsSlot, WakesLine, Went, have_turned, most_slots, rests_at, slot_after, slot_before, slot_of};
+ghost use Rattle.fax_line.specs.Deeds.{AreBegun, AreNew, EachComes, EachGoes, IsAdded, IsLineAt, RingsLine, SlotTells, TurnsSlot, WakesLine, Went, have_turned, most_slots, rests_at, slot_after, slot_before, slot_of};
 ghost use Rattle.fax_line.specs.KeptRuns.{EndsIf, NotesIf, TellsLine, TellsSlot, TellsWhere};
 ghost use Rattle.fax_line.specs.Runs.{call_if};
-ghost use Rattle.fax_line.specs.Settling.{ArePagesOf, EachComes, EndsSlot, EndsWhere, HandsOverSlot, has_page, is_kept_in};
+ghost use Rattle.fax_line.specs.Settling.{ArePagesOf, EndsSlot, EndsWhere, HandsOverSlot, has_page, is_kept_in};
 ghost use Rattle.fax_line.specs.declared.settling.PageToKeep.{PageToKeep as ToKeep};
 
 use crate::keeper::RunKeeper;
@@ -125,6 +125,7 @@ impl<W: LineWire + Drop> Lines<W> {
     /// the time, where something is due.
     pub fn turn(&mut self, now: u64)
         ensures went { Went (TurnsSlot self.old.slot now (rests_at now self.old.lines) ∷ []) self.old.lines self.new.lines }
+        ensures tells { SlotTells self.old.slot now (rests_at now self.old.lines) self.old.lines self.new.lines }
         ensures slot { self.new.slot ≡ slot_after self.old.slot }
     {
         serve_slot(self.places.as_mut_slice(), &mut self.buffer, self.slot, now);
@@ -207,7 +208,8 @@ fn slot_before(slot: usize) -> usize
 /// The slot half a round away.
 fn slot_across(slot: usize) -> usize
     requires { slot < most_slots }
-    ensures { result < most_slots }
+    ensures other { result ≢ slot }
+    ensures low { result < most_slots }
 {
     (slot + SLOTS / 2) % SLOTS
 }
@@ -220,7 +222,8 @@ fn serve_slot<W: LineWire + Drop>(
     now: u64,
 )
     requires { slot < most_slots }
-    ensures { Went (TurnsSlot slot now (rests_at now places.old) ∷ []) places.old places.new }
+    ensures went { Went (TurnsSlot slot now (rests_at now places.old) ∷ []) places.old places.new }
+    ensures tells { SlotTells slot now (rests_at now places.old) places.old places.new }
 {
     turn_slot(places, buffer, slot, now);
     tell_slot(places, slot_across(slot), now);
@@ -234,7 +237,8 @@ fn turn_slot<W: LineWire + Drop>(
     now: u64,
 )
     requires { slot < most_slots }
-    ensures { EachGoes (λ i. if nat_eq (slot_of i) slot then visit_of now (rests_at now places.old i) ∷ [] else []) places.old places.new }
+    ensures goes { EachGoes (λ i. if nat_eq (slot_of i) slot then visit_of now (rests_at now places.old i) ∷ [] else []) places.old places.new }
+    ensures tells { SlotTells slot now (rests_at now places.old) places.old places.new }
 {
     let rounds = places.len() / SLOTS + 1;
     for round in 0..rounds {
@@ -248,7 +252,8 @@ fn turn_slot<W: LineWire + Drop>(
 /// The wire of each line of a slot is told the time, where something is due.
 fn tell_slot<W: LineWire + Drop>(places: &mut [Place<W>], slot: usize, now: u64)
     requires { slot < most_slots }
-    ensures { EachGoes (λ i. []) places.old places.new }
+    ensures goes { EachGoes (λ i. []) places.old places.new }
+    ensures others { EachComes (λ i before after. nat_eq (slot_of i) slot ≡ false → after ≡ before) places.old places.new }
 {
     let rounds = places.len() / SLOTS + 1;
     for round in 0..rounds {

@@ -3,7 +3,7 @@ ghost use Rattle.std.specs.Prelude.{◌≡◌, List, [], ◌∷◌, not, true, f
 ghost use Rattle.fax_timers.specs.Moments.{is_due};
 ghost use Rattle.fax_gateway.specs.Restored.{RestoredCall};
 ghost use Rattle.fax_line.specs.Actions.{BeginsWith, Rings, Wakes, call_of};
-ghost use Rattle.fax_line.specs.Places.{BeginsInPlace, GoesInPlace, is_at_rest, visit_of};
+ghost use Rattle.fax_line.specs.Places.{BeginsInPlace, GoesInPlace, TellsOrRests, is_at_rest, visit_of};
 ghost use Rattle.fax_line.specs.Settling.{EndsTurn, HandsOver};
 
 use crate::line::Line;
@@ -79,6 +79,7 @@ impl<W: LineWire + Drop> Place<W> {
     pub fn visit(&mut self, buffer: &mut Buffer, now: u64)
         ensures goes { GoesInPlace (visit_of now (is_at_rest now self.old) ∷ []) self.old self.new }
         ensures turned { self.new.turned ≡ not (is_at_rest now self.old) }
+        ensures tells { TellsOrRests now (is_at_rest now self.old) self.old self.new }
         ensures rests { is_at_rest now self.old ≡ true → self.new.line ≡ self.old.line }
     {
         if self.is_at_rest(now) {

@@ -27,7 +27,7 @@ loop-round-preserved g c =
           let is_old : (d : PlaceValue) → old ≡ slice_index_or places at d = λ d. get_or_default places at w.index-places-i.result d w.if-i-places.true in
           subst (λ (l : List PlaceValue). EachGoes (λ i. []) olds l × Rounds (ends_if slot pages is_kept) (round + 1) olds l) (sym w.places-is) (
             told_on at olds places new w.if-i-places.true (λ d. subst (λ (l : PlaceValue). GoesInPlace [] l new) (is_old d) w.end_turn.ensures.goes) before.0,
-            ends_on slot round at olds places old new pages is_kept refl c.requires w.if-i-places.true is_old before.1 (sym w.has_page.ensures ∙ w.if-has_page.true) w.end_turn.ensures.ends,
+            ends_on slot round at olds places old new pages is_kept refl c.requires w.if-i-places.true is_old before.1 (sym w.has_page.ensures ∙ w.if-has_page.true) (w.end_turn.ensures.ends, w.end_turn.ensures.turned),
           )
       | else-i-places w ↦
           subst (λ (l : List PlaceValue). EachGoes (λ i. []) olds l × Rounds (ends_if slot pages is_kept) (round + 1) olds l) (sym w.places-is) (

@@ -1,6 +1,6 @@
 use Rattle.std.proofs.Common.{Bool, [], List, is_ok, subst}
 use Rattle.fax_line.specs.declared.settling.PageToKeep.{PageToKeep}
-use Rattle.fax_line.specs.Settling.{EachComes}
+use Rattle.fax_line.specs.Deeds.{EachComes}
 use Rattle.fax_line.proofs.Slots.{ends_if, slot_ends}
 use Rattle.fax_line.proofs.Stepping.{each_more}
 use Rattle.fax_line.proofs.lines.settle_places.Goals as goal

@@ -2,11 +2,11 @@ use Rattle.std.proofs.Common.{◌+◌, [], ◌∷◌, ◌∙◌, List, ℕ, Opti
 use Rattle.fax_gateway.specs.Wires.{Grows}
 use Rattle.fax_gateway.proofs.DrivingLemmas.{grows_more, grows_none}
 use Rattle.fax_line.specs.declared.order.Order.{Order}
-use Rattle.fax_line.specs.Deeds.{rests_at, slot_before}
+use Rattle.fax_line.specs.Deeds.{SlotTells, TurnsSlot, Went, rests_at, slot_before}
 use Rattle.fax_line.specs.KeptRuns.{IsSettledIf}
 use Rattle.fax_line.specs.Runs.{Done, Rung, Turned, Woken, call_if, words_of}
 use Rattle.fax_line.specs.Words.{Asks}
-use Rattle.fax_line.proofs.KeptRunning.{ran_is, ran_none, ran_rung, ran_turned, ran_woken, slot_back, went_ring, went_turn}
+use Rattle.fax_line.proofs.KeptRunning.{of_turn, ran_is, ran_none, ran_rung, ran_turned, ran_woken, slot_back, went_ring}
 use Rattle.fax_line.proofs.Running.{no_order, rising, run_is, rung_on, settled_on, turned_on, went_none, woken_on}
 use Rattle.fax_line.proofs.run.serve.Goals as goal
 use Rattle.fax_line.proofs.run.serve.Goals.{in-Turn, in-Ring, in-Wake}
@@ -58,14 +58,17 @@ loop-preserved g c =
           let told = g.P.Pace.words w.settle.new.pace in
           let more = settled_on first w.max-latest.result (c.loop.counter + 1) w.turn.new.self.slot w.settle.new.lines.slot (d ∷ done) olds w.turn.new.self.lines w.settle.new.lines.lines
           before asked_of told turned w.settle.ensures.went w.settle.ensures.slot w.settle.ensures.words in
-          let went = went_turn first w.in-Turn.now c.loop.latest w.max-latest.result c.loop.lines.slot rests done c.loop.lines.lines w.turn.new.self.lines run.slot_is run.moment_is w.max-latest.ensures w.turn.ensures.went in
+          let went = of_turn (λ (slot now : ℕ). Went (TurnsSlot slot now rests ∷ []) c.loop.lines.lines w.turn.new.self.lines) first w.in-Turn.now c.loop.latest w.max-latest.result c.loop.lines.slot done
+          run.slot_is run.moment_is w.max-latest.ensures w.turn.ensures.went in
+          let tells = of_turn (λ (slot now : ℕ). SlotTells slot now rests c.loop.lines.lines w.turn.new.self.lines) first w.in-Turn.now c.loop.latest w.max-latest.result c.loop.lines.slot done
+          run.slot_is run.moment_is w.max-latest.ensures w.turn.ensures.tells in
           let settled = subst (λ (s : ℕ). IsSettledIf same puts notes ends s w.turn.new.self.lines w.settle.new.lines.lines c.loop.keeper w.settle.new.keeper)
           (ap slot_before w.turn.ensures.slot ∙ slot_back c.loop.lines.slot ∙ run.slot_is) w.settle.ensures.settled in (
             d ∷ done,
             run_is first (c.loop.counter + 1) (d ∷ done) olds before w.max-latest.result c.match-order.latest w.settle.new.lines c.match-order.lines told (g.P.Pace.words c.match-order.pace)
                 w.latest-is w.lines-is (ap g.P.Pace.words w.pace-is) more,
             ran_is K same puts notes ends first (d ∷ done) olds w.settle.new.lines c.match-order.lines kept w.settle.new.keeper c.match-order.keeper w.lines-is w.keeper-is
-                (ran_turned K same puts notes ends first w.in-Turn.now rests done olds c.loop.lines.lines w.turn.new.self.lines w.settle.new.lines.lines kept c.loop.keeper w.settle.new.keeper ran went settled),
+                (ran_turned K same puts notes ends first w.in-Turn.now rests done olds c.loop.lines.lines w.turn.new.self.lines w.settle.new.lines.lines kept c.loop.keeper w.settle.new.keeper ran went tells settled),
           )
       | in-Ring w ↦
           let asked = subst (λ (o : Option Order). Grows (Asks o ∷ []) now_told asked_of) (c.in-Some.is ∙ ap (λ (o : Order). Some o) w.in-Ring.is) c.next.ensures in
