@@ -5,4 +5,3 @@ pub mod KeptRuns
 pub mod Legs
 pub mod Openings
 pub mod Runs
-pub mod SpoolKeeping

@@ -1,6 +1,6 @@
 //! What keeps the pages of a server on a disk.
 ghost use Rattle.std.specs.Prelude.{◌≡◌};
-ghost use Rattle.fax_serve.specs.SpoolKeeping.{IsUnchanged};
+ghost use Rattle.fax_shelf.specs.SpoolKeeping.{IsUnchanged};
 
 use fax_hold::{KeepFault, Keeper};
 use fax_jobs::Report;
@@ -34,7 +34,7 @@ impl SpoolKeeper {
 /// What it keeps are records of its spool.
 impl Keeper<PageToKeep> for SpoolKeeper {
     ghost use Rattle.fax_shelf.specs.Keeping.{KeepsPages};
-    ghost use Rattle.fax_serve.specs.SpoolKeeping.{PutsPages};
+    ghost use Rattle.fax_shelf.specs.SpoolKeeping.{PutsPages};
 
     ghost keeps = { λ keeper pages. KeepsPages ⟦<KeptFile as Disk>⟧.seen ⟦<KeptFile as Disk>⟧.may_leave ⟦<KeptFile as Disk>⟧.is_usable keeper.keeping.spool pages };
 
@@ -46,11 +46,11 @@ impl Keeper<PageToKeep> for SpoolKeeper {
 }
 
 impl RunKeeper for SpoolKeeper {
-    ghost use Rattle.fax_serve.specs.SpoolKeeping.{EndsJobIf, IsUnchanged, NotesPage};
+    ghost use Rattle.fax_shelf.specs.SpoolKeeping.{EndsJobIf, IsUnchanged, NotesPage};
 
     ghost is_same = { λ old new. IsUnchanged old.keeping.shelves.items new.keeping.shelves.items old.keeping.spool new.keeping.spool };
 
-    ghost notes = { λ line call old new. NotesPage old.keeping.shelves.items new.keeping.shelves.items old.keeping.spool new.keeping.spool };
+    ghost notes = { λ line call old new. NotesPage line call old.keeping.shelves.items new.keeping.shelves.items old.keeping.spool new.keeping.spool };
 
     ghost ends = { λ line report old new. EndsJobIf ⟦<KeptFile as Disk>⟧.seen ⟦<KeptFile as Disk>⟧.may_leave ⟦<KeptFile as Disk>⟧.is_usable line report old.keeping.shelves.items new.keeping.shelves.items old.keeping.spool new.keeping.spool };
 

@@ -1,6 +1,6 @@
 //! What gives the orders: the clock, and those who say words.
 ghost use Rattle.std.specs.Prelude.{◌≡◌, ◌-◌, nat_lt, if◌then◌else◌};
-ghost use Rattle.fax_serve.specs.SpoolKeeping.{IsUnchanged};
+ghost use Rattle.fax_shelf.specs.SpoolKeeping.{IsUnchanged};
 
 use crate::answers::{
     answer_text, counters_of, counts_of, is_idle, leg_of, report_text, status_text,

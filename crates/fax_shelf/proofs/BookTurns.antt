@@ -4,8 +4,10 @@ use Rattle.std.specs.List.{All}
 use Rattle.std.proofs.lemmas.List.{append-nil, append_cancel_left}
 use Rattle.std.proofs.lemmas.List.Elements.{All-head, All-tail}
 use Rattle.std.proofs.lemmas.Grind.{flat_map-append}
+use Rattle.fax_runcodes.specs.Widths.{elements_of}
+use Rattle.fax_runcodes.specs.declared.format.Coding.TheVariants as codings
 use Rattle.fax_pagestore.specs.Pages.{IsPage, PageValue}
-use Rattle.fax_pagestore.specs.PageLaws.{WrittenPagesMean}
+use Rattle.fax_pagestore.specs.PageLaws.{PagesAreWritten, WrittenPagesMean}
 use Rattle.fax_jobs.specs.declared.report.Report.{Report}
 use Rattle.fax_jobs.specs.Jobs.{JobValue}
 use Rattle.fax_jobs.specs.Books.{Book}
@@ -29,7 +31,7 @@ use Rattle.fax_gateway.specs.Driving.{Entry, Accepts, AreReceives, BringsNone, C
 use Rattle.fax_gateway.specs.Turns.{kept_at, kept_if, kept_list, pages_kept}
 use Rattle.fax_gateway.proofs.DrivingLemmas.{sends_no_event}
 use Rattle.fax_line.specs.Actions.{LineValue}
-use Rattle.fax_line.specs.Settling.{IsKeptAs}
+use Rattle.fax_line.specs.Settling.{IsKeptAs, IsOfTurn}
 use Rattle.fax_line.specs.declared.settling.PageToKeep.{PageToKeep}
 use Rattle.fax_spool.specs.RecordOctets as spool
 use Rattle.fax_spool.specs.declared.kept_record.KeptRecord.TheVariants.{Page}
@@ -38,6 +40,7 @@ use Rattle.fax_shelf.specs.Restorations.{Means}
 use Rattle.fax_shelf.specs.Book.{Tiding, Confirms, confirms, confirms_on, reports, told_in}
 use Rattle.fax_shelf.specs.TurnsTold.{EndsIn, IsPutAs, TurnsTellBoth}
 use Rattle.fax_shelf.proofs.Lives.{kept_pages_are_read}
+use Rattle.fax_shelf.proofs.Packing.{bits_are_padded}
 
 -- ---- datagrams tell nothing
 
@@ -292,3 +295,40 @@ turns_tell_both newest origins mean setup writes older newer line ends =
           tells_one newest origins mean setup writes older newer line.turned.report line.turned.kept line.gateway.book is.kept page value turn ends.reached.is_trace ends.reached.book ends.tells.reports
           ends.tells.pages is.told is.is_kept_as recorded;
     }
+
+-- ---- where memory was refused for its text
+
+-- a turn that confirmed a page has one, whatever became of its text
+pub turn_has_page : ConfirmsTheNewest → JobsAreOfTheirCalls → PagesAreWritten → (setup : Setup) (writes : Writing) (older newer : List Event) (line : LineValue) (number : ℕ) (kept : Kept)
+    → EndsIn setup writes older newer line → line.turned.kept ≡ Some kept → (page : PageToKeep) × (page.kept ≡ kept) × IsOfTurn line page
+turn_has_page newest origins written setup writes older newer line number kept ends some = by (turned setup writes older newer line ends)
+  where
+    none_some : (k : Kept) → None ≡ Some k → ⊥
+    none_some k e = cc
+
+    by : Turned setup older newer → (page : PageToKeep) × (page.kept ≡ kept) × IsOfTurn line page
+    by (Refused quiet) =
+        let no_page : None ≡ line.turned.kept = same_kept None line.turned.kept (no_more (pages_kept setup older) (kept_list line.turned.kept) (sym quiet.pages ∙ ends.tells.pages)) in
+        absurd (none_some kept (no_page ∙ some))
+    by (Ticked between now given quiet at) =
+        let trace : IsTrace setup writes (Tick now given ∷ between) = subst (λ (t : List Event). IsTrace setup writes t) at ends.reached.is_trace in
+        let book : line.gateway.book ≡ book_of (sides setup writes (Tick now given ∷ between)) = ends.reached.book ∙ ap (λ (t : List Event). book_of (sides setup writes t)) at in
+        let is_kept : kept_at (calling_leg setup between) (max now (clock between)) ≡ line.turned.kept =
+        tick_kept setup older between now given line.turned.kept quiet (subst (λ (t : List Event). pages_kept setup t ≡ pages_kept setup older ++ kept_list line.turned.kept) at ends.tells.pages) in
+        let told : Told (calling_leg setup between) (max now (clock between)) given.on_calling kept = told_leg (calling_leg setup between) (max now (clock between)) given.on_calling kept (is_kept ∙ some) in
+        let own : PageValue = told.confirmed.page in
+        let is_newest : newest_page line.gateway.book ≡ Some own = ap (λ (b : Book). newest_page b) book ∙ newest setup writes now given between told.confirmed trace told.at in
+        let jobs = origins setup writes (Tick now given ∷ between) trace in
+        let is_page : IsPage own =
+        newest_is_page setup (Tick now given ∷ between) (past_of (sides setup writes (Tick now given ∷ between))) own jobs.0 jobs.1 (ap (λ (b : Book). newest_page b) (sym book) ∙ is_newest) in
+        let text = written (elements_of own.format.width) codings.Mr own.format.fine 0 own.rows is_page in
+        let octets = bits_are_padded text.0 in
+        let page : PageToKeep = record { line = number; kept = kept; text = octets.0 } in (
+          page,
+          refl,
+          record {
+            kept = kept;
+            told = some;
+            is_kept_as = record { told = refl; page = own; newest_is = is_newest; text = text.0; writes = text.1; octets = octets.1 };
+          },
+        )

@@ -8,6 +8,11 @@ pub mod Calls
 mod Cut
 mod Lives
 mod Naming
+mod Packing
+mod PastEnds
+mod PastPuts
+pub mod PastRuns
+mod Pasts
 mod Records
 mod Shelving
 mod Slots

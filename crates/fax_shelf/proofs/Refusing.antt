@@ -132,7 +132,7 @@ module _ {D : Type 0} (seen : D → List ℕ) (may_leave : D → List ℕ → Ty
   off true = refl
   off false = refl
 
-  refusing : (spool : Spool D) (shelf : ShelfValue) → Refuses spool → notes_of spool shelf ≡ false
+  pub refusing : (spool : Spool D) (shelf : ShelfValue) → Refuses spool → notes_of spool shelf ≡ false
   refusing spool shelf refuses = ap (λ (b : Bool). shelf.is_whole && not b) refuses ∙ off shelf.is_whole
 
   sure_so : (spool : Spool D) (shelf : ShelfValue) → shelf.is_whole ≡ true → refuses_now spool ≡ false → notes_of spool shelf ≡ true

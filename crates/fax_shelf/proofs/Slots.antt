@@ -38,7 +38,7 @@ one_each (page ∷ pages) all = (
 
 -- ---- one shelf behind another
 
-set_other : (shelves : List ShelfValue) (place other : ℕ) (shelf : ShelfValue) → place ≢ other → slice_get (slice_set shelves place shelf) other ≡ slice_get shelves other
+pub set_other : (shelves : List ShelfValue) (place other : ℕ) (shelf : ShelfValue) → place ≢ other → slice_get (slice_set shelves place shelf) other ≡ slice_get shelves other
 set_other [] place other shelf unlike = refl
 set_other (s ∷ shelves) zero zero shelf unlike = absurd (unlike refl)
 set_other (s ∷ shelves) zero (suc other) shelf unlike = refl

@@ -15,7 +15,7 @@ use Rattle.fax_shelf.specs.Jobs.{EndsJob, PagesWait}
 
 -- ---- records
 
-one_more : (pages : List PageValue) (records : List KeptRecord) (r : KeptRecord) → waiting_behind pages (records ++ r ∷ []) ≡ after (waiting_behind pages records) r
+pub one_more : (pages : List PageValue) (records : List KeptRecord) (r : KeptRecord) → waiting_behind pages (records ++ r ∷ []) ≡ after (waiting_behind pages records) r
 one_more pages [] r = refl
 one_more pages (q ∷ records) r = one_more (after pages q) records r
 

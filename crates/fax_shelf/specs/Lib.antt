@@ -1,8 +1,10 @@
 pub mod Book
+pub mod Histories
 pub mod Jobs
 pub mod Keeping
 pub mod Lives
 pub mod Refusals
 pub mod Restorations
 pub mod Shelves
+pub mod SpoolKeeping
 pub mod TurnsTold

@@ -8,7 +8,7 @@ ghost use Rattle.fax_line.specs.declared.settling.PageToKeep.{PageToKeep as ToKe
 ghost use Rattle.fax_shelf.specs.Jobs.{EndsJob, EndsJobAt, PagesWait};
 ghost use Rattle.fax_shelf.specs.Keeping.{AddAll, AddsAt, Agree, AllAreAmong, ArePut, HaveOwnNames, KeepsPages};
 ghost use Rattle.fax_shelf.specs.Refusals.{AreRefused, EndsSomehow, EndsSomehowAt, PutsEnd, WaitSo, notes_of};
-ghost use Rattle.fax_shelf.specs.Shelves.{first_tag, is_of_earlier_life};
+ghost use Rattle.fax_shelf.specs.Shelves.{ShelfValue, first_tag, is_of_earlier_life};
 
 use crate::putting::{CallTag, Names, put_pages};
 use crate::shelf::{Ended, Shelf, Waiting};
@@ -214,6 +214,7 @@ impl Keeping {
     pub fn end(&mut self, i: usize, report: Report) -> Result<(), KeepFault>
         ensures agree { OnOk result (HaveOwnNames self.old.shelves.items → Agree ⟦<KeptFile as Disk>⟧.seen ⟦<KeptFile as Disk>⟧.may_leave ⟦<KeptFile as Disk>⟧.is_usable self.old.spool self.old.shelves.items → Agree ⟦<KeptFile as Disk>⟧.seen ⟦<KeptFile as Disk>⟧.may_leave ⟦<KeptFile as Disk>⟧.is_usable self.new.spool self.new.shelves.items) }
         ensures ends { OnOk result (EndsJobAt ⟦<KeptFile as Disk>⟧.seen ⟦<KeptFile as Disk>⟧.may_leave ⟦<KeptFile as Disk>⟧.is_usable report.pages i self.old.shelves.items self.new.shelves.items self.old.spool self.new.spool) }
+        ensures sure { OnOk result ((shelf : ShelfValue) → slice_get self.old.shelves.items i ≡ Some shelf → notes_of self.old.spool shelf ≡ true) }
         ensures deed { OnErr result (i < length self.old.shelves.items → EndsSomehowAt ⟦<KeptFile as Disk>⟧.seen ⟦<KeptFile as Disk>⟧.may_leave ⟦<KeptFile as Disk>⟧.is_usable report.pages i self.old.shelves.items self.new.shelves.items self.old.spool self.new.spool) }
         ensures refuses { Refuses self.old.spool → IsErr result × (self.new.spool ≡ self.old.spool) }
     {

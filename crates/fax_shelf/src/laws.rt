@@ -6,6 +6,7 @@ ghost use Rattle.fax_shelf.specs.Shelves.{NoneIsForgotten};
 use fax_pagestore::laws::{pages_are_unique, written_pages_mean};
 
 pub mod book;
+pub mod histories;
 
 /// The record of a job's end names no page but its own: each page that stays on the shelf waits on the disk as it did.
 pub fn ended_jobs_forget_no_other_page()

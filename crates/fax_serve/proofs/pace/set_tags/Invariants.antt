@@ -1,4 +1,4 @@
-use Rattle.fax_serve.specs.SpoolKeeping.{IsUnchanged}
+use Rattle.fax_shelf.specs.SpoolKeeping.{IsUnchanged}
 use Rattle.fax_serve.proofs.pace.set_tags.Given as goal
 
 -- what is kept is the same so far

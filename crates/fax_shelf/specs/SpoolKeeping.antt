@@ -1,12 +1,13 @@
 -- What a run makes of the pages that are kept on a disk: of the shelves of its lines, and of the spool. (This project's profile.)
-use Rattle.std.specs.Prelude.{◌≡◌, ◌<◌, ℕ, Bool, true, false, List, length, All}
+use Rattle.std.specs.Prelude.{◌≡◌, ◌<◌, ℕ, Bool, true, false, List, length, All, Some, slice_get}
 use Rattle.fax_jobs.specs.declared.report.Report.{Report}
 use Rattle.fax_line.specs.declared.settling.PageToKeep.{PageToKeep}
+use Rattle.fax_spool.specs.Calls.{Refuses}
 use Rattle.fax_spool.specs.Waits.{PageName}
 use Rattle.fax_spool.specs.declared.spool.Spool.{Spool}
 use Rattle.fax_shelf.specs.Jobs.{EndsJobAt}
-use Rattle.fax_shelf.specs.Keeping.{Agree, AllAreAmong, ArePut, HaveOwnNames}
-use Rattle.fax_shelf.specs.Refusals.{AreRefused, EndsSomehowAt}
+use Rattle.fax_shelf.specs.Keeping.{AddsAt, Agree, AllAreAmong, ArePut, HaveOwnNames}
+use Rattle.fax_shelf.specs.Refusals.{AreRefused, EndsSomehowAt, notes_of}
 use Rattle.fax_shelf.specs.Shelves.{ShelfValue}
 
 -- both are as they were
@@ -16,22 +17,27 @@ pub record IsUnchanged {D : Type 0} (olds news : List ShelfValue) (before after 
 
 -- Pages were put, all of them at once: where the answer is Ok they are on the disk and on the shelves of their lines (`ArePut`);
 -- where it is not, they are on the shelves alone, and on the disk all of them or none (`AreRefused`): then no shelf says more to be
--- on the disk than it did.
+-- on the disk than it did. A spool that refuses answers so, and nothing changes in it.
 pub record PutsPages {D : Type 0} (seen : D → List ℕ) (may_leave : D → List ℕ → Type 0) (is_usable : D → Bool) (pages : List PageToKeep) (is_kept : Bool) (olds news : List ShelfValue) (before after : Spool D) : Type 0 where
   pub put : is_kept ≡ true → ArePut seen may_leave is_usable pages olds news before after
   pub agree : is_kept ≡ true → Agree seen may_leave is_usable before olds → Agree seen may_leave is_usable after news
   pub refused : is_kept ≡ false → All (λ page. page.line < length olds) pages → AreRefused seen may_leave is_usable pages olds news before after
   pub names : is_kept ≡ false → (names : List PageName) → AllAreAmong olds names → AllAreAmong news names
+  pub refuses : Refuses before → (is_kept ≡ false) × (after ≡ before)
 
--- a page that was not handed over is noted: no shelf says more to be on the disk than it did
-pub record NotesPage {D : Type 0} (olds news : List ShelfValue) (before after : Spool D) : Type 0 where
+-- a page of a line that was not handed over is noted: it is on the shelf, and no shelf says more to be on the disk than it did
+pub record NotesPage {D : Type 0} (line call : ℕ) (olds news : List ShelfValue) (before after : Spool D) : Type 0 where
   pub spool : after ≡ before
+  pub waits : (life number : ℕ) × AddsAt (record { life = life; call = call; number = number; is_kept = false }) line olds news
   pub names : (names : List PageName) → AllAreAmong olds names → AllAreAmong news names
 
 -- The end of a job of a line was noted, as the job of so many pages as its report counts that is first on its line's shelf
--- (`EndsJobAt`); or it was not: then it has a record on the disk, or none, or none of its pages is there (`EndsSomehowAt`).
+-- (`EndsJobAt`); or it was not: then it has a record on the disk, or none, or none of its pages is there (`EndsSomehowAt`). A spool
+-- that refuses notes none, and nothing changes in it.
 pub record EndsJobIf {D : Type 0} (seen : D → List ℕ) (may_leave : D → List ℕ → Type 0) (is_usable : D → Bool) (line : ℕ) (report : Report) (olds news : List ShelfValue) (before after : Spool D) : Type 0 where
   pub noted : Bool
   pub ends : noted ≡ true → EndsJobAt seen may_leave is_usable report.pages line olds news before after
   pub left : noted ≡ false → line < length olds → EndsSomehowAt seen may_leave is_usable report.pages line olds news before after
   pub agree : noted ≡ true → HaveOwnNames olds → Agree seen may_leave is_usable before olds → Agree seen may_leave is_usable after news
+  pub sure : noted ≡ true → (shelf : ShelfValue) → slice_get olds line ≡ Some shelf → notes_of before shelf ≡ true
+  pub refuses : Refuses before → (noted ≡ false) × (after ≡ before)

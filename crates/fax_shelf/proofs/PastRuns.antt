@@ -1,0 +1,714 @@
+-- A run makes history: what becomes of a line and its past, order by order.
+use Rattle.std.proofs.Common.{◌≡◌, ◌≢◌, ◌∙◌, ℕ, zero, suc, max, ◌<◌, ◌≤◌, inl, inr, Bool, true, false, ◌&&◌, ◌||◌, nat_eq, if◌then◌else◌, List, [], ◌∷◌, ◌++◌, length, All, AllPairs, Option, Some, None, is_ok, slice_get, slice_index_or, arith, refl, sym, ap, subst, append_assoc, append-nil}
+use Rattle.std.proofs.lemmas.Bool.{eqb-true}
+use Rattle.fax_pagestore.specs.PageLaws.{PagesAreWritten}
+use Rattle.fax_jobs.specs.declared.report.Report.{Report}
+use Rattle.fax_call.specs.Writings.{IsWriting, Writing}
+use Rattle.fax_gateway.specs.declared.given.Kept.{Kept}
+use Rattle.fax_gateway.specs.declared.turned.Turned.{Turned as Told}
+use Rattle.fax_gateway.specs.Newest.{ConfirmsTheNewest}
+use Rattle.fax_gateway.specs.Origins.{JobsAreOfTheirCalls}
+use Rattle.fax_gateway.specs.Restored.{CallPage, RestoredCall}
+use Rattle.fax_gateway.specs.Setups.{Setup}
+use Rattle.fax_gateway.specs.Events.{Event, Ring}
+use Rattle.fax_gateway.specs.Reached.{GatewayValue, IsReachedBy}
+use Rattle.fax_gateway.specs.Driving.{Accepts, DriverValue, Entry, HasMade, RefusesRing, events}
+use Rattle.fax_hold.specs.Keeping.{PutsIf}
+use Rattle.fax_line.specs.Actions.{Action, Goes, IsRung, LineValue, Rests, Rings, TellsTurn, Turns, Wakes}
+use Rattle.fax_line.specs.Deeds.{RingsLine, SlotTells, TurnsSlot, WakesLine, Went, actions_of, slot_of}
+use Rattle.fax_line.specs.Places.{PlaceValue, TellsOrRests}
+use Rattle.fax_line.specs.Runs.{Done, Rung, Turned, Woken, call_if, latest, next_slot}
+use Rattle.fax_line.specs.KeptRuns.{EndsIf, IsSettled, NotesIf, Ran, TellsFirst, TellsPlace, TellsWhere, kept_if, kept_pages}
+use Rattle.fax_line.specs.Settling.{EndsTurn, EndsWhere, IsOfTurn, IsPageOf, has_page, is_kept_in, was_turned}
+use Rattle.fax_line.specs.declared.settling.PageToKeep.{PageToKeep}
+use Rattle.fax_line.specs.declared.settling.SlotEnd.{SlotEnd}
+use Rattle.fax_spool.specs.RecordOctets as spool
+use Rattle.fax_spool.specs.Opened.{closed, newer_of, older_of}
+use Rattle.fax_spool.specs.Spools.{epoch_now}
+use Rattle.fax_spool.specs.Waits.{waiting}
+use Rattle.fax_spool.specs.declared.kept_record.KeptRecord.{KeptRecord}
+use Rattle.fax_spool.specs.declared.spool.Spool.{Spool}
+use Rattle.fax_spool.specs.declared.kept_record.KeptRecord.TheVariants.{Epoch, Page}
+use Rattle.fax_shelf.specs.Restorations.{Restores, calls_of}
+use Rattle.fax_shelf.specs.Shelves.{ShelfValue, lines_of}
+use Rattle.fax_shelf.specs.Keeping.{IsRecordOf}
+use Rattle.fax_shelf.specs.Lives.{Goes as GoesOn, OwedIsRestored, Stops, closed_read, owed, state_of}
+use Rattle.fax_shelf.specs.Refusals.{notes_of}
+use Rattle.fax_shelf.specs.Book.{Confirms, Restores as RestoresCalls, Tiding, page_of, reports, told_by, told_in, told_over}
+use Rattle.fax_shelf.specs.TurnsTold.{EndsIn, IsPutAs, TellsBoth, TurnsTellBoth}
+use Rattle.fax_shelf.specs.SpoolKeeping.{EndsJobIf, IsUnchanged, NotesPage, PutsPages}
+use Rattle.fax_shelf.specs.Histories.{AreKeptOf, HasPast, OpeningsFindWhatWaits, RunsMakeHistory}
+use Rattle.fax_shelf.proofs.BookTurns.{turn_has_page}
+use Rattle.fax_shelf.proofs.Lives.{restarts_are_deeds}
+use Rattle.fax_shelf.proofs.Waits.{one_more}
+use Rattle.fax_shelf.proofs.Pasts.{PastAs, wait_map}
+use Rattle.fax_shelf.proofs.PastPuts.{AreOtherNames, HasPage, IsConfirmed, kept_of_none, line_at, own_err, own_ok, puts_others, puts_stay}
+use Rattle.fax_shelf.proofs.PastEnds.{Held, other_ended, other_noted, own_ended, own_noted}
+
+-- ---- the gateway of a line
+
+-- A trace led to its gateway, by which this is told behind what was told before it.
+record Reaches (setup : Setup) (writes : Writing) (before t : List Tiding) (line : LineValue) : Type 0 where
+  trace : List Event
+  made : List Entry
+  reached : IsReachedBy setup writes trace line.gateway
+  driven : HasMade made line.driver
+  told : told_in setup trace before ≡ t
+
+-- actions in which no tick is
+abbrev AreQuiet : List Action → Type 0
+AreQuiet [] = Unit {0}
+AreQuiet (Turns now ∷ actions) = ⊥
+AreQuiet (Rests now ∷ actions) = AreQuiet actions
+AreQuiet (Rings now call ∷ actions) = AreQuiet actions
+AreQuiet (Wakes ∷ actions) = AreQuiet actions
+
+module _ (setup : Setup) (writes : Writing) (before : List Tiding) where
+  told_none : (log : List Entry) (trace : List Event) → log ≡ [] → told_in setup (events log ++ trace) before ≡ told_in setup trace before
+  told_none log trace none = ap (λ (l : List Entry). told_in setup (events l ++ trace) before) none
+
+  both_none : (newer older log : List Entry) → log ≡ newer ++ older → newer ≡ [] → older ≡ [] → log ≡ []
+  both_none newer older log is first second = is ∙ ap (λ (l : List Entry). l ++ older) first ∙ second
+
+  -- of a ring alone nothing is told
+  told_rung : (now : ℕ) (call : Option ℕ) (newer older log : List Entry) (trace : List Event) → log ≡ newer ++ older → IsRung now call newer → older ≡ [] → told_in setup (events log ++ trace) before ≡ told_in setup trace before
+  told_rung now (Some number) newer older log trace is rung none =
+      ap (λ (l : List Entry). told_in setup (events l ++ trace) before) (is ∙ ap (λ (l : List Entry). l ++ older) rung ∙ ap (λ (l : List Entry). Accepts (Ring now number) ∷ l) none)
+  told_rung now None newer older log trace is rung none =
+      ap (λ (l : List Entry). told_in setup (events l ++ trace) before) (is ∙ ap (λ (l : List Entry). l ++ older) rung.1 ∙ ap (λ (l : List Entry). RefusesRing rung.0 ∷ l) none)
+
+  goes_with : (t : List Tiding) (old new : LineValue) (action : Action) → AreQuiet (action ∷ []) → IsWriting writes → Goes (action ∷ []) old new → Reaches setup writes before t old → Reaches setup writes before t new
+  goes_with t old new (Turns now) quiet writing goes was = absurd quiet
+  goes_with t old new (Rests now) quiet writing goes was =
+      let it = goes.goes setup writes was.trace was.made writing was.reached was.driven in
+      record {
+        trace = events it.0 ++ was.trace;
+        made = it.0 ++ was.made;
+        reached = it.2.reached;
+        driven = it.3;
+        told = told_none it.0 was.trace (both_none it.1.0 it.1.1 it.0 it.1.2 it.1.3.0 it.1.4) ∙ was.told;
+      }
+  goes_with t old new (Rings now call) quiet writing goes was =
+      let it = goes.goes setup writes was.trace was.made writing was.reached was.driven in
+      record {
+        trace = events it.0 ++ was.trace;
+        made = it.0 ++ was.made;
+        reached = it.2.reached;
+        driven = it.3;
+        told = told_rung now call it.1.0 it.1.1 it.0 was.trace it.1.2 it.1.3 it.1.4 ∙ was.told;
+      }
+  goes_with t old new Wakes quiet writing goes was =
+      let it = goes.goes setup writes was.trace was.made writing was.reached was.driven in
+      record {
+        trace = events it.0 ++ was.trace;
+        made = it.0 ++ was.made;
+        reached = it.2.reached;
+        driven = it.3;
+        told = told_none it.0 was.trace (both_none it.1.0 it.1.1 it.0 it.1.2 it.1.3 it.1.4) ∙ was.told;
+      }
+
+  goes_still : (t : List Tiding) (old new : LineValue) → IsWriting writes → Goes [] old new → Reaches setup writes before t old → Reaches setup writes before t new
+  goes_still t old new writing goes was =
+      let it = goes.goes setup writes was.trace was.made writing was.reached was.driven in
+      record {
+        trace = events it.0 ++ was.trace;
+        made = it.0 ++ was.made;
+        reached = it.2.reached;
+        driven = it.3;
+        told = told_none it.0 was.trace it.1 ∙ was.told;
+      }
+
+  -- where its gateway and its driver stay
+  same_line : (t : List Tiding) (old new : LineValue) → new.gateway ≡ old.gateway → new.driver ≡ old.driver → Reaches setup writes before t old → Reaches setup writes before t new
+  same_line t old new gateway driver was = record {
+    trace = was.trace;
+    made = was.made;
+    reached = subst (λ (g : GatewayValue). IsReachedBy setup writes was.trace g) (sym gateway) was.reached;
+    driven = subst (λ (d : DriverValue). HasMade was.made d) (sym driver) was.driven;
+    told = was.told;
+  }
+
+  -- A turn: what is told of it, by what the line told.
+  record TurnsSo (t : List Tiding) (line : LineValue) : Type 0 where
+    older : List Event
+    newer : List Event
+    ends : EndsIn setup writes older newer line
+    was : told_in setup older before ≡ t
+    reaches : Reaches setup writes before (told_in setup newer before) line
+
+  goes_turned : (t : List Tiding) (now : ℕ) (old new : LineValue) → IsWriting writes → TellsTurn now old new → Reaches setup writes before t old → TurnsSo t new
+  goes_turned t now old new writing tells was =
+      let it = tells.tells setup writes was.trace was.made writing was.reached was.driven in
+      let newer : List Event = events it.0 ++ was.trace in
+      record {
+        older = was.trace;
+        newer = newer;
+        ends = record { now = now; log = it.0; turn = it.1; longer = refl; reached = it.2.reached; tells = it.4 };
+        was = was.told;
+        reaches = record { trace = newer; made = it.0 ++ was.made; reached = it.2.reached; driven = it.3; told = refl };
+      }
+
+-- ---- places in lists
+
+get_or : (lines : List PlaceValue) (number : ℕ) (other : PlaceValue) → number < length lines → slice_get lines number ≡ Some (slice_index_or lines number other)
+get_or [] number other low = absurd (omega (arith, low))
+get_or (l ∷ lines) zero other low = refl
+get_or (l ∷ lines) (suc number) other low = get_or lines number other (omega (arith, low))
+
+get_low : (lines : List PlaceValue) (number : ℕ) (place : PlaceValue) → slice_get lines number ≡ Some place → number < length lines
+get_low [] number place is = let no : None ≡ Some place = is in cc
+get_low (l ∷ lines) zero place is = omega arith
+get_low (l ∷ lines) (suc number) place is = let less : number < length lines = get_low lines number place is in omega (arith, less)
+
+nat_self : (n : ℕ) → nat_eq n n ≡ true
+nat_self n = grind (arith)
+
+-- no page is of a line that had no turn
+turned_so : (slot number line : ℕ) (lines : List PlaceValue) (other : PlaceValue) → line ≡ number → was_turned slot line (slice_index_or lines line other) ≡ true → was_turned slot number (slice_index_or lines number other) ≡ true
+turned_so slot number line lines other same on = subst (λ (n : ℕ). was_turned slot n (slice_index_or lines n other) ≡ true) same on
+
+none_first : (slot number : ℕ) (lines : List PlaceValue) (other : PlaceValue) (page : PageToKeep) (pages : List PageToKeep) → IsPageOf slot lines page → was_turned slot number (slice_index_or lines number other) ≡ false
+    → has_page pages number ≡ false → (b : Bool) → nat_eq page.line number ≡ b → (b || has_page pages number) ≡ false
+none_first slot number lines other page pages first none rest true is =
+    let on : was_turned slot number (slice_index_or lines number other) ≡ true = turned_so slot number page.line lines other (eqb-true page.line number is) (first.turned other) in
+    let wrong : true ≡ false = sym on ∙ none in absurd (let no_way : true ≡ false = wrong in cc)
+none_first slot number lines other page pages first none rest false is = rest
+
+none_turned : (slot number : ℕ) (lines : List PlaceValue) (other : PlaceValue) (pages : List PageToKeep) → All (IsPageOf slot lines) pages → was_turned slot number (slice_index_or lines number other) ≡ false
+    → has_page pages number ≡ false
+none_turned slot number lines other [] all none = refl
+none_turned slot number lines other (page ∷ pages) all none =
+    none_first slot number lines other page pages (all zero page (omega arith)) none (none_turned slot number lines other pages (λ k d low. all (suc k) d (omega (arith, low))) none) (nat_eq page.line number) refl
+
+-- ---- of the pages that were put, those of one line
+
+kept_both : (number : ℕ) (pages more : List PageToKeep) (puts others : List CallPage) → AreKeptOf number pages puts → AreKeptOf number more others → AreKeptOf number (pages ++ more) (puts ++ others)
+kept_both number [] more puts others are behind = subst (λ (p : List CallPage). AreKeptOf number more (p ++ others)) (sym are) behind
+kept_both number (page ∷ pages) more [] [] are behind = (are.0, kept_both number pages more [] [] are.1 behind)
+kept_both number (page ∷ pages) more [] (o ∷ others) are behind = inr (are.0, kept_both number pages more [] (o ∷ others) are.1 behind)
+kept_both number (page ∷ pages) more (p ∷ puts) others (inl is) behind = inl (is.0, is.1, kept_both number pages more puts others is.2 behind)
+kept_both number (page ∷ pages) more (p ∷ puts) others (inr is) behind = inr (is.0, kept_both number pages more (p ∷ puts) others is.1 behind)
+
+kept_if_none : (number : ℕ) (pages : List PageToKeep) (is_kept : Bool) → has_page pages number ≡ false → AreKeptOf number (kept_if is_kept pages) []
+kept_if_none number pages true none = kept_of_none number pages none
+kept_if_none number pages false none = refl
+
+-- ---- a slot's turn
+
+module _
+    {D K : Type 0} (seen : D → List ℕ) (may_leave : D → List ℕ → Type 0) (is_usable : D → Bool) (shelves_of : K → List ShelfValue) (spool_of : K → Spool D) (number : ℕ) (line : List ℕ) (names : List (List ℕ))
+    (alone : AreOtherNames number line names) (low_number : number < length names) where
+  abbrev Holds : List Tiding → List CallPage → K → Type 0
+  Holds t q k = Held seen may_leave is_usable number line names t q (shelves_of k) (spool_of k)
+
+  abbrev Same : K → K → Type 0
+  Same old new = IsUnchanged (shelves_of old) (shelves_of new) (spool_of old) (spool_of new)
+
+  abbrev Puts : List PageToKeep → Bool → K → K → Type 0
+  Puts pages is_kept old new = PutsPages seen may_leave is_usable pages is_kept (shelves_of old) (shelves_of new) (spool_of old) (spool_of new)
+
+  abbrev Notes : ℕ → ℕ → K → K → Type 0
+  Notes place call old new = NotesPage place call (shelves_of old) (shelves_of new) (spool_of old) (spool_of new)
+
+  abbrev Ends : ℕ → Report → K → K → Type 0
+  Ends place report old new = EndsJobIf seen may_leave is_usable place report (shelves_of old) (shelves_of new) (spool_of old) (spool_of new)
+
+  holds_still : (t : List Tiding) (q : List CallPage) (k l : K) → Same k l → Holds t q k → Holds t q l
+  holds_still t q k l is held =
+      subst (λ (s : List ShelfValue). Held seen may_leave is_usable number line names t q s (spool_of l)) (sym is.shelves)
+      (subst (λ (p : Spool D). Held seen may_leave is_usable number line names t q (shelves_of k) p) (sym is.spool) held)
+
+  holds_same : (t : List Tiding) (q : List CallPage) (k l : K) → l ≡ k → Holds t q k → Holds t q l
+  holds_same t q k l is held = subst (λ (m : K). Holds t q m) (sym is) held
+
+  shelves_low : (t : List Tiding) (q : List CallPage) (k : K) → Holds t q k → length (shelves_of k) ≡ length names
+  shelves_low t q k held = sym (length_map (shelves_of k)) ∙ ap length held.lines
+    where
+      length_map : (shelves : List ShelfValue) → length (lines_of shelves) ≡ length shelves
+      length_map [] = refl
+      length_map (s ∷ shelves) = ap suc (length_map shelves)
+
+  -- of another line
+  other_line : (t : List Tiding) (q : List CallPage) (place : ℕ) (kept : Option Kept) (report : Option Report) (handed : Bool) (k between l : K) → place ≢ number → place < length names → NotesIf Notes place kept handed k between
+      → EndsIf Ends place report between l → Holds t q k → Holds t q l
+  other_line t q place kept report handed k between l unlike low notes ends held = ended report ends (noted kept handed notes)
+    where
+      noted : (o : Option Kept) (b : Bool) → NotesIf Notes place o b k between → Holds t q between
+      noted None b is = holds_same t q k between is held
+      noted (Some page) true is = holds_same t q k between is held
+      noted (Some page) false is = other_noted seen may_leave is_usable number line names alone low_number t q place page.call (shelves_of k) (shelves_of between) (spool_of k) (spool_of between) unlike is held
+
+      ended : (o : Option Report) → EndsIf Ends place o between l → Holds t q between → Holds t q l
+      ended None is was = holds_same t q between l is was
+      ended (Some r) is was = other_ended seen may_leave is_usable number line names alone low_number t q place r (shelves_of between) (shelves_of l) (spool_of between) (spool_of l) unlike low is was
+
+  other_place : (t : List Tiding) (q : List CallPage) (slot : ℕ) (pages : List PageToKeep) (place : ℕ) (o : Option PlaceValue) (k l : K) → place ≢ number → ((p : PlaceValue) → o ≡ Some p → place < length names)
+      → TellsPlace Notes Ends slot pages place o k l → Holds t q k → Holds t q l
+  other_place t q slot pages place None k l unlike low is held = holds_same t q k l is held
+  other_place t q slot pages place (Some p) k l unlike low is held = by (was_turned slot place p) is
+    where
+      by : (b : Bool) → TellsWhere Notes Ends place b p.line.turned (has_page pages place) k l → Holds t q l
+      by true told = other_line t q place p.line.turned.kept p.line.turned.report (has_page pages place) k told.0 l unlike (low p refl) told.1 told.2 held
+      by false told = holds_same t q k l told held
+
+  module _ (slot : ℕ) (pages : List PageToKeep) (lines : List PlaceValue) (as_many : length lines ≡ length names) where
+    low_so : (place : ℕ) (p : PlaceValue) → slice_get lines place ≡ Some p → place < length names
+    low_so place p is = let less : place < length lines = get_low lines place p is in omega (arith, less, as_many)
+
+    -- what each line of the slot tells, up to this one and behind it
+    first_before : (t : List Tiding) (q : List CallPage) (count : ℕ) (k l : K) → count ≤ number → TellsFirst Notes Ends slot pages lines count k l → Holds t q k → Holds t q l
+    first_before t q zero k l low is held = holds_same t q k l is held
+    first_before t q (suc count) k l low is held =
+        other_place t q slot pages count (slice_get lines count) is.0 l (λ same. omega (arith, low, same)) (λ p at. low_so count p at) is.2 (first_before t q count k is.0 (omega (arith, low)) is.1 held)
+
+    differs : (count : ℕ) → nat_eq count number ≡ false → count ≢ number
+    differs count none same = let on : true ≡ false = sym (nat_self number) ∙ ap (λ (n : ℕ). nat_eq n number) (sym same) ∙ none in cc
+
+    behind_one : (t u : List Tiding) (q : List CallPage) (count : ℕ) (k mid l : K) → ((a b : K) → TellsPlace Notes Ends slot pages number (slice_get lines number) a b → Holds t q a → Holds u q b) → number < suc count
+        → TellsFirst Notes Ends slot pages lines count k mid → TellsPlace Notes Ends slot pages count (slice_get lines count) mid l → Holds t q k → (number < count → Holds u q mid)
+        → (b : Bool) → nat_eq count number ≡ b → Holds u q l
+    behind_one t u q count k mid l own low first last held rest true on =
+        let same : count ≡ number = eqb-true count number on in
+        own mid l (subst (λ (n : ℕ). TellsPlace Notes Ends slot pages n (slice_get lines n) mid l) same last) (first_before t q count k mid (omega (arith, same)) first held)
+    behind_one t u q count k mid l own low first last held rest false off =
+        let differ : count ≢ number = differs count off in other_place u q slot pages count (slice_get lines count) mid l differ (λ p at. low_so count p at) last (rest (omega (arith, low, differ)))
+
+    first_behind : (t u : List Tiding) (q : List CallPage) (count : ℕ) (k l : K) → ((a b : K) → TellsPlace Notes Ends slot pages number (slice_get lines number) a b → Holds t q a → Holds u q b) → number < count
+        → TellsFirst Notes Ends slot pages lines count k l → Holds t q k → Holds u q l
+    first_behind t u q zero k l own low is held = absurd (omega (arith, low))
+    first_behind t u q (suc count) k l own low is held = behind_one t u q count k is.0 l own low is.1 is.2 held (λ less. first_behind t u q count k is.0 own less is.1 held) (nat_eq count number) refl
+
+  -- ---- the pages of a slot are put
+
+  put_others : (t : List Tiding) (q : List CallPage) (pages : List PageToKeep) (is_kept : Bool) (k l : K) → PutsIf Puts pages is_kept k l → All (λ page. page.line < length (shelves_of k)) pages → has_page pages number ≡ false → Holds t q k → Holds t q l
+  put_others t q [] is_kept k l put low none held = holds_same t q k l put.1 held
+  put_others t q (page ∷ pages) is_kept k l put low none held =
+      let stay = puts_stay seen may_leave is_usable number (page ∷ pages) is_kept (shelves_of k) (shelves_of l) (spool_of k) (spool_of l) put low none in record {
+        shelf = held.shelf;
+        there = stay.0 ∙ held.there;
+        named = held.named;
+        lines = stay.1 ∙ held.lines;
+        waits = puts_others seen may_leave is_usable number line t q held.shelf (page ∷ pages) is_kept (shelves_of k) (shelves_of l) (spool_of k) (spool_of l) put low
+            (subst (λ (n : List (List ℕ)). AreOtherNames number line n) (sym held.lines) alone) none held.waits;
+      }
+
+  -- the page is told, and put where the answer was Ok
+  abbrev HoldsSo : (List Tiding → Type 0) → List CallPage → List PageToKeep → K → Type 0
+  HoldsSo R q pages k = (u : List Tiding) × (r : List CallPage) × R u × AreKeptOf number pages r × Holds u (q ++ r) k
+
+  put_own : (t : List Tiding) (q : List CallPage) (R : List Tiding → Type 0) (pages : List PageToKeep) (is_kept : Bool) (k l : K) → PutsIf Puts pages is_kept k l → All (λ page. page.line < length (shelves_of k)) pages
+      → AllPairs (λ page behind. page.line < behind.line) pages → has_page pages number ≡ true
+      → ((at : ℕ) (page : PageToKeep) (value : spool.PageValue) → at < length pages → ((other : PageToKeep) → slice_index_or pages at other ≡ page) → page.line ≡ number → IsRecordOf page (Page value)
+      → (u : List Tiding) × R u × IsConfirmed seen may_leave is_usable t u value) → Holds t q k → HoldsSo R q (kept_if is_kept pages) l
+  put_own t q R [] is_kept k l put low rising has tell held = let no : false ≡ true = has in cc
+  put_own t q R (page ∷ pages) true k l put low rising has tell held =
+      as_so (own_ok seen may_leave is_usable number line t q held.shelf (page ∷ pages) (shelves_of k) (shelves_of l) (spool_of k) (spool_of l) R low
+      (subst (λ (n : List (List ℕ)). AreOtherNames number line n) (sym held.lines) alone) held.there held.named rising has tell (put.put refl) (λ refuses. let no : true ≡ false = (put.refuses refuses).0 in cc) held.waits)
+    where
+      as_so : HasPage seen may_leave is_usable number line q (page ∷ pages) R (shelves_of k) (shelves_of l) (spool_of l) → HoldsSo R q (page ∷ pages) l
+      as_so it = (it.tidings, it.puts, it.right, it.are_put, record { shelf = it.shelf; there = it.there; named = it.named; lines = it.lines ∙ held.lines; waits = it.waits })
+  put_own t q R (page ∷ pages) false k l put low rising has tell held =
+      as_so (own_err seen may_leave is_usable number line t q held.shelf (page ∷ pages) (shelves_of k) (shelves_of l) (spool_of k) (spool_of l) R low
+      (subst (λ (n : List (List ℕ)). AreOtherNames number line n) (sym held.lines) alone) held.there held.named rising has tell (put.refused refl low) (λ refuses. (put.refuses refuses).1) held.waits)
+    where
+      as_so : HasPage seen may_leave is_usable number line q [] R (shelves_of k) (shelves_of l) (spool_of l) → HoldsSo R q [] l
+      as_so it = (it.tidings, it.puts, it.right, it.are_put, record { shelf = it.shelf; there = it.there; named = it.named; lines = it.lines ∙ held.lines; waits = it.waits })
+
+  -- ---- the end of a slot's turn, of a line that had none
+
+  module _ (slot : ℕ) (end : SlotEnd) (turned lines : List PlaceValue) (k l : K) (settled : IsSettled Same Puts Notes Ends slot end turned lines k l) (many : length turned ≡ length names) where
+    pages_low : (t : List Tiding) (q : List CallPage) → Holds t q settled.begun → All (λ page. page.line < length (shelves_of settled.begun)) end.pages.items
+    pages_low t q held = λ i d less.
+        let there : (slice_index_or end.pages.items i d).line < length turned = (settled.pages.each i d less).there in
+        let same : length (shelves_of settled.begun) ≡ length names = shelves_low t q settled.begun held in omega (arith, there, same, many)
+
+    many_left : length lines ≡ length names
+    many_left = settled.settled.as_many ∙ many
+
+    low_left : number < length lines
+    low_left = let same : length lines ≡ length names = many_left in let low : number < length names = low_number in omega (arith, low, same)
+
+    low_turned : number < length turned
+    low_turned = let same : length turned ≡ length names = many in let low : number < length names = low_number in omega (arith, low, same)
+
+    low_count : number < settled.told.count
+    low_count = let low : number < length lines = low_left in let all : length lines ≤ settled.told.count = settled.told.all in omega (arith, low, all)
+
+    ends_where : (other : PlaceValue) → EndsWhere (was_turned slot number (slice_index_or turned number other)) (is_kept_in end number) (slice_index_or turned number other) (slice_index_or lines number other)
+    ends_where other = settled.settled.each number other low_turned
+
+    -- what a line of this number tells, by what it is
+    tells_at : (other : PlaceValue) (a b : K) → TellsPlace Notes Ends slot end.pages.items number (slice_get lines number) a b
+        → TellsWhere Notes Ends number (was_turned slot number (slice_index_or lines number other)) (slice_index_or lines number other).line.turned (has_page end.pages.items number) a b
+    tells_at other a b told = subst (λ (o : Option PlaceValue). TellsPlace Notes Ends slot end.pages.items number o a b) (get_or lines number other low_left) told
+
+    settles_still : (other : PlaceValue) (t : List Tiding) (q : List CallPage) → was_turned slot number (slice_index_or turned number other) ≡ false → Holds t q k → Holds t q l × (slice_index_or lines number other ≡ slice_index_or turned number other)
+    settles_still other t q none held =
+        let same : slice_index_or lines number other ≡ slice_index_or turned number other =
+        subst (λ (b : Bool). EndsWhere b (is_kept_in end number) (slice_index_or turned number other) (slice_index_or lines number other)) none (ends_where other) in
+        let begun : Holds t q settled.begun = holds_still t q k settled.begun settled.is_same held in
+        let put : Holds t q settled.kept =
+        put_others t q end.pages.items (is_ok end.answer) settled.begun settled.kept settled.put (pages_low t q begun) (none_turned slot number turned other end.pages.items settled.pages.each none) begun in
+        let off : was_turned slot number (slice_index_or lines number other) ≡ false = ap (λ (p : PlaceValue). was_turned slot number p) same ∙ none in (
+          first_behind slot end.pages.items lines many_left t t q settled.told.count settled.kept l
+              (λ a b told. holds_same t q a b (subst (λ (c : Bool). TellsWhere Notes Ends number c (slice_index_or lines number other).line.turned (has_page end.pages.items number) a b) off (tells_at other a b told)))
+              low_count settled.told.told put,
+          same,
+        )
+
+    -- ---- of a line that had one
+
+    module _
+        (tell_both : TurnsTellBoth) (newest : ConfirmsTheNewest) (origins : JobsAreOfTheirCalls) (written : PagesAreWritten) (setup : Setup) (writes : Writing) (before t : List Tiding) (other : PlaceValue)
+        (on : was_turned slot number (slice_index_or turned number other) ≡ true) (so : TurnsSo setup writes before t (slice_index_or turned number other).line) where
+      abbrev own_line : LineValue
+      own_line = (slice_index_or turned number other).line
+
+      both : TellsBoth setup so.older so.newer own_line
+      both = tell_both setup writes so.older so.newer own_line so.ends
+
+      -- told, but for the report
+      abbrev IsTold : List Tiding → Type 0
+      IsTold u = told_in setup so.newer before ≡ reports own_line.turned.report u
+
+      told_none_kept : own_line.turned.kept ≡ None → IsTold t
+      told_none_kept none = both.none none before ∙ ap (λ (u : List Tiding). reports own_line.turned.report u) so.was
+
+      told_put : (page : PageToKeep) (value : spool.PageValue) → IsOfTurn own_line page → IsRecordOf page (Page value) → (u : List Tiding) × IsTold u × IsConfirmed seen may_leave is_usable t u value
+      told_put page value is recorded =
+          let put : IsPutAs setup so.older so.newer own_line.turned.report value = both.one page value is recorded in
+          let u : List Tiding = Confirms put.given (page_of put.page) put.page.waits.closes ∷ t in (
+            u,
+            put.told before ∙ ap (λ (x : List Tiding). reports own_line.turned.report (Confirms put.given (page_of put.page) put.page.waits.closes ∷ x)) so.was,
+            record { page = put.page; waits = put.waits; means = put.means; given = put.given; tells = refl },
+          )
+
+      -- the page of this line among those that were put
+      told_page : (at : ℕ) (page : PageToKeep) (value : spool.PageValue) → at < length end.pages.items → ((d : PageToKeep) → slice_index_or end.pages.items at d ≡ page) → page.line ≡ number → IsRecordOf page (Page value)
+          → (u : List Tiding) × IsTold u × IsConfirmed seen may_leave is_usable t u value
+      told_page at page value less is_at same recorded =
+          let of : IsPageOf slot turned page = subst (λ (p : PageToKeep). IsPageOf slot turned p) (is_at page) (settled.pages.each at page less) in
+          let its : IsOfTurn own_line page = subst (λ (n : ℕ). IsOfTurn (slice_index_or turned n other).line page) same (of.is_of_turn other) in told_put page value its recorded
+
+      -- a page that was not handed over
+      told_noted : (kept : Kept) → own_line.turned.kept ≡ Some kept → (life its : ℕ)
+          → (u : List Tiding) × IsTold u × (value : spool.PageValue) × (value.line ≡ line) × (value.life ≡ life) × (value.call ≡ kept.call) × (value.number ≡ its) × IsConfirmed seen may_leave is_usable t u value
+      told_noted kept is life its =
+          let has = turn_has_page newest origins written setup writes so.older so.newer own_line number kept so.ends is in
+          let value : spool.PageValue = record { life = life; call = kept.call; number = its; format = kept.format; closes = kept.closes; line = line; tag = []; text = has.0.text } in
+          let recorded : IsRecordOf has.0 (Page value) = record {
+            value = value;
+            is_page = refl;
+            call = ap (λ (x : Kept). x.call) (sym has.1);
+            format = ap (λ (x : Kept). x.format) (sym has.1);
+            closes = ap (λ (x : Kept). x.closes) (sym has.1);
+            text = refl;
+          } in
+          let told = told_put has.0 value has.2 recorded in (told.0, told.1, value, refl, refl, refl, refl, told.2)
+
+      -- the report, behind the rest
+      told_report : (u : List Tiding) (q : List CallPage) (a b : K) → IsTold u → EndsIf Ends number own_line.turned.report a b → Holds u q a → Holds (told_in setup so.newer before) q b
+      told_report u q a b is ends held = by own_line.turned.report is ends
+        where
+          by : (o : Option Report) → told_in setup so.newer before ≡ reports o u → EndsIf Ends number o a b → Holds (told_in setup so.newer before) q b
+          by None is ends = subst (λ (x : List Tiding). Holds x q b) (sym is) (holds_same u q a b ends held)
+          by (Some report) is ends =
+              subst (λ (x : List Tiding). Holds x q b) (sym is)
+              (own_ended seen may_leave is_usable number line names alone low_number u q report (shelves_of a) (shelves_of b) (spool_of a) (spool_of b) ends held)
+
+      ended_so : EndsTurn (is_kept_in end number) own_line (slice_index_or lines number other).line × ((slice_index_or lines number other).turned ≡ (slice_index_or turned number other).turned)
+      ended_so = subst (λ (b : Bool). EndsWhere b (is_kept_in end number) (slice_index_or turned number other) (slice_index_or lines number other)) on (ends_where other)
+
+      still_on : was_turned slot number (slice_index_or lines number other) ≡ true
+      still_on = ap (λ (b : Bool). nat_eq (slot_of number) slot && b) ended_so.1 ∙ on
+
+      -- what the line tells its keeper
+      told_line : (a b : K) → TellsPlace Notes Ends slot end.pages.items number (slice_get lines number) a b
+          → (between : K) × NotesIf Notes number own_line.turned.kept (has_page end.pages.items number) a between × EndsIf Ends number own_line.turned.report between b
+      told_line a b told =
+          subst (λ (x : Told). TellsWhere Notes Ends number true x (has_page end.pages.items number) a b) ended_so.0.told
+          (subst (λ (c : Bool). TellsWhere Notes Ends number c (slice_index_or lines number other).line.turned (has_page end.pages.items number) a b) still_on (tells_at other a b told))
+
+      -- behind its turn all that the line told is told, and what was put with an Ok is put
+      settles_turned : (q : List CallPage) → Holds t q k → (r : List CallPage) × AreKeptOf number (kept_if (is_ok end.answer) end.pages.items) r × Holds (told_in setup so.newer before) (q ++ r) l
+      settles_turned q held = by_kept own_line.turned.kept refl (has_page end.pages.items number) refl
+        where
+          begun : Holds t q settled.begun
+          begun = holds_still t q k settled.begun settled.is_same held
+
+          behind : (u : List Tiding) (r : List CallPage) → ((a b : K) → TellsPlace Notes Ends slot end.pages.items number (slice_get lines number) a b → Holds u r a → Holds (told_in setup so.newer before) r b) → Holds u r settled.kept
+              → Holds (told_in setup so.newer before) r l
+          behind u r own put = first_behind slot end.pages.items lines many_left u (told_in setup so.newer before) r settled.told.count settled.kept l own low_count settled.told.told put
+
+          -- what was put is told already
+          reported : (u : List Tiding) (r : List CallPage) → IsTold u → ((a between : K) → NotesIf Notes number own_line.turned.kept (has_page end.pages.items number) a between → between ≡ a) → Holds u r settled.kept
+              → Holds (told_in setup so.newer before) r l
+          reported u r is none put = behind u r (λ a b told was. let it = told_line a b told in told_report u r it.0 b is it.2 (holds_same u r a it.0 (none a it.0 it.1) was)) put
+
+          put_none : has_page end.pages.items number ≡ false → Holds t q settled.kept
+          put_none off = put_others t q end.pages.items (is_ok end.answer) settled.begun settled.kept settled.put (pages_low t q begun) off begun
+
+          nothing_put : has_page end.pages.items number ≡ false → Holds (told_in setup so.newer before) q l
+              → (r : List CallPage) × AreKeptOf number (kept_if (is_ok end.answer) end.pages.items) r × Holds (told_in setup so.newer before) (q ++ r) l
+          nothing_put off left = (
+            [],
+            kept_if_none number end.pages.items (is_ok end.answer) off,
+            subst (λ (p : List CallPage). Holds (told_in setup so.newer before) p l) (sym (append-nil q)) left,
+          )
+
+          handed_none : (o : Option Kept) (a between : K) → NotesIf Notes number o true a between → between ≡ a
+          handed_none None a between notes = notes
+          handed_none (Some kept) a between notes = notes
+
+          by_kept : (o : Option Kept) → own_line.turned.kept ≡ o → (handed : Bool) → has_page end.pages.items number ≡ handed
+              → (r : List CallPage) × AreKeptOf number (kept_if (is_ok end.answer) end.pages.items) r × Holds (told_in setup so.newer before) (q ++ r) l
+          by_kept o is true has =
+              let put : HoldsSo IsTold q (kept_if (is_ok end.answer) end.pages.items) settled.kept =
+              put_own t q IsTold end.pages.items (is_ok end.answer) settled.begun settled.kept settled.put (pages_low t q begun) settled.pages.in_order has told_page begun in (
+                put.1,
+                put.3,
+                reported put.0 (q ++ put.1) put.2 (λ a between notes. handed_none own_line.turned.kept a between (subst (λ (b : Bool). NotesIf Notes number own_line.turned.kept b a between) has notes)) put.4,
+              )
+          by_kept None is false has =
+              nothing_put has (reported t q (told_none_kept is) (λ a between notes. subst (λ (o : Option Kept). NotesIf Notes number o (has_page end.pages.items number) a between) is notes) (put_none has))
+          by_kept (Some kept) is false has =
+              nothing_put has
+              (behind t q
+              (λ a b told was.
+              let it = told_line a b told in
+              let notes : Notes number kept.call a it.0 =
+              subst (λ (o : Option Kept). NotesIf Notes number o false a it.0) is (subst (λ (c : Bool). NotesIf Notes number own_line.turned.kept c a it.0) has it.1) in
+              let noted = own_noted seen may_leave is_usable number line names alone low_number t q IsTold kept.call (shelves_of a) (shelves_of it.0) (spool_of a) (spool_of it.0) (told_noted kept is) notes was in
+              told_report noted.0 q it.0 b noted.1 it.2 noted.2)
+              (put_none has))
+
+  -- ---- a run
+
+  module _
+      (tell_both : TurnsTellBoth) (newest : ConfirmsTheNewest) (origins : JobsAreOfTheirCalls) (written : PagesAreWritten) (setup : Setup) (writes : Writing) (before : List Tiding) (writing : IsWriting writes)
+      (other : PlaceValue) where
+    -- the line, and what is kept of its pages, tell the same; and by the ends of the run's turns these were put
+    record Stands (q : List CallPage) (ends : List SlotEnd) (lines : List PlaceValue) (k : K) : Type 0 where
+      many : length lines ≡ length names
+      tidings : List Tiding
+      puts : List CallPage
+      are_put : AreKeptOf number (kept_pages ends) puts
+      reaches : Reaches setup writes before tidings (slice_index_or lines number other).line
+      held : Holds tidings (q ++ puts) k
+
+    low_in : (lines : List PlaceValue) → length lines ≡ length names → number < length lines
+    low_in lines many = let low : number < length names = low_number in omega (arith, low, many)
+
+    -- nothing is done with it in this turn
+    rests_on : (q : List CallPage) (ends : List SlotEnd) (slot : ℕ) (end : SlotEnd) (t : List Tiding) (puts : List CallPage) (turned lines : List PlaceValue) (k l : K) → length turned ≡ length names
+        → was_turned slot number (slice_index_or turned number other) ≡ false → IsSettled Same Puts Notes Ends slot end turned lines k l → AreKeptOf number (kept_pages ends) puts
+        → Reaches setup writes before t (slice_index_or turned number other).line → Holds t (q ++ puts) k → Stands q (end ∷ ends) lines l
+    rests_on q ends slot end t puts turned lines k l many off settled are reach held =
+        let still = settles_still slot end turned lines k l settled many other t (q ++ puts) off held in record {
+          many = many_left slot end turned lines k l settled many;
+          tidings = t;
+          puts = puts ++ [];
+          are_put = kept_both number (kept_pages ends) (kept_if (is_ok end.answer) end.pages.items) puts [] are
+              (kept_if_none number end.pages.items (is_ok end.answer) (none_turned slot number turned other end.pages.items settled.pages.each off));
+          reaches = subst (λ (p : PlaceValue). Reaches setup writes before t p.line) (sym still.1) reach;
+          held = subst (λ (p : List CallPage). Holds t (q ++ p) l) (sym (append-nil puts)) still.0;
+        }
+
+    turns_on : (q : List CallPage) (ends : List SlotEnd) (slot now : ℕ) (end : SlotEnd) (t : List Tiding) (puts : List CallPage) (mid turned lines : List PlaceValue) (k l : K) → length turned ≡ length names
+        → was_turned slot number (slice_index_or turned number other) ≡ true → TellsTurn now (slice_index_or mid number other).line (slice_index_or turned number other).line
+        → IsSettled Same Puts Notes Ends slot end turned lines k l → AreKeptOf number (kept_pages ends) puts → Reaches setup writes before t (slice_index_or mid number other).line → Holds t (q ++ puts) k
+        → Stands q (end ∷ ends) lines l
+    turns_on q ends slot now end t puts mid turned lines k l many on tells settled are reach held =
+        let so : TurnsSo setup writes before t (slice_index_or turned number other).line =
+        goes_turned setup writes before t now (slice_index_or mid number other).line (slice_index_or turned number other).line writing tells reach in
+        let ended = ended_so slot end turned lines k l settled many tell_both newest origins written setup writes before t other on so in
+        let left = settles_turned slot end turned lines k l settled many tell_both newest origins written setup writes before t other on so (q ++ puts) held in record {
+          many = many_left slot end turned lines k l settled many;
+          tidings = told_in setup so.newer before;
+          puts = puts ++ left.0;
+          are_put = kept_both number (kept_pages ends) (kept_if (is_ok end.answer) end.pages.items) puts left.0 are left.1;
+          reaches = same_line setup writes before (told_in setup so.newer before) (slice_index_or turned number other).line (slice_index_or lines number other).line ended.0.gateway ended.0.driver so.reaches;
+          held = subst (λ (p : List CallPage). Holds (told_in setup so.newer before) p l) (append_assoc q puts left.0) left.2;
+        }
+
+    turn_on : (q : List CallPage) (ends : List SlotEnd) (slot now : ℕ) (rests : ℕ → Bool) (end : SlotEnd) (mid turned lines : List PlaceValue) (k l : K) → Went (TurnsSlot slot now rests ∷ []) mid turned → SlotTells slot now rests mid turned
+        → IsSettled Same Puts Notes Ends slot end turned lines k l → Stands q ends mid k → Stands q (end ∷ ends) lines l
+    turn_on q ends slot now rests end mid turned lines k l went tells settled was = by (nat_eq (slot_of number) slot) refl (rests number) refl
+      where
+        old : PlaceValue
+        old = slice_index_or mid number other
+
+        new : PlaceValue
+        new = slice_index_or turned number other
+
+        low : number < length mid
+        low = low_in mid was.many
+
+        many : length turned ≡ length names
+        many = went.as_many ∙ was.many
+
+        goes : Goes (actions_of number (TurnsSlot slot now rests ∷ [])) old.line new.line
+        goes = (went.each number other low).goes
+
+        by : (b : Bool) → nat_eq (slot_of number) slot ≡ b → (r : Bool) → rests number ≡ r → Stands q (end ∷ ends) lines l
+        by false is r rest =
+            let quiet : Goes [] old.line new.line = subst (λ (c : Bool). Goes (if c then (if rests number then Rests now else Turns now) ∷ [] else []) old.line new.line) is goes in
+            rests_on q ends slot end was.tidings was.puts turned lines k l many (ap (λ (c : Bool). c && new.turned) is) settled was.are_put (goes_still setup writes before was.tidings old.line new.line writing quiet was.reaches) was.held
+        by true is true rest =
+            let quiet : Goes (Rests now ∷ []) old.line new.line =
+            subst (λ (r : Bool). Goes ((if r then Rests now else Turns now) ∷ []) old.line new.line) rest
+            (subst (λ (c : Bool). Goes (if c then (if rests number then Rests now else Turns now) ∷ [] else []) old.line new.line) is goes) in
+            let none : new.turned ≡ false = subst (λ (r : Bool). TellsOrRests now r old new) rest (tells.each number other low is) in
+            rests_on q ends slot end was.tidings was.puts turned lines k l many (ap (λ (c : Bool). c && new.turned) is ∙ none) settled was.are_put (goes_with setup writes before was.tidings old.line new.line (Rests now) tt writing quiet was.reaches) was.held
+        by true is false rest =
+            let told : TellsOrRests now false old new = subst (λ (r : Bool). TellsOrRests now r old new) rest (tells.each number other low is) in
+            turns_on q ends slot now end was.tidings was.puts mid turned lines k l many (ap (λ (c : Bool). c && new.turned) is ∙ told.0) told.1 settled was.are_put was.reaches was.held
+
+    ring_on : (q : List CallPage) (ends : List SlotEnd) (rung now : ℕ) (call : Option ℕ) (mid lines : List PlaceValue) (k : K) → Went (RingsLine rung now call ∷ []) mid lines → Stands q ends mid k → Stands q ends lines k
+    ring_on q ends rung now call mid lines k went was = record { many = went.as_many ∙ was.many; tidings = was.tidings; puts = was.puts; are_put = was.are_put; reaches = by (nat_eq number rung) refl; held = was.held }
+      where
+        old : PlaceValue
+        old = slice_index_or mid number other
+
+        new : PlaceValue
+        new = slice_index_or lines number other
+
+        goes : Goes (actions_of number (RingsLine rung now call ∷ [])) old.line new.line
+        goes = (went.each number other (low_in mid was.many)).goes
+
+        by : (b : Bool) → nat_eq number rung ≡ b → Reaches setup writes before was.tidings new.line
+        by true is =
+            goes_with setup writes before was.tidings old.line new.line (Rings now call) tt writing (subst (λ (c : Bool). Goes (if c then Rings now call ∷ [] else []) old.line new.line) is goes) was.reaches
+        by false is = goes_still setup writes before was.tidings old.line new.line writing (subst (λ (c : Bool). Goes (if c then Rings now call ∷ [] else []) old.line new.line) is goes) was.reaches
+
+    wake_on : (q : List CallPage) (ends : List SlotEnd) (woken : ℕ) (mid lines : List PlaceValue) (k : K) → Went (WakesLine woken ∷ []) mid lines → Stands q ends mid k → Stands q ends lines k
+    wake_on q ends woken mid lines k went was = record { many = went.as_many ∙ was.many; tidings = was.tidings; puts = was.puts; are_put = was.are_put; reaches = by (nat_eq number woken) refl; held = was.held }
+      where
+        old : PlaceValue
+        old = slice_index_or mid number other
+
+        new : PlaceValue
+        new = slice_index_or lines number other
+
+        goes : Goes (actions_of number (WakesLine woken ∷ [])) old.line new.line
+        goes = (went.each number other (low_in mid was.many)).goes
+
+        by : (b : Bool) → nat_eq number woken ≡ b → Reaches setup writes before was.tidings new.line
+        by true is = goes_with setup writes before was.tidings old.line new.line Wakes tt writing (subst (λ (c : Bool). Goes (if c then Wakes ∷ [] else []) old.line new.line) is goes) was.reaches
+        by false is = goes_still setup writes before was.tidings old.line new.line writing (subst (λ (c : Bool). Goes (if c then Wakes ∷ [] else []) old.line new.line) is goes) was.reaches
+
+    run_on : (q : List CallPage) (first : ℕ) (done : List Done) (settled : List SlotEnd) (begun left : List PlaceValue) (k l : K) → Ran Same Puts Notes Ends first done settled begun left k l → Stands q [] begun k → Stands q settled left l
+    run_on q first [] [] begun left k l ran was = subst (λ (m : K). Stands q [] left m) (sym ran.1) (subst (λ (p : List PlaceValue). Stands q [] p k) (sym ran.0) was)
+    run_on q first [] (end ∷ settled) begun left k l ran was = absurd ran
+    run_on q first (Turned now rests ∷ done) [] begun left k l ran was = absurd ran
+    run_on q first (Turned now rests ∷ done) (end ∷ settled) begun left k l ran was =
+        turn_on q settled (next_slot first done) (max (latest done) now) rests end ran.0 ran.1 left ran.2 l ran.4 ran.5 ran.6 (run_on q first done settled begun ran.0 k ran.2 ran.3 was)
+    run_on q first (Rung rung now answer ∷ done) settled begun left k l ran was =
+        ring_on q settled rung (max (latest done) now) (call_if answer) ran.0 left l ran.2 (run_on q first done settled begun ran.0 k l ran.1 was)
+    run_on q first (Woken woken ∷ done) settled begun left k l ran was = wake_on q settled woken ran.0 left l ran.2 (run_on q first done settled begun ran.0 k l ran.1 was)
+
+-- ---- a run makes history
+
+module _ {D K : Type 0} (seen : D → List ℕ) (may_leave : D → List ℕ → Type 0) (is_usable : D → Bool) (shelves_of : K → List ShelfValue) (spool_of : K → Spool D) where
+  same_names : (number : ℕ) (line : List ℕ) (shelves : List ShelfValue) → ((place : ℕ) (shelf : ShelfValue) → slice_get shelves place ≡ Some shelf → place ≢ number → shelf.line ≢ line)
+      → AreOtherNames number line (lines_of shelves)
+  same_names number line shelves alone = λ place name at unlike. by place name at (slice_get shelves place) refl unlike
+    where
+      same_some : (a b : List ℕ) → Some a ≡ Some b → a ≡ b
+      same_some a b same = cc
+
+      none_at : (l : List ShelfValue) (place : ℕ) → slice_get l place ≡ None → slice_get (lines_of l) place ≡ None
+      none_at [] place none = refl
+      none_at (s ∷ l) zero none = let no : Some s ≡ None = none in cc
+      none_at (s ∷ l) (suc place) none = none_at l place none
+
+      by : (place : ℕ) (name : List ℕ) → slice_get (lines_of shelves) place ≡ Some name → (o : Option ShelfValue) → slice_get shelves place ≡ o → place ≢ number → name ≢ line
+      by place name at None is unlike = let no : None ≡ Some name = sym (none_at shelves place is) ∙ at in absurd (cc)
+      by place name at (Some shelf) is unlike = λ same. alone place shelf is unlike (same_some shelf.line name (sym (line_at shelves place shelf is) ∙ at) ∙ same)
+
+  pub runs_make_history : TurnsTellBoth → ConfirmsTheNewest → JobsAreOfTheirCalls → PagesAreWritten → OwedIsRestored → RunsMakeHistory seen may_leave is_usable shelves_of spool_of
+  runs_make_history tell_both newest origins written owed_is writes number line pages lives puts setup first done settled begun left k l writing past begins ran =
+      let names : List (List ℕ) = lines_of (shelves_of k) in
+      let alone : AreOtherNames number line names = same_names number line (shelves_of k) begins.alone in
+      let named : begins.restored.shelf.line ≡ line = begins.restores.are.named in
+      let before : List Tiding = told_over lives in
+      let first_told : List Tiding = RestoresCalls setup.restored ∷ before in
+      let calls : setup.restored ≡ calls_of (closed_read (owed past.deeds)) =
+      begins.set.restored ∙ owed_is line past.deeds past.state begins.restored past.done (subst (λ (p : List spool.PageValue). Restores line (closed p) begins.restored) (sym past.there) begins.restores) in
+      let many_names : length names ≡ length (shelves_of k) = length_map (shelves_of k) in
+      let low : number < length names = low_so number names begun many_names begins.as_many (get_low begun number begins.place begins.there) in
+      let held : Held seen may_leave is_usable number line names first_told (puts ++ []) (shelves_of k) (spool_of k) = record {
+        shelf = begins.restored.shelf;
+        there = begins.shelved;
+        named = named;
+        lines = refl;
+        waits = inl (
+          pages,
+          begins.waits,
+          record {
+            deeds = Stops ∷ past.deeds;
+            done = (
+              past.state,
+              past.done,
+              subst (λ (p : List spool.PageValue). GoesOn line Stops past.state (state_of begins.restored.shelf (notes_of (spool_of k) begins.restored.shelf) p)) past.there
+                  (restarts_are_deeds line begins.restored past.state (notes_of (spool_of k) begins.restored.shelf)
+                  (subst (λ (p : List spool.PageValue). Restores line (closed p) begins.restored) (sym past.there) begins.restores)),
+            );
+            put = past.put ∙ sym (append-nil puts);
+            tells = ap (λ (c : List RestoredCall). RestoresCalls c ∷ told_by past.deeds) (sym calls) ∙ ap (λ (t : List Tiding). RestoresCalls setup.restored ∷ t) past.are.same;
+          },
+        );
+      } in
+      let place_is : slice_index_or begun number begins.place ≡ begins.place = same_place (slice_index_or begun number begins.place) begins.place (sym (get_or begun number begins.place (get_low begun number begins.place begins.there)) ∙ begins.there) in
+      let reaches : Reaches setup writes before first_told (slice_index_or begun number begins.place).line = record {
+        trace = [];
+        made = [];
+        reached = subst (λ (p : PlaceValue). IsReachedBy setup writes [] p.line.gateway) (sym place_is) (begins.begins.gateway setup writes begins.set);
+        driven = subst (λ (p : PlaceValue). HasMade [] p.line.driver) (sym place_is) begins.begins.driver;
+        told = refl;
+      } in
+      let stands = run_on seen may_leave is_usable shelves_of spool_of number line names alone low tell_both newest origins written setup writes before writing begins.place puts first done settled begun left k l ran
+      (record { many = sym begins.as_many ∙ sym many_names; tidings = first_told; puts = []; are_put = refl; reaches = reaches; held = held }) in
+      record {
+        place = slice_index_or left number begins.place;
+        there = get_or left number begins.place (low_left number names left stands.many low);
+        trace = stands.reaches.trace;
+        reached = stands.reaches.reached;
+        kept = stands.puts;
+        are_kept = stands.are_put;
+        past = wait_map seen may_leave is_usable (spool_of l) (PastAs line stands.tidings (puts ++ stands.puts) stands.held.shelf (notes_of (spool_of l) stands.held.shelf))
+            (HasPast writes line (record { setup = setup; trace = stands.reaches.trace } ∷ lives) (puts ++ stands.puts))
+            (λ told p. record {
+              deeds = p.deeds;
+              state = state_of stands.held.shelf (notes_of (spool_of l) stands.held.shelf) told;
+              done = p.done;
+              there = refl;
+              are = record { traces = (stands.reaches.reached.is_trace, past.are.traces); same = p.tells ∙ sym stands.reaches.told };
+              put = p.put;
+            }) stands.held.waits;
+      }
+    where
+      length_map : (shelves : List ShelfValue) → length (lines_of shelves) ≡ length shelves
+      length_map [] = refl
+      length_map (s ∷ shelves) = ap suc (length_map shelves)
+
+      same_place : (a b : PlaceValue) → Some a ≡ Some b → a ≡ b
+      same_place a b same = cc
+
+      low_so : (number : ℕ) (names : List (List ℕ)) (begun : List PlaceValue) → length names ≡ length (shelves_of k) → length (shelves_of k) ≡ length begun → number < length begun → number < length names
+      low_so number names begun first second low = omega (arith, first, second, low)
+
+      low_left : (number : ℕ) (names : List (List ℕ)) (lines : List PlaceValue) → length lines ≡ length names → number < length names → number < length lines
+      low_left number names lines many low = omega (arith, many, low)
+
+-- ---- a spool is opened
+
+pub openings_find_what_waits : {D : Type 0} (seen : D → List ℕ) (may_leave : D → List ℕ → Type 0) (is_usable : D → Bool) → OpeningsFindWhatWaits seen may_leave is_usable
+openings_find_what_waits seen may_leave is_usable one other opened is =
+    let olds : List KeptRecord = older_of is.ones is.others in
+    let news : List KeptRecord = newer_of is.ones is.others in
+    let epoch : KeptRecord = Epoch (epoch_now opened.spool) in
+    record {
+      wait = record { olds = olds; news = news ++ epoch ∷ []; kept = is.keeps; wait = ap waiting (sym (append_assoc olds news (epoch ∷ []))) ∙ one_more [] (olds ++ news) epoch };
+      told = is.pages;
+    }

@@ -1,0 +1,138 @@
+-- Deeds of a line that go on: what was done of its pages so far, and one deed more.
+use Rattle.std.proofs.Common.{◌≡◌, ◌≢◌, ◌∙◌, ℕ, inl, inr, Bool, true, false, cond, List, [], ◌∷◌, ◌++◌, Option, bytes_eq, refl, sym, ap, append-nil}
+use Rattle.std.proofs.lemmas.Slice.Eq.{bytes_eq-Decides}
+use Rattle.fax_spool.specs.RecordOctets as spool
+use Rattle.fax_spool.specs.declared.spool.Spool.{Spool}
+use Rattle.fax_shelf.specs.Restorations.{Means, ReadPage, own_pages}
+use Rattle.fax_shelf.specs.Shelves.{IsShelved, ShelfValue}
+use Rattle.fax_shelf.specs.Keeping.{placed_as}
+use Rattle.fax_shelf.specs.Lives as lives
+use Rattle.fax_shelf.specs.Lives.{Deed, Goes, NotesStill, State, WasDone, state_of}
+use Rattle.fax_shelf.specs.Refusals.{IsAnEnd, WaitSo}
+use Rattle.fax_gateway.specs.Restored.{CallPage}
+use Rattle.fax_shelf.specs.Book.{Tiding, Confirms, Reports, page_of, pages_put, told_by}
+
+-- Deeds that were done, behind which the line has this shelf, and these pages wait on the disk; by which this is told, and by which
+-- these pages were put.
+pub record PastAs (line : List ℕ) (tidings : List Tiding) (puts : List CallPage) (shelf : ShelfValue) (notes : Bool) (told : List spool.PageValue) : Type 0 where
+  pub deeds : List Deed
+  pub done : WasDone line deeds (state_of shelf notes told)
+  pub tells : told_by deeds ≡ tidings
+  pub put : pages_put deeds ≡ puts
+
+-- nothing is done with the line's own pages
+pub past_beside :
+    (line : List ℕ) (t : List Tiding) (q : List CallPage) (old new : ShelfValue) (before after : Bool) (told more : List spool.PageValue) → new ≡ old → own_pages line more ≡ own_pages line told → (after ≡ true → before ≡ true)
+    → PastAs line t q old before told → PastAs line t q new after more
+past_beside line t q old new before after told more same own still past = record {
+  deeds = lives.Beside ∷ past.deeds;
+  done = (state_of old before told, past.done, record { same = own; shelved = λ on. (still on, ap (λ (s : ShelfValue). s.waits) same) });
+  tells = past.tells;
+  put = past.put;
+}
+
+pub past_keeps :
+    (line : List ℕ) (t : List Tiding) (q : List CallPage) (given : Option (List ℕ)) (page : ReadPage) (old new : ShelfValue) (before after : Bool) (told : List spool.PageValue) → page.waits.line ≡ line → Means page.waits page.page
+    → IsShelved (placed_as page.waits true) old new → NotesStill before after new → PastAs line t q old before told
+    → PastAs line (Confirms given (page_of page) page.waits.closes ∷ t) (q ++ page_of page ∷ []) new after (told ++ page.waits ∷ [])
+past_keeps line t q given page old new before after told named means shelved notes past = record {
+  deeds = lives.Keeps given page ∷ past.deeds;
+  done = (state_of old before told, past.done, record { line_is = named; means = means; there = refl; shelved = λ still. ((notes still).0, (shelved.whole (notes still).1).1) });
+  tells = ap (λ (l : List Tiding). Confirms given (page_of page) page.waits.closes ∷ l) past.tells;
+  put = ap (λ (l : List CallPage). l ++ page_of page ∷ []) past.put;
+}
+
+-- a page is refused, and is not on the disk
+pub past_refuses :
+    (line : List ℕ) (t : List Tiding) (q : List CallPage) (given : Option (List ℕ)) (page : ReadPage) (old new : ShelfValue) (before after : Bool) (told : List spool.PageValue) → page.waits.line ≡ line → Means page.waits page.page
+    → IsShelved (placed_as page.waits false) old new → NotesStill before after new → PastAs line t q old before told
+    → PastAs line (Confirms given (page_of page) page.waits.closes ∷ t) q new after told
+past_refuses line t q given page old new before after told named means shelved notes past = record {
+  deeds = lives.Refuses given page false ∷ past.deeds;
+  done = (
+    state_of old before told,
+    past.done,
+    (
+      record { line_is = named; means = means; there = refl; shelved = λ still. ((notes still).0, (shelved.whole (notes still).1).1) },
+      λ there. let no : false ≡ true = there in cc,
+    ),
+  );
+  tells = ap (λ (l : List Tiding). Confirms given (page_of page) page.waits.closes ∷ l) past.tells;
+  put = past.put;
+}
+
+no_true : (b : Bool) → b ≡ true → b ≡ false → ⊥
+no_true b on none = let no : true ≡ false = sym on ∙ none in cc
+
+-- or it is there all the same
+pub past_refused_there :
+    (line : List ℕ) (t : List Tiding) (q : List CallPage) (given : Option (List ℕ)) (page : ReadPage) (old new : ShelfValue) (before after : Bool) (told : List spool.PageValue) → page.waits.line ≡ line → Means page.waits page.page
+    → after ≡ false → PastAs line t q old before told → PastAs line (Confirms given (page_of page) page.waits.closes ∷ t) q new after (told ++ page.waits ∷ [])
+past_refused_there line t q given page old new before after told named means none past = record {
+  deeds = lives.Refuses given page true ∷ past.deeds;
+  done = (
+    state_of old before told,
+    past.done,
+    (record { line_is = named; means = means; there = refl; shelved = λ still. absurd (no_true after still none) }, λ there. none),
+  );
+  tells = ap (λ (l : List Tiding). Confirms given (page_of page) page.waits.closes ∷ l) past.tells;
+  put = past.put;
+}
+
+-- a job ends
+pub past_ends :
+    (line : List ℕ) (t : List Tiding) (q : List CallPage) (pages : ℕ) (old new : ShelfValue) (before after : Bool) (told more : List spool.PageValue) → IsAnEnd line pages (state_of old before told) (state_of new after more)
+    → PastAs line t q old before told → PastAs line (Reports pages ∷ t) q new after more
+past_ends line t q pages old new before after told more (inl is) past = record {
+  deeds = lives.Ends pages ∷ past.deeds;
+  done = (state_of old before told, past.done, is);
+  tells = ap (λ (l : List Tiding). Reports pages ∷ l) past.tells;
+  put = past.put;
+}
+past_ends line t q pages old new before after told more (inr (inl is)) past = record {
+  deeds = lives.Leaves pages ∷ past.deeds;
+  done = (state_of old before told, past.done, is);
+  tells = ap (λ (l : List Tiding). Reports pages ∷ l) past.tells;
+  put = past.put;
+}
+past_ends line t q pages old new before after told more (inr (inr is)) past = record {
+  deeds = lives.Lets pages ∷ past.deeds;
+  done = (state_of old before told, past.done, is);
+  tells = ap (λ (l : List Tiding). Reports pages ∷ l) past.tells;
+  put = past.put;
+}
+
+-- ---- pages of other lines
+
+-- each is of another line than this
+abbrev pub AreOthers : List ℕ → List spool.PageValue → Type 0
+AreOthers line [] = Unit {0}
+AreOthers line (v ∷ values) = (v.line ≢ line) × AreOthers line values
+
+own_append : (line : List ℕ) (xs ys : List spool.PageValue) → own_pages line (xs ++ ys) ≡ own_pages line xs ++ own_pages line ys
+own_append line [] ys = refl
+own_append line (x ∷ xs) ys =
+    elim (bytes_eq x.line line) as (λ b. cond b (x ∷ own_pages line (xs ++ ys)) (own_pages line (xs ++ ys)) ≡ cond b (x ∷ own_pages line xs) (own_pages line xs) ++ own_pages line ys) [
+      | true ↦ ap (λ (l : List spool.PageValue). x ∷ l) (own_append line xs ys)
+      | false ↦ own_append line xs ys
+    ]
+
+not_own : (line : List ℕ) (v : spool.PageValue) (b : Bool) → bytes_eq v.line line ≡ b → v.line ≢ line → b ≡ false
+not_own line v true same other = absurd (other ((bytes_eq-Decides v.line line).0 same))
+not_own line v false same other = refl
+
+own_of_others : (line : List ℕ) (values : List spool.PageValue) → AreOthers line values → own_pages line values ≡ []
+own_of_others line [] others = refl
+own_of_others line (v ∷ values) others =
+    ap (λ (b : Bool). cond b (v ∷ own_pages line values) (own_pages line values)) (not_own line v (bytes_eq v.line line) refl others.0) ∙ own_of_others line values others.1
+
+pub own_same : (line : List ℕ) (told values : List spool.PageValue) → AreOthers line values → own_pages line (told ++ values) ≡ own_pages line told
+own_same line told values others =
+    own_append line told values ∙ ap (λ (l : List spool.PageValue). own_pages line told ++ l) (own_of_others line values others) ∙ append-nil (own_pages line told)
+
+-- ---- what is told by each crash
+
+module _ {D : Type 0} (seen : D → List ℕ) (may_leave : D → List ℕ → Type 0) (is_usable : D → Bool) where
+  pub wait_map : (now : Spool D) (P Q : List spool.PageValue → Type 0) → ((told : List spool.PageValue) → P told → Q told) → WaitSo seen may_leave is_usable now P → WaitSo seen may_leave is_usable now Q
+  wait_map now P Q f (inl is) = inl (is.0, is.1, f is.0 is.2)
+  wait_map now P Q f (inr is) = inr (is.0, λ older newer left. let it = is.1 older newer left in (it.0, it.1, f it.0 it.2))

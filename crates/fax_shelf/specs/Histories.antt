@@ -1,0 +1,106 @@
+-- WHAT A RUN LEAVES OF A LINE, whatever crash follows: deeds of the line that are those of the lives of its gateway, with one life
+-- more. So what is told of deeds and lives is told of each line of a server that keeps its pages. Lists have the oldest first, but
+-- those of deeds, lives, events and orders, which have the newest first. (This project's profile.)
+use Rattle.std.specs.Prelude.{◌≡◌, ◌≢◌, ◌⊎◌, ℕ, Bool, List, [], ◌∷◌, ◌++◌, length, map, Some, slice_get}
+use Rattle.fax_runcodes.specs.declared.format.Coding.TheVariants as codings
+use Rattle.fax_pagestore.specs.PageTexts.{MeansPage}
+use Rattle.fax_jobs.specs.declared.report.Report.{Report}
+use Rattle.fax_call.specs.Writings.{IsWriting, Writing}
+use Rattle.fax_gateway.specs.Restored.{CallPage, call_shown}
+use Rattle.fax_gateway.specs.Setups.{AreSetWith, Setup}
+use Rattle.fax_gateway.specs.Events.{Event}
+use Rattle.fax_gateway.specs.Reached.{IsReachedBy}
+use Rattle.fax_gateway.specs.Lives.{Life}
+use Rattle.fax_line.specs.Actions.{BeginsWith}
+use Rattle.fax_line.specs.Places.{PlaceValue}
+use Rattle.fax_line.specs.Runs.{Done}
+use Rattle.fax_line.specs.KeptRuns.{Ran, kept_pages}
+use Rattle.fax_line.specs.declared.settling.PageToKeep.{PageToKeep}
+use Rattle.fax_line.specs.declared.settling.SlotEnd.{SlotEnd}
+use Rattle.fax_spool.specs.RecordOctets as spool
+use Rattle.fax_spool.specs.Opened.{IsOpened, closed, newer_of, older_of}
+use Rattle.fax_spool.specs.Waits.{waiting}
+use Rattle.fax_spool.specs.declared.opening.Opened.{Opened}
+use Rattle.fax_spool.specs.declared.spool.Spool.{Spool}
+use Rattle.fax_shelf.specs.Shelves.{ShelfValue}
+use Rattle.fax_shelf.specs.Restorations.{Restores}
+use Rattle.fax_shelf.specs.declared.restored.Restored.{Restored}
+use Rattle.fax_shelf.specs.Jobs.{PagesWait}
+use Rattle.fax_shelf.specs.Lives.{Deed, State, WasDone}
+use Rattle.fax_shelf.specs.Refusals.{WaitSo}
+use Rattle.fax_shelf.specs.SpoolKeeping.{EndsJobIf, IsUnchanged, NotesPage, PutsPages}
+use Rattle.fax_shelf.specs.Book.{AreOfLives, pages_put}
+
+-- THE PAST OF A LINE, where these pages wait on the disk: deeds that were done, which are those of these lives of its gateway, and by
+-- which so many pages were put with an `Ok`.
+pub record HasPast (writes : Writing) (line : List ℕ) (lives : List Life) (puts : List CallPage) (pages : List spool.PageValue) : Type 0 where
+  pub deeds : List Deed
+  pub state : State
+  pub done : WasDone line deeds state
+  pub there : state.pages ≡ pages
+  pub are : AreOfLives writes deeds lives
+  pub put : pages_put deeds ≡ puts
+
+-- these pages wait in the spool that was opened, and were told
+pub record WasOpened {D : Type 0} (seen : D → List ℕ) (may_leave : D → List ℕ → Type 0) (is_usable : D → Bool) (opened : Opened D) (pages : List spool.PageValue) : Type 0 where
+  pub wait : PagesWait seen may_leave is_usable opened.spool pages
+  pub told : opened.pages.items ≡ closed pages
+
+-- AN OPENING FINDS WHAT WAITS by the records of both files, the older one first.
+abbrev pub OpeningsFindWhatWaits : {D : Type 0} → (D → List ℕ) → (D → List ℕ → Type 0) → (D → Bool) → Type 0
+OpeningsFindWhatWaits {D} seen may_leave is_usable =
+    (one other : List ℕ) (opened : Opened D) (is : IsOpened seen may_leave is_usable one other opened)
+    → WasOpened seen may_leave is_usable opened (waiting (older_of is.ones is.others ++ newer_of is.ones is.others))
+
+-- the page, and the call that it came in, which its text means
+abbrev pub IsKeptPage : PageToKeep → CallPage → Type 0
+IsKeptPage to_keep p = (p.call ≡ to_keep.kept.call) × MeansPage to_keep.kept.format codings.Mr to_keep.text p.page
+
+-- of these pages, those of the line of this number, in their order
+abbrev pub AreKeptOf : ℕ → List PageToKeep → List CallPage → Type 0
+AreKeptOf number [] puts = puts ≡ []
+AreKeptOf number (page ∷ pages) [] = (page.line ≢ number) × AreKeptOf number pages []
+AreKeptOf number (page ∷ pages) (p ∷ puts) = ((page.line ≡ number) × IsKeptPage page p × AreKeptOf number pages puts) ⊎ ((page.line ≢ number) × AreKeptOf number pages (p ∷ puts))
+
+-- A LINE OF A RUN BEGINS where these pages wait on the disk: it is restored with those of its own, and so is its shelf. No other
+-- line has its name.
+pub record BeginsRun {D : Type 0} (seen : D → List ℕ) (may_leave : D → List ℕ → Type 0) (is_usable : D → Bool) (number : ℕ) (line : List ℕ) (pages : List spool.PageValue) (setup : Setup) (lines : List PlaceValue) (shelves : List ShelfValue) (spool : Spool D) : Type 0 where
+  pub waits : PagesWait seen may_leave is_usable spool pages
+  pub restored : Restored
+  pub restores : Restores line (closed pages) restored
+  pub place : PlaceValue
+  pub there : slice_get lines number ≡ Some place
+  pub begins : BeginsWith (map call_shown restored.calls.items) place.line
+  pub set : AreSetWith setup place.line.gateway.settings (map call_shown restored.calls.items)
+  pub shelved : slice_get shelves number ≡ Some restored.shelf
+  pub as_many : length shelves ≡ length lines
+  pub alone : (other : ℕ) (shelf : ShelfValue) → slice_get shelves other ≡ Some shelf → other ≢ number → shelf.line ≢ line
+
+-- A RUN LEAVES IT SO: a trace led to its gateway; and whatever crash follows, pages wait on the disk behind which that trace is one
+-- life more of the line's past, and the pages of the line that the run put with an `Ok` are those that were put in it.
+pub record LeavesRun {D : Type 0} (seen : D → List ℕ) (may_leave : D → List ℕ → Type 0) (is_usable : D → Bool) (writes : Writing) (number : ℕ) (line : List ℕ) (lives : List Life) (puts : List CallPage) (setup : Setup) (settled : List SlotEnd) (lines : List PlaceValue) (spool : Spool D) : Type 0 where
+  pub place : PlaceValue
+  pub there : slice_get lines number ≡ Some place
+  pub trace : List Event
+  pub reached : IsReachedBy setup writes trace place.line.gateway
+  pub kept : List CallPage
+  pub are_kept : AreKeptOf number (kept_pages settled) kept
+  pub past : WaitSo seen may_leave is_usable spool (HasPast writes line (record { setup = setup; trace = trace } ∷ lives) (puts ++ kept))
+
+-- a run whose pages are kept in a spool, by what has these shelves and this spool
+abbrev pub RanOnDisk : {D K : Type 0} → (D → List ℕ) → (D → List ℕ → Type 0) → (D → Bool) → (K → List ShelfValue) → (K → Spool D)
+    → ℕ → List Done → List SlotEnd → List PlaceValue → List PlaceValue → K → K → Type 0
+RanOnDisk {D} {K} seen may_leave is_usable shelves_of spool_of =
+    Ran (λ (old new : K). IsUnchanged (shelves_of old) (shelves_of new) (spool_of old) (spool_of new))
+    (λ (pages : List PageToKeep) (is_kept : Bool) (old new : K). PutsPages seen may_leave is_usable pages is_kept (shelves_of old) (shelves_of new) (spool_of old) (spool_of new))
+    (λ (line call : ℕ) (old new : K). NotesPage line call (shelves_of old) (shelves_of new) (spool_of old) (spool_of new))
+    (λ (line : ℕ) (report : Report) (old new : K). EndsJobIf seen may_leave is_usable line report (shelves_of old) (shelves_of new) (spool_of old) (spool_of new))
+
+-- EACH RUN MAKES HISTORY: of each line that has a past where the spool was opened, it leaves one with one life more, whatever came
+-- over the wires, whatever was ordered, whichever puts failed, and wherever it stops. So this is so over any number of lives.
+abbrev pub RunsMakeHistory : {D K : Type 0} → (D → List ℕ) → (D → List ℕ → Type 0) → (D → Bool) → (K → List ShelfValue) → (K → Spool D) → Type 0
+RunsMakeHistory {D} {K} seen may_leave is_usable shelves_of spool_of =
+    (writes : Writing) (number : ℕ) (line : List ℕ) (pages : List spool.PageValue) (lives : List Life) (puts : List CallPage) (setup : Setup) (first : ℕ) (done : List Done) (settled : List SlotEnd) (begun left : List PlaceValue) (before after : K)
+    → IsWriting writes → HasPast writes line lives puts pages → BeginsRun seen may_leave is_usable number line pages setup begun (shelves_of before) (spool_of before)
+    → RanOnDisk seen may_leave is_usable shelves_of spool_of first done settled begun left before after
+    → LeavesRun seen may_leave is_usable writes number line lives puts setup settled left (spool_of after)
