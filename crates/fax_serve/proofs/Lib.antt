@@ -1,2 +1,3 @@
 mod Goodbyes
 mod Restoring
+mod Histories

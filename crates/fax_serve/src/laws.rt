@@ -1,7 +1,28 @@
 //! Laws of the definitions: functions that do nothing, each of whose contracts is a theorem.
 ghost use Rattle.fax_serve.specs.HangUps.{GoodbyesAreExpected};
+ghost use Rattle.fax_serve.specs.Histories.{ServersMakeHistory};
+ghost use Rattle.fax_serve.specs.declared.keeper.SpoolKeeper.{SpoolKeeper as KeeperShown};
+
+use fax_gateway::laws::{confirms_the_newest, jobs_are_of_their_calls};
+use fax_keep::KeptFile;
+use fax_pagestore::laws::pages_are_written;
+use fax_shelf::laws::book::turns_tell_both;
+use fax_shelf::laws::what_is_owed_is_restored;
+use sqlite_disk::Disk;
 
 /// Whatever datagrams came in a call, a goodbye has the number that its receiver expects.
 pub fn goodbyes_are_expected()
     ensures { GoodbyesAreExpected }
 {}
+
+/// What `run_serve` promises of a run with a spool leaves of each line a past with one life more, whatever crash follows: deeds, which
+/// are those of the lives of its gateway.
+pub fn servers_make_history()
+    ensures { ServersMakeHistory ⟦<KeptFile as Disk>⟧.seen ⟦<KeptFile as Disk>⟧.may_leave ⟦<KeptFile as Disk>⟧.is_usable (λ (keeper : KeeperShown). keeper.keeping.shelves.items) (λ (keeper : KeeperShown). keeper.keeping.spool) }
+{
+    turns_tell_both();
+    confirms_the_newest();
+    jobs_are_of_their_calls();
+    pages_are_written();
+    what_is_owed_is_restored();
+}

@@ -1,0 +1,124 @@
+-- The lines of a server, each by its name.
+use Rattle.std.proofs.Common.{◌≡◌, ◌≢◌, ◌⊎◌, ◌∙◌, ◌<◌, ℕ, zero, suc, inl, inr, Bool, List, [], ◌∷◌, length, map, Option, Some, None, slice_get, get_or, arith, refl, sym, ap, subst}
+use Rattle.std.specs.String.{string_bytes}
+use Rattle.fax_config.specs.declared.config.LineConfig.{LineConfig}
+use Rattle.fax_config.specs.Configurations.{AreUnlike, names_of_lines}
+use Rattle.fax_gateway.specs.Restored.{call_shown}
+use Rattle.fax_gateway.specs.Setups.{AreSetWith}
+use Rattle.fax_line.specs.Places.{PlaceValue}
+use Rattle.fax_spool.specs.RecordOctets as spool
+use Rattle.fax_spool.specs.Opened.{closed}
+use Rattle.fax_spool.specs.declared.spool.Spool.{Spool}
+use Rattle.fax_shelf.specs.Jobs.{PagesWait}
+use Rattle.fax_shelf.specs.Restorations.{Restores}
+use Rattle.fax_shelf.specs.Shelves.{ShelfValue}
+use Rattle.fax_shelf.specs.Histories.{RunsMakeHistory}
+use Rattle.fax_serve.specs.Histories.{ServersMakeHistory}
+use Rattle.fax_serve.specs.KeptRuns.{AreRestored}
+use Rattle.fax_serve.specs.Openings.{IsRestored}
+
+-- the line of a configuration
+record Its (pages : List spool.PageValue) (config : LineConfig) (number : ℕ) (places : List PlaceValue) (shelves : List ShelfValue) : Type 0 where
+  place : PlaceValue
+  shelf : ShelfValue
+  there : slice_get places number ≡ Some place
+  shelved : slice_get shelves number ≡ Some shelf
+  is : IsRestored pages config place shelf
+
+same_config : (a b : LineConfig) → Some a ≡ Some b → a ≡ b
+same_config a b same = cc
+
+its : (pages : List spool.PageValue) (configs : List LineConfig) (places : List PlaceValue) (shelves : List ShelfValue) (number : ℕ) (config : LineConfig) → AreRestored pages configs places shelves
+    → slice_get configs number ≡ Some config → Its pages config number places shelves
+its pages [] [] [] number config are at = let no : None ≡ Some config = at in absurd (cc)
+its pages [] [] (s ∷ shelves) number config are at = absurd are
+its pages [] (p ∷ places) shelves number config are at = absurd are
+its pages (c ∷ configs) [] shelves number config are at = absurd are
+its pages (c ∷ configs) (p ∷ places) [] number config are at = absurd are
+its pages (c ∷ configs) (p ∷ places) (s ∷ shelves) zero config are at = record {
+  place = p;
+  shelf = s;
+  there = refl;
+  shelved = refl;
+  is = subst (λ (x : LineConfig). IsRestored pages x p s) (same_config c config at) are.0;
+}
+its pages (c ∷ configs) (p ∷ places) (s ∷ shelves) (suc number) config are at =
+    let rest = its pages configs places shelves number config are.1 at in record { place = rest.place; shelf = rest.shelf; there = rest.there; shelved = rest.shelved; is = rest.is }
+
+as_many : (pages : List spool.PageValue) (configs : List LineConfig) (places : List PlaceValue) (shelves : List ShelfValue) → AreRestored pages configs places shelves → length shelves ≡ length places
+as_many pages [] [] [] are = refl
+as_many pages [] [] (s ∷ shelves) are = absurd are
+as_many pages [] (p ∷ places) shelves are = absurd are
+as_many pages (c ∷ configs) [] shelves are = absurd are
+as_many pages (c ∷ configs) (p ∷ places) [] are = absurd are
+as_many pages (c ∷ configs) (p ∷ places) (s ∷ shelves) are = ap suc (as_many pages configs places shelves are.1)
+
+-- each shelf has the name of its line
+named_at : (pages : List spool.PageValue) (configs : List LineConfig) (places : List PlaceValue) (shelves : List ShelfValue) (other : ℕ) (shelf : ShelfValue) → AreRestored pages configs places shelves
+    → slice_get shelves other ≡ Some shelf → (other < length configs) × ((default : List ℕ) → get_or (names_of_lines configs) other default ≡ shelf.line)
+named_at pages [] [] [] other shelf are at = let no : None ≡ Some shelf = at in absurd (cc)
+named_at pages [] [] (s ∷ shelves) other shelf are at = absurd are
+named_at pages [] (p ∷ places) shelves other shelf are at = absurd are
+named_at pages (c ∷ configs) [] shelves other shelf are at = absurd are
+named_at pages (c ∷ configs) (p ∷ places) [] other shelf are at = absurd are
+named_at pages (c ∷ configs) (p ∷ places) (s ∷ shelves) zero shelf are at =
+    let same : s ≡ shelf = same_shelf s shelf at in (
+      omega arith,
+      λ default. sym (are.0.restores.are.named) ∙ ap (λ (x : ShelfValue). x.line) (are.0.shelf_is ∙ same),
+    )
+  where
+    same_shelf : (a b : ShelfValue) → Some a ≡ Some b → a ≡ b
+    same_shelf a b same = cc
+named_at pages (c ∷ configs) (p ∷ places) (s ∷ shelves) (suc other) shelf are at =
+    let rest = named_at pages configs places shelves other shelf are.1 at in
+    let low : other < length configs = rest.0 in (omega (arith, low), λ default. rest.1 default)
+
+config_low : (configs : List LineConfig) (number : ℕ) (config : LineConfig) → slice_get configs number ≡ Some config → (number < length configs) × ((default : List ℕ) → get_or (names_of_lines configs) number default ≡ string_bytes config.name)
+config_low [] number config at = let no : None ≡ Some config = at in absurd (cc)
+config_low (c ∷ configs) zero config at = (omega arith, λ default. ap (λ (x : LineConfig). string_bytes x.name) (same_config c config at))
+config_low (c ∷ configs) (suc number) config at =
+    let rest = config_low configs number config at in
+    let low : number < length configs = rest.0 in (omega (arith, low), λ default. rest.1 default)
+
+length_names : (configs : List LineConfig) → length (names_of_lines configs) ≡ length configs
+length_names [] = refl
+length_names (c ∷ configs) = ap suc (length_names configs)
+
+differ : (a b : ℕ) → a ≢ b → (a < b) ⊎ (b < a)
+differ zero zero unlike = absurd (unlike refl)
+differ zero (suc b) unlike = inl (omega arith)
+differ (suc a) zero unlike = inr (omega arith)
+differ (suc a) (suc b) unlike = elim (differ a b (λ same. unlike (ap suc same))) [ inl less ↦ inl (omega (arith, less)) | inr less ↦ inr (omega (arith, less)) ]
+
+module _ {D K : Type 0} (seen : D → List ℕ) (may_leave : D → List ℕ → Type 0) (is_usable : D → Bool) (shelves_of : K → List ShelfValue) (spool_of : K → Spool D) where
+  pub servers_make_history : RunsMakeHistory seen may_leave is_usable shelves_of spool_of → ServersMakeHistory seen may_leave is_usable shelves_of spool_of
+  servers_make_history runs configs served number config place pages writes lives puts setup unlike at there opened writing set past =
+      let mine : Its served.opened.pages.items config number served.begun (shelves_of served.keeper) = its served.opened.pages.items configs served.begun (shelves_of served.keeper) number config served.restored at in
+      let restores : Restores (string_bytes config.name) (closed pages) mine.is.restored = subst (λ (l : List spool.PageValue). Restores (string_bytes config.name) l mine.is.restored) opened.told mine.is.restores in
+      let same : place ≡ mine.place = same_place place mine.place (sym there ∙ mine.there) in
+      let name = config_low configs number config at in
+      runs writes number (string_bytes config.name) pages lives puts setup served.run.first served.run.done served.run.settled served.begun served.run.left served.keeper served.run.after writing past
+      (record {
+        waits = subst (λ (s : Spool D). PagesWait seen may_leave is_usable s pages) (sym served.spool_is) opened.wait;
+        restored = mine.is.restored;
+        restores = restores;
+        place = mine.place;
+        there = mine.there;
+        begins = mine.is.begins;
+        set = subst (λ (p : PlaceValue). AreSetWith setup p.line.gateway.settings (map call_shown mine.is.restored.calls.items)) same (set mine.is.restored restores);
+        shelved = mine.shelved ∙ ap (λ (s : ShelfValue). Some s) (sym mine.is.shelf_is);
+        as_many = as_many served.opened.pages.items configs served.begun (shelves_of served.keeper) served.restored;
+        alone = λ other shelf is differs same_name.
+            let its_name = named_at served.opened.pages.items configs served.begun (shelves_of served.keeper) other shelf served.restored is in
+            apart other (string_bytes config.name) shelf its_name.0 (its_name.1 []) name.0 (name.1 []) differs same_name;
+      }) served.run.ran
+    where
+      same_place : (a b : PlaceValue) → Some a ≡ Some b → a ≡ b
+      same_place a b same = cc
+
+      apart : (other : ℕ) (line : List ℕ) (shelf : ShelfValue) → other < length configs → get_or (names_of_lines configs) other [] ≡ shelf.line → number < length configs → get_or (names_of_lines configs) number [] ≡ line
+          → other ≢ number → shelf.line ≡ line → ⊥
+      apart other line shelf low its low_number name differs same_name = elim (differ other number differs) [
+        | inl less ↦ unlike other number [] less (let many : length (names_of_lines configs) ≡ length configs = length_names configs in omega (arith, many, low_number)) (its ∙ same_name ∙ sym name)
+        | inr less ↦ unlike number other [] less (let many : length (names_of_lines configs) ≡ length configs = length_names configs in omega (arith, many, low)) (name ∙ sym same_name ∙ sym its)
+      ]
