@@ -11,7 +11,7 @@ use Rattle.fax_line.specs.Runs.{Done, Rung, Turned, Woken, call_if, latest, next
 
 module _ (K : Type 0) (same : K → K → Type 0) (puts : List PageToKeep → Bool → K → K → Type 0) (notes : ℕ → ℕ → K → K → Type 0) (ends : ℕ → Report → K → K → Type 0) where
   pub ran_none : (first : ℕ) (lines : List PlaceValue) (k : Option K) → RanIf same puts notes ends first [] lines lines k k
-  ran_none first lines None = refl
+  ran_none first lines None = (refl, refl)
   ran_none first lines (Some k) = (k, refl, [], (refl, refl))
 
   pub ran_turned :
@@ -19,7 +19,9 @@ module _ (K : Type 0) (same : K → K → Type 0) (puts : List PageToKeep → Bo
       → RanIf same puts notes ends first done a b k l → Went (TurnsSlot (next_slot first done) (max (latest done) now) rests ∷ []) b c
       → SlotTells (next_slot first done) (max (latest done) now) rests b c
       → IsSettledIf same puts notes ends (next_slot first done) c d l m → RanIf same puts notes ends first (Turned now rests ∷ done) a d k m
-  ran_turned first now rests done a b c d None l m ran went tells settled = subst (λ (o : Option K). IsSettledIf same puts notes ends (next_slot first done) c d o m) ran settled
+  ran_turned first now rests done a b c d None l m (is, ran) went tells settled =
+      let here = subst (λ (o : Option K). IsSettledIf same puts notes ends (next_slot first done) c d o m) is settled in
+      (here.0, (b, c, ran, went, tells, here.1))
   ran_turned first now rests done a b c d (Some k) l m (x, is, all, ran) went tells settled =
       let here = subst (λ (o : Option K). IsSettledIf same puts notes ends (next_slot first done) c d o m) is settled in
       (here.0, here.1, here.2 ∷ all, (b, c, x, ran, went, tells, here.3))
@@ -27,13 +29,13 @@ module _ (K : Type 0) (same : K → K → Type 0) (puts : List PageToKeep → Bo
   pub ran_rung :
       (first line now : ℕ) (answer : Option (Result ℕ RingFault)) (done : List Done) (a b c : List PlaceValue) (k l : Option K)
       → RanIf same puts notes ends first done a b k l → Went (RingsLine line (max (latest done) now) (call_if answer) ∷ []) b c → RanIf same puts notes ends first (Rung line now answer ∷ done) a c k l
-  ran_rung first line now answer done a b c None l ran went = ran
+  ran_rung first line now answer done a b c None l (is, ran) went = (is, (b, ran, went))
   ran_rung first line now answer done a b c (Some k) l (x, is, all, ran) went = (x, is, all, (b, ran, went))
 
   pub ran_woken :
       (first line : ℕ) (done : List Done) (a b c : List PlaceValue) (k l : Option K)
       → RanIf same puts notes ends first done a b k l → Went (WakesLine line ∷ []) b c → RanIf same puts notes ends first (Woken line ∷ done) a c k l
-  ran_woken first line done a b c None l ran went = ran
+  ran_woken first line done a b c None l (is, ran) went = (is, (b, ran, went))
   ran_woken first line done a b c (Some k) l (x, is, all, ran) went = (x, is, all, (b, ran, went))
 
   pub ran_is :

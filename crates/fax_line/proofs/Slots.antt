@@ -101,6 +101,27 @@ off_round comes slot round at olds lines is gone passes before =
       to_come = λ i d far. before.to_come i d (omega arith);
     }
 
+still_at :
+    (comes : ℕ → PlaceValue → PlaceValue → Type 0) (slot round at : ℕ) (olds lines : List PlaceValue) → at ≡ round * 40 + slot → PassesOver comes slot round
+    → ((d : PlaceValue) → comes at (slice_index_or olds at d) (slice_index_or olds at d)) → Rounds comes round olds lines
+    → (i : ℕ) (d : PlaceValue) → i < length olds → i < (round + 1) * 40 → (b : Bool) → nat_eq i at ≡ b → comes i (slice_index_or olds i d) (slice_index_or lines i d)
+still_at comes slot round at olds lines is passes here before i d there low true same =
+    let e : i ≡ at = eqb-true i at same in
+    subst (λ (x : PlaceValue). comes i (slice_index_or olds i d) x) (sym (before.to_come i d (omega (arith, e, is))))
+    (subst (λ (k : ℕ). comes k (slice_index_or olds k d) (slice_index_or olds k d)) (sym e) (here d))
+still_at comes slot round at olds lines is passes here before i d there low false same =
+    done_else comes slot round at olds lines is passes before i d there low (eqb-false i at same) (nat_lt i (round * 40)) refl
+
+-- or it stays as it was
+pub still_round :
+    (comes : ℕ → PlaceValue → PlaceValue → Type 0) (slot round at : ℕ) (olds lines : List PlaceValue) → at ≡ round * 40 + slot → PassesOver comes slot round
+    → ((d : PlaceValue) → comes at (slice_index_or olds at d) (slice_index_or olds at d)) → Rounds comes round olds lines → Rounds comes (round + 1) olds lines
+still_round comes slot round at olds lines is passes here before = record {
+  as_many = before.as_many;
+  done = λ i d there high. still_at comes slot round at olds lines is passes here before i d there high (nat_eq i at) refl;
+  to_come = λ i d far. before.to_come i d (omega arith);
+}
+
 -- ---- the pages of the lines are handed over
 
 abbrev pub waits : ℕ → List PageToKeep → ℕ → PlaceValue → PlaceValue → Type 0
@@ -302,28 +323,11 @@ ends_on slot round at olds lines old new pages is_kept is low inside was before 
     (ends_so (nat_eq (at % 40) slot) (has_page pages at) is_kept old new (of_slot at round slot is low) has ends))
 
 -- or it does not
-ends_rest : (slot round at : ℕ) (pages : List PageToKeep) (is_kept : Bool) → has_page pages at ≡ false → (i : ℕ) (place : PlaceValue) → (b : Bool) → nat_eq i at ≡ b
-    → (i ≢ at → i % 40 ≢ slot) → ends_if slot pages is_kept i place place
-ends_rest slot round at pages is_kept none i place true same off =
-    left_alone (nat_eq (i % 40) slot) (has_page pages i) is_kept place (inr (subst (λ (k : ℕ). has_page pages k ≡ false) (sym (eqb-true i at same)) none))
-ends_rest slot round at pages is_kept none i place false same off = left_alone (nat_eq (i % 40) slot) (has_page pages i) is_kept place (inl (ne_eqb (i % 40) slot (off (eqb-false i at same))))
-
-ends_else : (slot round at : ℕ) (olds lines : List PlaceValue) (pages : List PageToKeep) (is_kept : Bool) → at ≡ round * 40 + slot → has_page pages at ≡ false
-    → Rounds (ends_if slot pages is_kept) round olds lines → (i : ℕ) (d : PlaceValue) → i < length olds → i < (round + 1) * 40 → (b : Bool) → nat_lt i (round * 40) ≡ b
-    → ends_if slot pages is_kept i (slice_index_or olds i d) (slice_index_or lines i d)
-ends_else slot round at olds lines pages is_kept is none before i d there low true lt = before.done i d there (ltb-true i (round * 40) lt)
-ends_else slot round at olds lines pages is_kept is none before i d there low false lt =
-    let far : round * 40 ≤ i = ltb-false i (round * 40) lt in
-    subst (λ (x : PlaceValue). ends_if slot pages is_kept i (slice_index_or olds i d) x) (sym (before.to_come i d far))
-    (ends_rest slot round at pages is_kept none i (slice_index_or olds i d) (nat_eq i at) refl (λ other. off_slot i at round slot is other far low))
-
 pub ends_off : (slot round at : ℕ) (olds lines : List PlaceValue) (pages : List PageToKeep) (is_kept : Bool) → at ≡ round * 40 + slot → has_page pages at ≡ false
     → Rounds (ends_if slot pages is_kept) round olds lines → Rounds (ends_if slot pages is_kept) (round + 1) olds lines
-ends_off slot round at olds lines pages is_kept is none before = record {
-  as_many = before.as_many;
-  done = λ i d there low. ends_else slot round at olds lines pages is_kept is none before i d there low (nat_lt i (round * 40)) refl;
-  to_come = λ i d far. before.to_come i d (omega arith);
-}
+ends_off slot round at olds lines pages is_kept is none before =
+    still_round (ends_if slot pages is_kept) slot round at olds lines is (ends_passes slot round pages is_kept)
+    (λ d. left_alone (nat_eq (at % 40) slot) (has_page pages at) is_kept (slice_index_or olds at d) (inr none)) before
 
 -- ---- one behind the other
 
@@ -343,3 +347,30 @@ slot_ends slot pages is_kept olds mids news first then = record {
   each = λ i d there. joined (nat_eq (i % 40) slot) (slice_index_or olds i d).turned (has_page pages i) is_kept (slice_index_or olds i d) (slice_index_or mids i d) (slice_index_or news i d)
       (first.each i d there) (then.each i d (omega (arith, first.as_many)));
 }
+
+-- ---- where pages are not kept
+
+abbrev pub out_if : ℕ → ℕ → PlaceValue → PlaceValue → Type 0
+out_if slot number place = EndsWhere (was_turned slot number place) true place
+
+pub out_passes : (slot round : ℕ) → PassesOver (out_if slot) slot round
+out_passes slot round i place far off = left_alone (nat_eq (i % 40) slot) place.turned true place (inl (ne_eqb (i % 40) slot off))
+
+-- the line of a round had a turn
+pub out_on :
+    (slot round at : ℕ) (olds lines : List PlaceValue) (old new : PlaceValue) → at ≡ round * 40 + slot → slot < 40 → at < length lines
+    → ((d : PlaceValue) → old ≡ slice_index_or lines at d) → Rounds (out_if slot) round olds lines → old.turned ≡ true
+    → EndsWhere true true old new → Rounds (out_if slot) (round + 1) olds (slice_set lines at new)
+out_on slot round at olds lines old new is low inside was before turned ends =
+    on_round (out_if slot) slot round at olds lines new is low inside (out_passes slot round) before
+    (λ d. subst (λ (p : PlaceValue). out_if slot at p new) (was d ∙ before.to_come at d (omega (arith, is)))
+    (ends_so (nat_eq (at % 40) slot) old.turned true old new (of_slot at round slot is low) turned ends))
+
+-- or it had none
+pub out_off :
+    (slot round at : ℕ) (olds lines : List PlaceValue) (old : PlaceValue) → at ≡ round * 40 + slot → ((d : PlaceValue) → old ≡ slice_index_or lines at d)
+    → Rounds (out_if slot) round olds lines → old.turned ≡ false → Rounds (out_if slot) (round + 1) olds lines
+out_off slot round at olds lines old is was before rests =
+    still_round (out_if slot) slot round at olds lines is (out_passes slot round)
+    (λ d. subst (λ (p : PlaceValue). out_if slot at p p) (was d ∙ before.to_come at d (omega (arith, is)))
+    (left_alone (nat_eq (at % 40) slot) old.turned true old (inr rests))) before

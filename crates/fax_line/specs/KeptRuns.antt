@@ -8,7 +8,7 @@ use Rattle.fax_hold.specs.Keeping.{PutsIf}
 use Rattle.fax_line.specs.Deeds.{RingsLine, SlotTells, TurnsSlot, WakesLine, Went}
 use Rattle.fax_line.specs.Places.{PlaceValue}
 use Rattle.fax_line.specs.Runs.{Done, Rung, Turned, Woken, call_if, latest, next_slot}
-use Rattle.fax_line.specs.Settling.{ArePagesOf, EndsSlot, has_page, is_kept_in, was_turned}
+use Rattle.fax_line.specs.Settling.{ArePagesOf, EndsSlot, LetsOutSlot, has_page, is_kept_in, was_turned}
 use Rattle.fax_line.specs.declared.settling.PageToKeep.{PageToKeep}
 use Rattle.fax_line.specs.declared.settling.SlotEnd.{SlotEnd}
 
@@ -66,7 +66,7 @@ pub record IsSettled {K : Type 0} (same : K → K → Type 0) (puts : List PageT
 -- where there is a keeper
 abbrev pub IsSettledIf : {K : Type 0} → (K → K → Type 0) → (List PageToKeep → Bool → K → K → Type 0) → (ℕ → ℕ → K → K → Type 0) → (ℕ → Report → K → K → Type 0)
     → ℕ → List PlaceValue → List PlaceValue → Option K → Option K → Type 0
-IsSettledIf same puts notes ends slot old new None after = after ≡ None
+IsSettledIf same puts notes ends slot old new None after = (after ≡ None) × LetsOutSlot slot old new
 IsSettledIf {K} same puts notes ends slot old new (Some before) after =
     (left : K) × (after ≡ Some left) × (end : SlotEnd) × IsSettled same puts notes ends slot end old new before left
 
@@ -88,10 +88,20 @@ Ran same puts notes ends first (Rung line now answer ∷ done) settled old new b
 Ran same puts notes ends first (Woken line ∷ done) settled old new before after =
     (mid : List PlaceValue) × Ran same puts notes ends first done settled old mid before after × Went (WakesLine line ∷ []) mid new
 
+-- A RUN WITHOUT A KEEPER: what a turn of a slot gave goes out before anything else is done.
+abbrev pub RanWithout : ℕ → List Done → List PlaceValue → List PlaceValue → Type 0
+RanWithout first [] old new = new ≡ old
+RanWithout first (Turned now rests ∷ done) old new =
+    (mid : List PlaceValue) × (turned : List PlaceValue) × RanWithout first done old mid × Went (TurnsSlot (next_slot first done) (max (latest done) now) rests ∷ []) mid turned
+    × SlotTells (next_slot first done) (max (latest done) now) rests mid turned × LetsOutSlot (next_slot first done) turned new
+RanWithout first (Rung line now answer ∷ done) old new =
+    (mid : List PlaceValue) × RanWithout first done old mid × Went (RingsLine line (max (latest done) now) (call_if answer) ∷ []) mid new
+RanWithout first (Woken line ∷ done) old new = (mid : List PlaceValue) × RanWithout first done old mid × Went (WakesLine line ∷ []) mid new
+
 -- where there is a keeper; a run that begins with none has none
 abbrev pub RanIf : {K : Type 0} → (K → K → Type 0) → (List PageToKeep → Bool → K → K → Type 0) → (ℕ → ℕ → K → K → Type 0) → (ℕ → Report → K → K → Type 0)
     → ℕ → List Done → List PlaceValue → List PlaceValue → Option K → Option K → Type 0
-RanIf same puts notes ends first done old new None after = after ≡ None
+RanIf same puts notes ends first done old new None after = (after ≡ None) × RanWithout first done old new
 RanIf {K} same puts notes ends first done old new (Some before) after =
     (left : K) × (after ≡ Some left) × (settled : List SlotEnd) × Ran same puts notes ends first done settled old new before left
 

@@ -86,6 +86,10 @@ EndsWhere false is_kept old new = new ≡ old
 abbrev pub EndsSlot : ℕ → (ℕ → Bool) → List PlaceValue → List PlaceValue → Type 0
 EndsSlot slot is_kept old new = EachComes (λ number place. EndsWhere (was_turned slot number place) (is_kept number) place) old new
 
+-- Where pages are not kept it ends as where all of them are: what each line gave goes out.
+abbrev pub LetsOutSlot : ℕ → List PlaceValue → List PlaceValue → Type 0
+LetsOutSlot slot old new = EndsSlot slot (λ number. true) old new
+
 -- ---- before the pages are kept
 
 -- The page that a line's turn confirmed joins those that are to be kept, and the line waits for that;

@@ -220,11 +220,13 @@ impl<W: TimedWire + Drop> Line<HoldingWire<W>> {
         end_turn(&mut self.wire, self.turned.kept.is_some(), is_kept);
     }
 
-    /// The end of a turn where pages are not kept: what it gave on the calling leg goes out. The line goes through nothing in it.
+    /// The end of a turn where pages are not kept: what it gave on the calling leg goes out, as where its page is kept. The line goes
+    /// through nothing in it.
     pub fn let_out(&mut self)
+        ensures ends { EndsTurn true self.old self.new }
         ensures goes { Goes [] self.old self.new }
         ensures turned { self.new.turned ≡ self.old.turned }
     {
-        let _ = self.wire.release();
+        self.end_turn(true);
     }
 }

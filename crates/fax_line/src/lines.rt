@@ -7,7 +7,7 @@ ghost use Rattle.fax_line.specs.Places.{visit_of};
 ghost use Rattle.fax_line.specs.Deeds.{AreBegun, AreNew, EachComes, EachGoes, IsAdded, IsLineAt, RingsLine, SlotTells, TurnsSlot, WakesLine, Went, have_turned, most_slots, rests_at, slot_after, slot_before, slot_of};
 ghost use Rattle.fax_line.specs.KeptRuns.{EndsIf, NotesIf, TellsLine, TellsSlot, TellsWhere};
 ghost use Rattle.fax_line.specs.Runs.{call_if};
-ghost use Rattle.fax_line.specs.Settling.{ArePagesOf, EndsSlot, EndsWhere, HandsOverSlot, has_page, is_kept_in};
+ghost use Rattle.fax_line.specs.Settling.{ArePagesOf, EndsSlot, EndsWhere, HandsOverSlot, LetsOutSlot, has_page, is_kept_in};
 ghost use Rattle.fax_line.specs.declared.settling.PageToKeep.{PageToKeep as ToKeep};
 
 use crate::keeper::RunKeeper;
@@ -179,6 +179,7 @@ impl<W: TimedWire + Drop> Lines<HoldingWire<W>> {
     /// The end of the turn of the slot that had the last one, where pages are not kept: what its lines gave on their calling legs
     /// goes out.
     pub fn let_out_slot(&mut self)
+        ensures ends { LetsOutSlot (slot_before self.old.slot) self.old.lines self.new.lines }
         ensures went { Went [] self.old.lines self.new.lines }
         ensures slot { self.new.slot ≡ self.old.slot }
     {
@@ -354,7 +355,8 @@ fn end_slot<W: TimedWire + Drop>(
 /// What the lines of a slot gave on their calling legs goes out, where they had turns.
 fn let_out_places<W: TimedWire + Drop>(places: &mut [Place<HoldingWire<W>>], slot: usize)
     requires { slot < most_slots }
-    ensures { EachGoes (λ i. []) places.old places.new }
+    ensures goes { EachGoes (λ i. []) places.old places.new }
+    ensures ends { LetsOutSlot slot places.old places.new }
 {
     let rounds = places.len() / SLOTS + 1;
     for round in 0..rounds {

@@ -153,6 +153,7 @@ impl<W: TimedWire + Drop> Place<HoldingWire<W>> {
 
     /// The end of a turn of the line, where pages are not kept.
     pub fn let_out(&mut self)
+        ensures ends { EndsTurn true self.old.line self.new.line }
         ensures goes { GoesInPlace [] self.old self.new }
         ensures turned { self.new.turned ≡ self.old.turned }
     {

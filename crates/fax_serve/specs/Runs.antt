@@ -1,11 +1,14 @@
 -- A whole run of a server (this project's profile).
 use Rattle.std.specs.Prelude.{◌≡◌, ℕ, Bool, false, List, length}
 use Rattle.fax_line.specs.Deeds.{AreBegun, AreNew, AreRising, Deed, Went}
+use Rattle.fax_line.specs.KeptRuns.{RanWithout}
 use Rattle.fax_line.specs.Places.{PlaceValue}
+use Rattle.fax_line.specs.Runs.{Done}
 
 -- So many lines were served, each by itself: nothing had come to them, none was restored with a page where there is no spool, and
 -- there is a list of what was done, with moments that never go
--- back, through which each line went its own part. What came over the wires and what was ordered may be anything.
+-- back, through which each line went its own part. Where there is no spool, what a turn of a slot gave went out behind it,
+-- before anything else was done. What came over the wires and what was ordered may be anything.
 pub record ServedAlone (count : ℕ) (has_spool : Bool) : Type 0 where
   pub begun : List PlaceValue
   pub left : List PlaceValue
@@ -16,3 +19,4 @@ pub record ServedAlone (count : ℕ) (has_spool : Bool) : Type 0 where
   pub new : has_spool ≡ false → AreNew begun
   pub went : Went deeds begun left
   pub rising : AreRising deeds last
+  pub out : has_spool ≡ false → (first : ℕ) × (done : List Done) × RanWithout first done begun left

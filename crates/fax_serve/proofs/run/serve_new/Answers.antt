@@ -15,4 +15,5 @@ returns g c =
       new = λ _. c.requires;
       went = c.serve.ensures.1;
       rising = c.serve.ensures.3;
+      out = λ _. (c.args.lines.slot, done, c.serve.ensures.5.1);
     }

@@ -15,6 +15,7 @@ returns-clause-alone g c =
       new = λ no. cc no;
       went = c.serve.ensures.1;
       rising = c.serve.ensures.3;
+      out = λ no. cc no;
     }
 
 pub returns-clause-kept : goal.returns-clause-kept
