@@ -1,5 +1,5 @@
 -- Logs that follow one another.
-use Rattle.std.proofs.Common.{◌≡◌, ℕ, ◌+◌, ◌*◌, ◌^◌, ◌<◌, ◌≤◌, ◌↔◌, min, take, IsTrue, suc, inl, inr, nat_eq, Bool, true, false, cond, List, [], ◌∷◌, ◌++◌, Option, Some, None, Result, Ok, Err, IfOk, OnErr, refl, sym, ◌∙◌, ap, subst, length, length-append, append_assoc, zero-add, arith}
+use Rattle.std.proofs.Common.{◌≡◌, ℕ, ◌+◌, ◌*◌, ◌^◌, ◌<◌, ◌≤◌, ◌↔◌, min, take, IsTrue, suc, inl, inr, nat_eq, Bool, true, false, not, cond, List, [], ◌∷◌, ◌++◌, Option, Some, None, Result, Ok, Err, IfOk, OnErr, refl, sym, ◌∙◌, ap, subst, length, length-append, append_assoc, zero-add, arith}
 use Rattle.std.specs.Result.{is_ok, is_err}
 use Rattle.std.specs.List.{All, count_by, list_any}
 use Rattle.std.proofs.lemmas.List.Elements.{All-head, All-tail}
@@ -25,7 +25,7 @@ use Rattle.fax_gateway.specs.CalledLegs.{decided_called}
 use Rattle.fax_gateway.specs.Sides.{sides}
 use Rattle.fax_gateway.specs.Reached.{HearsFrom, IsReachedBy}
 use Rattle.fax_gateway.specs.Wires.{Known, Came, Nothing, Failed, Grows, buffer_octets, greatest_count, failures_after, receipt_of}
-use Rattle.fax_gateway.specs.Driving.{Entry, AreWanting, IsWanting, Accepts, BringsNone, moment_of, AreReceives, AreRounds, HasFailed, IsRing, IsRingIf, IsRingRefused, IsRound, IsTick, IsTurn, RefusesRing, Tells, log_of, is_refused_ring, RefusesDatagram, RefusesTick, ReceivesNothing, FailsToReceive, Sends, DriverValue, Carries, Happens, HasMade, Steps, Comes, IsHanded, IsSent, counted, events, events_in, failed_in_a_row, most_failed, receipts, receipts_in, sent, sent_in, is_failed_receive, is_failed_send, is_refused_event}
+use Rattle.fax_gateway.specs.Driving.{Entry, AreWanting, IsWanting, Accepts, BringsNone, moment_of, AreReceives, AreRounds, HasFailed, IsRing, IsRingIf, IsRingRefused, IsRound, IsTick, IsTurn, RefusesRing, Tells, log_of, is_refused_ring, RefusesDatagram, RefusesTick, ReceivesNothing, FailsToReceive, Sends, DriverValue, Carries, Happens, HasMade, Steps, WireGoes, GoesBy, GoesByEvent, Comes, IsHanded, IsSent, counted, events, events_in, failed_in_a_row, most_failed, receipts, receipts_in, sent, sent_in, is_failed_receive, is_failed_send, is_refused_event}
 
 pub grows_more : {A : Type 0} (older newer : List A) (a b c : Option (List A)) → Grows older a b → Grows newer b c → Grows (newer ++ older) a c
 grows_more older newer a b None first second = tt
@@ -101,6 +101,62 @@ steps_more setup writes older newer trace earlier g h a b c d e first second = r
   happens = happens_more setup writes older newer trace g h a b c first.happens second.happens;
   made = subst (λ (l : List Entry). HasMade l e) (sym (append_assoc newer older earlier)) second.made;
 }
+
+-- ---- what the wire goes through
+
+pub wire_more : {W : Type 0} (receives : Side → W → W → Type 0) (sends : Side → List ℕ → Bool → W → W → Type 0) (older newer : List Entry) (a b c : W)
+    → WireGoes receives sends older a b → WireGoes receives sends newer b c → WireGoes receives sends (newer ++ older) a c
+wire_more receives sends older [] a b c first second = subst (λ w. WireGoes receives sends older a w) (sym second) first
+wire_more receives sends older (e ∷ newer) a b c first second = (second.0, wire_more receives sends older newer a b second.0 first second.1, second.2)
+
+pub wire_by : {W : Type 0} (receives : Side → W → W → Type 0) (sends : Side → List ℕ → Bool → W → W → Type 0) (e : Entry) (a b : W)
+    → GoesBy receives sends e a b → WireGoes receives sends (e ∷ []) a b
+wire_by receives sends e a b by = (a, refl, by)
+
+-- a datagram that came was received on its leg
+pub wire_came : {W : Type 0} (receives : Side → W → W → Type 0) (sends : Side → List ℕ → Bool → W → W → Type 0) (at : Side) (now : ℕ) (e : Entry) (a b : W)
+    → Comes at now e → receives at a b → WireGoes receives sends (e ∷ []) a b
+wire_came receives sends at now (Accepts (Ring moment number)) a b comes by = absurd comes
+wire_came receives sends at now (Accepts (FromCalling octets moment decided read)) a b comes by = (a, refl, subst (λ (s : Side). receives s a b) comes.0 by)
+wire_came receives sends at now (Accepts (FromCalled octets moment decided)) a b comes by = (a, refl, subst (λ (s : Side). receives s a b) comes.0 by)
+wire_came receives sends at now (Accepts (Tick moment given)) a b comes by = absurd comes
+wire_came receives sends at now (RefusesRing fault) a b comes by = absurd comes
+wire_came receives sends at now (RefusesDatagram on octets) a b comes by = (a, refl, subst (λ (s : Side). receives s a b) (sym comes) by)
+wire_came receives sends at now (RefusesTick moment) a b comes by = absurd comes
+wire_came receives sends at now (ReceivesNothing on) a b comes by = absurd comes
+wire_came receives sends at now (FailsToReceive on) a b comes by = absurd comes
+wire_came receives sends at now (Sends on octets fails) a b comes by = absurd comes
+
+-- what is shown of a wire goes so too, where each of its calls does
+by_event_shown : {W V : Type 0} (shown : W → V) (receives : Side → W → W → Type 0) (receives' : Side → V → V → Type 0) (event : Event) (a b : W)
+    → ((at : Side) (old new : W) → receives at old new → receives' at (shown old) (shown new)) → GoesByEvent receives event a b → GoesByEvent receives' event (shown a) (shown b)
+by_event_shown shown receives receives' (Ring now number) a b on_receive by = ap shown by
+by_event_shown shown receives receives' (FromCalling octets now decided read) a b on_receive by = on_receive side.Calling a b by
+by_event_shown shown receives receives' (FromCalled octets now decided) a b on_receive by = on_receive side.Called a b by
+by_event_shown shown receives receives' (Tick now given) a b on_receive by = ap shown by
+
+by_shown : {W V : Type 0} (shown : W → V) (receives : Side → W → W → Type 0) (sends : Side → List ℕ → Bool → W → W → Type 0) (receives' : Side → V → V → Type 0) (sends' : Side → List ℕ → Bool → V → V → Type 0)
+    (e : Entry) (a b : W) → ((at : Side) (old new : W) → receives at old new → receives' at (shown old) (shown new))
+    → ((at : Side) (octets : List ℕ) (is_sent : Bool) (old new : W) → sends at octets is_sent old new → sends' at octets is_sent (shown old) (shown new))
+    → GoesBy receives sends e a b → GoesBy receives' sends' e (shown a) (shown b)
+by_shown shown receives sends receives' sends' (Accepts event) a b on_receive on_send by = by_event_shown shown receives receives' event a b on_receive by
+by_shown shown receives sends receives' sends' (RefusesRing fault) a b on_receive on_send by = ap shown by
+by_shown shown receives sends receives' sends' (RefusesDatagram at octets) a b on_receive on_send by = on_receive at a b by
+by_shown shown receives sends receives' sends' (RefusesTick now) a b on_receive on_send by = ap shown by
+by_shown shown receives sends receives' sends' (ReceivesNothing at) a b on_receive on_send by = on_receive at a b by
+by_shown shown receives sends receives' sends' (FailsToReceive at) a b on_receive on_send by = on_receive at a b by
+by_shown shown receives sends receives' sends' (Sends at octets fails) a b on_receive on_send by = on_send at octets (not fails) a b by
+
+pub wire_shown : {W V : Type 0} (shown : W → V) (receives : Side → W → W → Type 0) (sends : Side → List ℕ → Bool → W → W → Type 0) (receives' : Side → V → V → Type 0) (sends' : Side → List ℕ → Bool → V → V → Type 0)
+    (log : List Entry) (a b : W) → ((at : Side) (old new : W) → receives at old new → receives' at (shown old) (shown new))
+    → ((at : Side) (octets : List ℕ) (is_sent : Bool) (old new : W) → sends at octets is_sent old new → sends' at octets is_sent (shown old) (shown new))
+    → WireGoes receives sends log a b → WireGoes receives' sends' log (shown a) (shown b)
+wire_shown shown receives sends receives' sends' [] a b on_receive on_send goes = ap shown goes
+wire_shown shown receives sends receives' sends' (e ∷ earlier) a b on_receive on_send goes = (
+  shown goes.0,
+  wire_shown shown receives sends receives' sends' earlier a goes.0 on_receive on_send goes.1,
+  by_shown shown receives sends receives' sends' e goes.0 b on_receive on_send goes.2,
+)
 
 -- ---- one entry
 

@@ -187,6 +187,28 @@ pub record Carries (log : List Entry) (before after : Known) : Type 0 where
   pub sent : Grows (sent log) before.sent after.sent
   pub failures : after.failures < greatest_count → after.failures ≡ before.failures + (count_by is_failed_receive log + count_by is_failed_send log)
 
+-- what an entry made of the wire, by what its calls make of it: a receive on a leg, a send, or neither
+abbrev pub GoesByEvent : {W : Type 0} → (Side → W → W → Type 0) → Event → W → W → Type 0
+GoesByEvent receives (Ring now number) old new = new ≡ old
+GoesByEvent receives (FromCalling octets now decided read) old new = receives side.Calling old new
+GoesByEvent receives (FromCalled octets now decided) old new = receives side.Called old new
+GoesByEvent receives (Tick now given) old new = new ≡ old
+
+abbrev pub GoesBy : {W : Type 0} → (Side → W → W → Type 0) → (Side → List ℕ → Bool → W → W → Type 0) → Entry → W → W → Type 0
+GoesBy receives sends (Accepts event) old new = GoesByEvent receives event old new
+GoesBy receives sends (RefusesRing fault) old new = new ≡ old
+GoesBy receives sends (RefusesDatagram at octets) old new = receives at old new
+GoesBy receives sends (RefusesTick now) old new = new ≡ old
+GoesBy receives sends (ReceivesNothing at) old new = receives at old new
+GoesBy receives sends (FailsToReceive at) old new = receives at old new
+GoesBy receives sends (Sends at octets fails) old new = sends at octets (not fails) old new
+
+-- THE WIRE WENT from the one to the other by just the receives and sends of the log, one after the other: nothing else was done with
+-- it.
+abbrev pub WireGoes : {W : Type 0} → (Side → W → W → Type 0) → (Side → List ℕ → Bool → W → W → Type 0) → List Entry → W → W → Type 0
+WireGoes receives sends [] old new = new ≡ old
+WireGoes {W} receives sends (entry ∷ earlier) old new = (between : W) × WireGoes receives sends earlier old between × GoesBy receives sends entry between new
+
 -- What is refused, behind this trace, for want of memory, wants some: of the datagrams those alone that decide a slot, and a
 -- tick only where something is due. A ring is refused as busy exactly where a call is on, and where none is, for want of a
 -- number exactly where none is left: so that any other refusal is for want of memory.

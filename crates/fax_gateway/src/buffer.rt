@@ -49,6 +49,7 @@ impl Buffer {
         ensures failures { (W.known wire.new).failures ≡ failures_after (W.known wire.old).failures result }
         ensures received { Grows (receipt_of side self.new result ∷ []) (W.known wire.old).received (W.known wire.new).received }
         ensures sent { Grows [] (W.known wire.old).sent (W.known wire.new).sent }
+        ensures makes { W.receives side wire.old wire.new }
     {
         wire.receive(side, self.octets.as_mut_slice())
     }

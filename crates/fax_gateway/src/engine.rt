@@ -5,7 +5,7 @@ ghost use Rattle.fax_gateway.specs.Setups.{Setup};
 ghost use Rattle.fax_gateway.specs.Events.{Event};
 ghost use Rattle.fax_gateway.specs.Reached.{IsReachedBy};
 ghost use Rattle.fax_gateway.specs.declared.side.Side.{Side as SideShown};
-ghost use Rattle.fax_gateway.specs.Driving.{AreReceives, Carries, Comes, Entry, FailsToReceive, Happens, HasMade, IsHanded, IsReceive, IsSent, IsTick, IsTurn, IsWanting, Steps, events, failed_in_a_row, most_failed, receipts};
+ghost use Rattle.fax_gateway.specs.Driving.{AreReceives, Carries, Comes, Entry, FailsToReceive, Happens, HasMade, IsHanded, IsReceive, IsSent, IsTick, IsTurn, IsWanting, Steps, WireGoes, events, failed_in_a_row, most_failed, receipts};
 ghost use Rattle.fax_gateway.specs.Turns.{TellTicks, call_dialled, call_ended, call_kept};
 
 use crate::buffer::Buffer;
@@ -70,7 +70,8 @@ impl Engine {
     ) -> Turned
         ensures turned { (setup : Setup) (writes : Writing) (trace : List Event) (earlier : List Entry) → IsWriting writes → IsReachedBy setup writes trace gateway.old → HasMade earlier self.old
             → (turn : List Entry) × IsTurn now turn × Happens setup writes turn trace gateway.new (W.known wire.old) (W.known wire.new) × HasMade (turn ++ earlier) self.new
-            × TellTicks setup trace (events turn ++ trace) result.report result.kept result.refused result.gave_up }
+            × TellTicks setup trace (events turn ++ trace) result.report result.kept result.refused result.gave_up
+            × WireGoes W.receives W.sends turn wire.old wire.new }
         ensures goes_on { (made : List Entry) → HasMade made self.new → IsTrue result.goes_on ↔ (failed_in_a_row (receipts made) < most_failed) }
         ensures ended { result.ended ≡ call_ended (call_kept gateway.old.calling) (call_kept gateway.new.calling) }
         ensures dialled { result.dialled ≡ call_dialled (is_some gateway.old.book.sending) gateway.new.book.sending }
@@ -115,7 +116,8 @@ impl Engine {
         now: u64,
     )
         ensures { (setup : Setup) (writes : Writing) (trace : List Event) (earlier : List Entry) → IsReachedBy setup writes trace gateway.old → HasMade earlier self.old
-            → (log : List Entry) × AreReceives side now log × Steps setup writes log trace earlier gateway.new (W.known wire.old) (W.known wire.new) self.new }
+            → (log : List Entry) × AreReceives side now log × Steps setup writes log trace earlier gateway.new (W.known wire.old) (W.known wire.new) self.new
+            × WireGoes W.receives W.sends log wire.old wire.new }
     {
         for _ in 0..MOST_DATAGRAMS {
             if !self.receive(side, buffer, gateway, wire, now) {
@@ -134,7 +136,8 @@ impl Engine {
         now: u64,
     ) -> bool
         ensures { (setup : Setup) (writes : Writing) (trace : List Event) (earlier : List Entry) → IsReachedBy setup writes trace gateway.old → HasMade earlier self.old
-            → (entry : Entry) × IsReceive result side now entry × Steps setup writes (entry ∷ []) trace earlier gateway.new (W.known wire.old) (W.known wire.new) self.new }
+            → (entry : Entry) × IsReceive result side now entry × Steps setup writes (entry ∷ []) trace earlier gateway.new (W.known wire.old) (W.known wire.new) self.new
+            × WireGoes W.receives W.sends (entry ∷ []) wire.old wire.new }
     {
         match buffer.receive(side, wire) {
             Ok(Some(count)) => {
@@ -182,7 +185,8 @@ impl Engine {
     ) -> Told
         ensures { (setup : Setup) (writes : Writing) (trace : List Event) (earlier : List Entry) → IsWriting writes → IsReachedBy setup writes trace gateway.old → HasMade earlier self.old
             → (log : List Entry) × IsTick now log × Steps setup writes log trace earlier gateway.new (W.known wire.old) (W.known wire.new) self.new
-            × TellTicks setup trace (events log ++ trace) result.report result.kept result.refused result.gave_up }
+            × TellTicks setup trace (events log ++ trace) result.report result.kept result.refused result.gave_up
+            × WireGoes W.receives W.sends log wire.old wire.new }
     {
         match gateway.tick(now) {
             Ok(given) => {
@@ -200,7 +204,8 @@ impl Engine {
     /// Sends what is given on a leg.
     fn send<W: Wire>(&mut self, side: Side, given: &Option<Octets>, wire: &mut W)
         ensures { (earlier : List Entry) → HasMade earlier self.old
-            → (log : List Entry) × IsSent side given.now log × Carries log (W.known wire.old) (W.known wire.new) × HasMade (log ++ earlier) self.new }
+            → (log : List Entry) × IsSent side given.now log × Carries log (W.known wire.old) (W.known wire.new) × HasMade (log ++ earlier) self.new
+            × WireGoes W.receives W.sends log wire.old wire.new }
     {
         let Some(octets) = given else {
             return;

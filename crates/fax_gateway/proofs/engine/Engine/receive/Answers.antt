@@ -1,7 +1,7 @@
 use Rattle.std.proofs.Common.{ℕ, List, Ok, inl, inr, refl, sym, ◌∙◌, ap, subst}
 use Rattle.fax_gateway.specs.declared.side.Side.{Side}
 use Rattle.fax_gateway.specs.Driving.{DriverValue, FailsToReceive, HasMade, ReceivesNothing}
-use Rattle.fax_gateway.proofs.DrivingLemmas.{carries_datagram, carries_failure, carries_nothing, made_nothing}
+use Rattle.fax_gateway.proofs.DrivingLemmas.{carries_datagram, carries_failure, carries_nothing, made_nothing, wire_by, wire_came}
 use Rattle.fax_gateway.proofs.engine.Engine.receive.Goals as goal
 
 pub returns-in-Ok-Some : goal.returns-in-Ok-Some
@@ -20,6 +20,7 @@ returns-in-Ok-Some g c setup writes trace earlier reached made =
         };
         made = c.note_datagram.ensures earlier at octets h.0 h.2 made;
       },
+      wire_came g.W.Wire.receives g.W.Wire.sends at c.args.now h.0 c.args.wire.now c.receive.new.wire h.1 k.makes,
     )
 
 pub returns-in-Ok-None : goal.returns-in-Ok-None
@@ -36,6 +37,7 @@ returns-in-Ok-None g c setup writes trace earlier reached made =
         };
         made = made_nothing earlier at _ (subst (λ (d : DriverValue). HasMade earlier d) (sym c.self.view_is) made);
       },
+      wire_by g.W.Wire.receives g.W.Wire.sends (ReceivesNothing at) c.args.wire.now c.receive.new.wire k.makes,
     )
 
 pub returns-in-Err : goal.returns-in-Err
@@ -52,4 +54,5 @@ returns-in-Err g c setup writes trace earlier reached made =
         };
         made = c.note_failure.ensures earlier at made;
       },
+      wire_by g.W.Wire.receives g.W.Wire.sends (FailsToReceive at) c.args.wire.now c.receive.new.wire k.makes,
     )

@@ -5,7 +5,7 @@ use Rattle.fax_gateway.specs.Reached.{given_shown}
 use Rattle.fax_gateway.specs.Turns.{IsRefusedAt, TellTicks}
 use Rattle.fax_gateway.specs.declared.side.Side.TheVariants as side
 use Rattle.fax_gateway.specs.Driving.{Accepts, DriverValue, Entry, HasMade, RefusesTick, Steps, events}
-use Rattle.fax_gateway.proofs.DrivingLemmas.{carries_unseen, made_refused_tick, made_unseen, steps_more, steps_send}
+use Rattle.fax_gateway.proofs.DrivingLemmas.{carries_unseen, made_refused_tick, made_unseen, steps_more, steps_send, wire_by, wire_more}
 use Rattle.fax_gateway.proofs.Turning.{due_where_refused, refused_tells, tick_tells}
 use Rattle.fax_gateway.proofs.engine.Engine.tick.Goals as goal
 
@@ -33,6 +33,8 @@ returns-in-Ok g c setup writes trace earlier writing reached made =
           (ap (λ t. t.kept) c.told.ensures ∙ c.in-Ok.ensures.confirmed setup writes trace reached)
           (subst (IsRefusedAt (calling_leg setup trace) (max c.args.now (clock trace))) (sym (ap (λ t. t.refused) c.told.ensures)) (c.in-Ok.ensures.refused setup writes trace reached))
           (ap (λ t. t.gave_up) c.told.ensures ∙ c.in-Ok.ensures.given_up setup writes trace reached),
+      wire_more g.W.Wire.receives g.W.Wire.sends (first.0 ++ e ∷ []) second.0 c.args.wire.now c.send.new.wire c.send-in-Ok.new.wire
+          (wire_more g.W.Wire.receives g.W.Wire.sends (e ∷ []) first.0 c.args.wire.now c.args.wire.now c.send.new.wire (wire_by g.W.Wire.receives g.W.Wire.sends e c.args.wire.now c.args.wire.now refl) first.4) second.4,
     )
 
 pub returns-in-Err : goal.returns-in-Err
@@ -48,4 +50,5 @@ returns-in-Err g c setup writes trace earlier writing reached made = (
     made = made_refused_tick c.args.now earlier _ _ c.saturating_add-self-inside.ensures (subst (λ (d : DriverValue). HasMade earlier d) (sym c.self.view_is) made);
   },
   subst (λ t. TellTicks setup trace trace t.report t.kept t.refused t.gave_up) (sym c.nothing.ensures) (refused_tells setup trace),
+  wire_by g.W.Wire.receives g.W.Wire.sends (RefusesTick c.args.now) c.args.wire.now c.args.wire.now refl,
 )

@@ -1,6 +1,6 @@
 use Rattle.std.proofs.Common.{◌++◌, refl}
 use Rattle.fax_gateway.specs.Driving.{events}
-use Rattle.fax_gateway.proofs.DrivingLemmas.{steps_more}
+use Rattle.fax_gateway.proofs.DrivingLemmas.{steps_more, wire_more}
 use Rattle.fax_gateway.proofs.Turning.{turn_tells}
 use Rattle.fax_gateway.proofs.engine.Engine.turn.Goals as goal
 
@@ -16,4 +16,6 @@ returns-clause-turned g c setup writes trace earlier writing reached made =
       all.happens,
       all.made,
       turn_tells setup c.args.now a.0 b.0 t.0 trace _ _ _ _ a.1 b.1 t.3,
+      wire_more g.W.Wire.receives g.W.Wire.sends (b.0 ++ a.0) t.0 c.args.wire.now c.serve-2.new.wire c.tick-told.new.wire
+          (wire_more g.W.Wire.receives g.W.Wire.sends a.0 b.0 c.args.wire.now c.serve.new.wire c.serve-2.new.wire a.3 b.3) t.4,
     )
