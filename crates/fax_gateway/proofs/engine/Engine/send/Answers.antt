@@ -9,8 +9,7 @@ returns-in-Ok g c earlier made =
     let at : Side = c.args.side in
     let octets : List ℕ = c.as_slice.result.now in
     let e : Entry = Sends at octets false in
-    let h = c.in-Ok.ensures in
-    (
+    let h = c.in-Ok.ensures in (
       e ∷ [],
       is_sent at c.args.given.now c.in-Some.octets octets false c.in-Some.is c.as_slice.ensures,
       carries_send at octets _ _ false h.failures h.received h.sent,

@@ -27,8 +27,7 @@ returns-then-not-receive g c setup writes trace earlier reached made =
     let came : List Entry = before.0 in
     let many : length came ≡ c.loop.counter = before.2 in
     let steps = before.3 in
-    let last = c.if-not-receive.ensures setup writes (events came ++ trace) (came ++ earlier) steps.happens.reached steps.made in
-    (
+    let last = c.if-not-receive.ensures setup writes (events came ++ trace) (came ++ earlier) steps.happens.reached steps.made in (
       last.0 ∷ came,
       inr (came, last.0, refl, before.1, omega arith, last.1),
       steps_more setup writes came (last.0 ∷ []) trace earlier _ _ _ _ _ _ _ steps last.2,
