@@ -1,1 +1,1 @@
-mod Held
+pub mod Held

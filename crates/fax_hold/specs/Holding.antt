@@ -1,9 +1,8 @@
 -- A wire that holds back what goes out on the calling leg. Lists have the newest first. (This project's profile.)
-use Rattle.std.specs.Prelude.{◌≡◌, ℕ, Bool, true, false, List, [], ◌∷◌, Option, Some, None, Result, Ok, Err, Vec, if◌then◌else◌}
+use Rattle.std.specs.Prelude.{◌≡◌, ℕ, Bool, true, false, List, [], ◌∷◌, Option, Some, None, Vec, if◌then◌else◌}
 use Rattle.std.specs.declared.alloc.Global.{Global}
 use Rattle.fax_gateway.specs.declared.side.Side.{Side}
 use Rattle.fax_gateway.specs.declared.side.Side.TheVariants as side
-use Rattle.fax_gateway.specs.declared.wire.WireFault.{WireFault}
 use Rattle.fax_gateway.specs.Wires.{Grows, Handed, Known}
 use Rattle.fax_repeat.specs.Policies.{IsToldAs}
 
@@ -56,11 +55,17 @@ pub record HandsOn (octets : List ℕ) (old new : HoldingValue) : Type 0 where
   pub received : Grows [] old.wire.received new.wire.received
   pub sent : Grows (record { side = side.Called; octets = octets } ∷ []) old.wire.sent new.wire.sent
 
--- a send on a leg
-abbrev pub Sends : Side → List ℕ → Result (Unit {0}) WireFault → HoldingValue → HoldingValue → Type 0
-Sends side.Calling octets (Ok answer) old new = Holds octets old new
-Sends side.Calling octets (Err fault) old new = Loses old new
-Sends side.Called octets answer old new = HandsOn octets old new
+-- a send on a leg, which failed or not
+abbrev pub Sends : Side → List ℕ → Bool → HoldingValue → HoldingValue → Type 0
+Sends side.Calling octets true old new = Holds octets old new
+Sends side.Calling octets false old new = Loses old new
+Sends side.Called octets is_sent old new = HandsOn octets old new
+
+-- What is held stays, and nothing goes on: as where a datagram is received, and as time goes on.
+pub record Stays (old new : HoldingValue) : Type 0 where
+  pub held : new.held ≡ old.held
+  pub is_mute : new.is_mute ≡ old.is_mute
+  pub sent : Grows [] old.wire.sent new.wire.sent
 
 -- what is held goes on
 pub record Releases (old new : HoldingValue) : Type 0 where
@@ -79,3 +84,26 @@ pub record Mutes (old new : HoldingValue) : Type 0 where
 abbrev pub Speaks : Side → HoldingValue → HoldingValue → Type 0
 Speaks side.Calling old new = (new.held ≡ None) × (new.is_mute ≡ false)
 Speaks side.Called old new = (new.held ≡ old.held) × (new.is_mute ≡ old.is_mute)
+
+-- and nothing goes on
+pub record Ceases (at : Side) (old new : HoldingValue) : Type 0 where
+  pub speaks : Speaks at old new
+  pub sent : Grows [] old.wire.sent new.wire.sent
+
+-- ---- a wire that holds back, or one that does not
+
+-- this is so of what it holds; of a wire that sends at once nothing is told
+abbrev pub WhereItHolds : (HoldingValue → HoldingValue → Type 0) → Option HoldingValue → Option HoldingValue → Type 0
+WhereItHolds comes None None = Unit {0}
+WhereItHolds comes None (Some new) = ⊥
+WhereItHolds comes (Some old) None = ⊥
+WhereItHolds comes (Some old) (Some new) = comes old new
+
+abbrev pub StaysWhere : Option HoldingValue → Option HoldingValue → Type 0
+StaysWhere old new = WhereItHolds Stays old new
+
+abbrev pub SendsWhere : Side → List ℕ → Bool → Option HoldingValue → Option HoldingValue → Type 0
+SendsWhere at octets is_sent old new = WhereItHolds (Sends at octets is_sent) old new
+
+abbrev pub CeasesWhere : Side → Option HoldingValue → Option HoldingValue → Type 0
+CeasesWhere at old new = WhereItHolds (Ceases at) old new

@@ -3,7 +3,8 @@ use Rattle.std.specs.Prelude.{◌≡◌, Bool, true, false, not, ◌&&◌, ◌||
 use Rattle.fax_gateway.specs.declared.side.Side.{Side}
 use Rattle.fax_gateway.specs.declared.side.Side.TheVariants as side
 use Rattle.fax_gateway.specs.Wires.{Handed}
-use Rattle.fax_hold.specs.Holding.{HoldingValue}
+use Rattle.fax_gateway.specs.Driving.{Entry, Accepts, FailsToReceive, ReceivesNothing, RefusesDatagram, RefusesRing, RefusesTick, Sends, WireGoes}
+use Rattle.fax_hold.specs.Holding.{HoldingValue, SendsWhere, StaysWhere}
 
 -- What happens on the calling leg of a line: a turn, which gave a datagram or none, confirmed a page or not, and had it kept or
 -- not; or the next call begins.
@@ -56,6 +57,41 @@ pub record HoldsBehind (deeds : List Deed) (given : Option (List ℕ)) (wire : H
   pub held : wire.held ≡ (if mute_after deeds then None else given)
   pub is_mute : wire.is_mute ≡ mute_after deeds
   pub out : HasSent (went_out deeds) wire.wire.sent
+
+-- ---- what the log of a turn makes of it
+
+-- What a log handed over on the calling leg, the last, where it was not lost for want of memory.
+abbrev pub handed_last : Side → List ℕ → Bool → Option (List ℕ) → Option (List ℕ)
+handed_last side.Calling octets true before = None
+handed_last side.Calling octets false before = Some octets
+handed_last side.Called octets fails before = before
+
+abbrev pub handed_by : List Entry → Option (List ℕ)
+handed_by [] = None
+handed_by (Accepts event ∷ earlier) = handed_by earlier
+handed_by (RefusesRing fault ∷ earlier) = handed_by earlier
+handed_by (RefusesDatagram at octets ∷ earlier) = handed_by earlier
+handed_by (RefusesTick now ∷ earlier) = handed_by earlier
+handed_by (ReceivesNothing at ∷ earlier) = handed_by earlier
+handed_by (FailsToReceive at ∷ earlier) = handed_by earlier
+handed_by (Sends at octets fails ∷ earlier) = handed_last at octets fails (handed_by earlier)
+
+-- of a wire that holds back; of one that sends at once nothing is told
+abbrev pub HasDoneWhere : List Deed → Option HoldingValue → Type 0
+HasDoneWhere deeds None = Unit {0}
+HasDoneWhere deeds (Some wire) = HasDone deeds wire
+
+abbrev pub HoldsBehindWhere : List Deed → Option (List ℕ) → Option HoldingValue → Type 0
+HoldsBehindWhere deeds given None = Unit {0}
+HoldsBehindWhere deeds given (Some wire) = HoldsBehind deeds given wire
+
+-- BY A LOG A WIRE COMES TO HOLD WHAT IT HANDED OVER on the calling leg, whatever deeds it had done before, and lets none of it out.
+abbrev pub HoldsByLog : List Entry → Option HoldingValue → Option HoldingValue → Type 0
+HoldsByLog log old new = (deeds : List Deed) → HasDoneWhere deeds old → HoldsBehindWhere deeds (handed_by log) new
+
+-- It does so by any log, whose receives and sends are all that is done with it.
+abbrev pub LogsAreHeld : Type 0
+LogsAreHeld = (log : List Entry) (old new : Option HoldingValue) → WireGoes (λ at. StaysWhere) SendsWhere log old new → HoldsByLog log old new
 
 -- no call begins in these deeds
 abbrev pub BeginsNone : List Deed → Type 0

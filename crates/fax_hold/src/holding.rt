@@ -1,5 +1,5 @@
 //! The wire that holds back.
-ghost use Rattle.std.specs.Prelude.{◌≡◌, ℕ, List, [], ◌∷◌, None, Some, true, false, OnOk, OnErr};
+ghost use Rattle.std.specs.Prelude.{◌≡◌, ℕ, List, [], ◌∷◌, None, Some, true, false, is_ok, OnOk, OnErr};
 ghost use Rattle.fax_gateway.specs.Wires.{Grows, failures_after};
 ghost use Rattle.fax_gateway.specs.declared.side.Side.{Side as SideShown};
 ghost use Rattle.fax_repeat.specs.Policies.{IsToldAs};
@@ -138,9 +138,13 @@ impl<W: TimedWire + Drop> HoldingWire<W> {
 }
 
 impl<W: TimedWire + Drop> Wire for HoldingWire<W> {
-    ghost use Rattle.fax_hold.specs.Holding.{as_told};
+    ghost use Rattle.fax_hold.specs.Holding.{Sends, Stays, as_told};
 
     ghost known = { as_told };
+
+    ghost receives = { λ side old new. Stays old new };
+
+    ghost sends = { λ side octets is_sent old new. Sends side octets is_sent old new };
 
     fn receive(&mut self, side: Side, buffer: &mut [u8]) -> Result<Option<usize>, WireFault> {
         match self.wire.receive(side, buffer) {
@@ -156,7 +160,7 @@ impl<W: TimedWire + Drop> Wire for HoldingWire<W> {
     fn send(&mut self, side: Side, octets: &[u8]) -> Result<(), WireFault>
         ensures failures { self.new.failures ≡ failures_after self.old.failures result }
         ensures received { Grows [] self.old.wire.received self.new.wire.received }
-        ensures sends { Sends side octets.now result self.old self.new }
+        ensures sends { Sends side octets.now (is_ok result) self.old self.new }
     {
         match side {
             Side::Calling => self.hold(octets),
@@ -166,7 +170,13 @@ impl<W: TimedWire + Drop> Wire for HoldingWire<W> {
 }
 
 impl<W: TimedWire + Drop> TimedWire for HoldingWire<W> {
+    ghost use Rattle.fax_hold.specs.Holding.{Ceases, Stays};
+
     ghost due = { λ wire. wire.due };
+
+    ghost goes_on = { λ old new. Stays old new };
+
+    ghost ceases = { λ side old new. Ceases side old new };
 
     fn go_on(&mut self, now: u64)
         ensures told { IsToldAs (as_told self.old) (as_told self.new) }
@@ -203,6 +213,14 @@ impl<W: TimedWire + Drop> LineWire for HoldingWire<W> {
     ghost use Rattle.std.specs.Prelude.{Some};
 
     ghost holding = { λ wire. Some wire };
+
+    ghost on_receive = { λ side old new made. made };
+
+    ghost on_send = { λ side octets is_sent old new made. made };
+
+    ghost on_time = { λ old new made. made };
+
+    ghost on_cease = { λ side old new made. made };
 }
 
 /// It sends at once.
@@ -210,4 +228,12 @@ impl<W: Wire + Drop> LineWire for RepeatingWire<W> {
     ghost use Rattle.std.specs.Prelude.{None};
 
     ghost holding = { λ wire. None };
+
+    ghost on_receive = { λ side old new made. tt };
+
+    ghost on_send = { λ side octets is_sent old new made. tt };
+
+    ghost on_time = { λ old new made. tt };
+
+    ghost on_cease = { λ side old new made. tt };
 }

@@ -3,7 +3,7 @@ ghost use Rattle.std.specs.Prelude.{ℕ, List, ◌∷◌, Option, None, Some};
 ghost use Rattle.fax_gateway.specs.declared.side.Side.TheVariants as side_shown;
 ghost use Rattle.fax_repeat.specs.Policies.{IsToldAs};
 ghost use Rattle.fax_hold.specs.Holding.{HoldingValue, Loses, Holds, HandsOn, Speaks};
-ghost use Rattle.fax_hold.specs.Keeping.{Deed, HasDone, HoldsBehind, KeptFirst, MuteUntilTheNextCall};
+ghost use Rattle.fax_hold.specs.Keeping.{Deed, HasDone, HoldsBehind, KeptFirst, LogsAreHeld, MuteUntilTheNextCall};
 ghost use Rattle.fax_hold.specs.Keeping.{Begins as BeginsDeed};
 
 /// What a turn gives on the calling leg goes out only where each page that it confirms is kept.
@@ -22,6 +22,12 @@ pub fn turns_are_held()
     ensures given { (deeds : List Deed) (octets : List ℕ) (old new : HoldingValue) → HasDone deeds old → Holds octets old new → HoldsBehind deeds (Some octets) new }
     ensures lost { (deeds : List Deed) (old new : HoldingValue) → HasDone deeds old → Loses old new → HoldsBehind deeds None new }
     ensures beside { (deeds : List Deed) (given : Option (List ℕ)) (octets : List ℕ) (old new : HoldingValue) → HoldsBehind deeds given old → HandsOn octets old new → HoldsBehind deeds given new }
+{}
+
+/// As a turn ends a wire that holds back holds what the turn handed over on the calling leg, unless it is mute, or the datagram was lost for
+/// want of memory; and none of that went out. So it is over any log: its receives and sends are all that is done with the wire.
+pub fn logs_are_held()
+    ensures { LogsAreHeld }
 {}
 
 /// The next call begins behind the deeds so far.

@@ -1,6 +1,7 @@
 //! The wire of a line.
-ghost use Rattle.std.specs.Prelude.{Option};
-ghost use Rattle.fax_hold.specs.Holding.{HoldingValue};
+ghost use Rattle.std.specs.Prelude.{ℕ, Bool, List, Option};
+ghost use Rattle.fax_gateway.specs.declared.side.Side.{Side as SideShown};
+ghost use Rattle.fax_hold.specs.Holding.{CeasesWhere, HoldingValue, SendsWhere, StaysWhere};
 
 use fax_repeat::TimedWire;
 
@@ -8,4 +9,16 @@ use fax_repeat::TimedWire;
 pub trait LineWire: TimedWire {
     /// What it holds, where it holds back; of another one `None`.
     ghost holding: { Self → Option HoldingValue };
+
+    /// A receive leaves what it holds as it is.
+    ghost on_receive: { (side : SideShown) (old new : Self) → Self.receives side old new → StaysWhere (holding old) (holding new) };
+
+    /// It holds what it is handed on the calling leg, or loses it; on the called leg it hands it on.
+    ghost on_send: { (side : SideShown) (octets : List ℕ) (is_sent : Bool) (old new : Self) → Self.sends side octets is_sent old new → SendsWhere side octets is_sent (holding old) (holding new) };
+
+    /// As time goes on what it holds stays.
+    ghost on_time: { (old new : Self) → Self.goes_on old new → StaysWhere (holding old) (holding new) };
+
+    /// Where a call begins on the calling leg it holds nothing, and is not mute.
+    ghost on_cease: { (side : SideShown) (old new : Self) → Self.ceases side old new → CeasesWhere side (holding old) (holding new) };
 }

@@ -1,5 +1,6 @@
 //! Wires that are told the time.
 ghost use Rattle.std.specs.Prelude.{◌≡◌, ℕ, Option};
+ghost use Rattle.fax_gateway.specs.declared.side.Side.{Side as SideShown};
 ghost use Rattle.fax_repeat.specs.Policies.{IsToldAs};
 
 use fax_gateway::{Side, Wire};
@@ -9,13 +10,21 @@ pub trait TimedWire: Wire {
     /// From which moment on it has something to do.
     ghost due: { Self → Option ℕ };
 
+    /// What is made of it where time goes on. By default nothing is told of that.
+    ghost goes_on: { Self → Self → Type 0 } = { λ old new. Unit {0} };
+
+    /// What is made of it where a new call begins on a leg. By default nothing is told of that.
+    ghost ceases: { SideShown → Self → Self → Type 0 } = { λ side old new. Unit {0} };
+
     /// Time goes on to this moment.
     fn go_on(&mut self, now: u64)
-        ensures { IsToldAs (Self.known self.old) (Self.known self.new) };
+        ensures told { IsToldAs (Self.known self.old) (Self.known self.new) }
+        ensures makes { goes_on self.old self.new };
 
     /// A new call begins on a leg: what was handed over before is sent no more.
     fn cease(&mut self, side: Side)
-        ensures { IsToldAs (Self.known self.old) (Self.known self.new) };
+        ensures told { IsToldAs (Self.known self.old) (Self.known self.new) }
+        ensures makes { ceases side self.old self.new };
 
     /// From which moment on the wire has something to do. `None`: it has nothing.
     fn next_due(&self) -> Option<u64>
