@@ -17,6 +17,7 @@ use Rattle.fax_gateway.specs.Driving.{Accepts, Carries, DriverValue, Entry, HasM
 use Rattle.fax_gateway.proofs.DrivingLemmas.{grows_none, happens_more, refused_so, refuses, steps_ring}
 use Rattle.fax_repeat.specs.Policies.{IsToldAs}
 use Rattle.fax_hold.specs.Holding.{HoldingValue}
+use Rattle.fax_hold.specs.Keeping.{HoldsByLog}
 use Rattle.fax_line.specs.Actions.{Action, AreSteps, Goes, IsStep, LineValue, Rests, Rings, TellsTurn, Turns, Wakes}
 
 -- the trace behind two logs
@@ -107,12 +108,12 @@ pub tells_turn :
     (now : ℕ) (old new : GatewayValue) (driver driven : DriverValue) (a b c : Known) (m n : Option ℕ) (h k : Option HoldingValue) (x y : Turned) → IsToldAs a b
     → ((setup : Setup) (writes : Writing) (trace : List Event) (earlier : List Entry) → IsWriting writes → IsReachedBy setup writes trace old → HasMade earlier driver
     → (turn : List Entry) × IsTurn now turn × Happens setup writes turn trace new b c × HasMade (turn ++ earlier) driven
-    × TellTicks setup trace (events turn ++ trace) y.report y.kept y.refused y.gave_up)
+    × TellTicks setup trace (events turn ++ trace) y.report y.kept y.refused y.gave_up × HoldsByLog turn h k)
     → TellsTurn now (line_of old driver a m h x) (line_of new driven c n k y)
 tells_turn now old new driver driven a b c m n h k x y told turned = record {
   tells = λ setup writes trace earlier writing reached made.
       let t = turned setup writes trace earlier writing reached made in
-      (t.0, t.1, wire_first setup writes t.0 trace old new a b c reached told t.2, t.3, t.4);
+      (t.0, t.1, wire_first setup writes t.0 trace old new a b c reached told t.2, t.3, t.4, t.5);
 }
 
 -- a ring that is accepted, and one that is refused

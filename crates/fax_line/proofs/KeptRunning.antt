@@ -4,7 +4,7 @@ use Rattle.std.proofs.lemmas.Bool.{eqb-true}
 use Rattle.fax_jobs.specs.declared.report.Report.{Report}
 use Rattle.fax_gateway.specs.declared.fault.RingFault.{RingFault}
 use Rattle.fax_line.specs.declared.settling.PageToKeep.{PageToKeep}
-use Rattle.fax_line.specs.Deeds.{LinesValue, RingsLine, SlotTells, TurnsSlot, WakesLine, Went, slot_after, slot_before}
+use Rattle.fax_line.specs.Deeds.{AllStayHeld, LinesValue, RingFrees, RingsLine, SlotTells, TurnsSlot, WakesLine, Went, slot_after, slot_before}
 use Rattle.fax_line.specs.KeptRuns.{IsSettledIf, RanIf}
 use Rattle.fax_line.specs.Places.{PlaceValue}
 use Rattle.fax_line.specs.Runs.{Done, Rung, Turned, Woken, call_if, latest, next_slot}
@@ -28,15 +28,15 @@ module _ (K : Type 0) (same : K → K → Type 0) (puts : List PageToKeep → Bo
 
   pub ran_rung :
       (first line now : ℕ) (answer : Option (Result ℕ RingFault)) (done : List Done) (a b c : List PlaceValue) (k l : Option K)
-      → RanIf same puts notes ends first done a b k l → Went (RingsLine line (max (latest done) now) (call_if answer) ∷ []) b c → RanIf same puts notes ends first (Rung line now answer ∷ done) a c k l
-  ran_rung first line now answer done a b c None l (is, ran) went = (is, (b, ran, went))
-  ran_rung first line now answer done a b c (Some k) l (x, is, all, ran) went = (x, is, all, (b, ran, went))
+      → RanIf same puts notes ends first done a b k l → Went (RingsLine line (max (latest done) now) (call_if answer) ∷ []) b c → RingFrees line (call_if answer) b c → RanIf same puts notes ends first (Rung line now answer ∷ done) a c k l
+  ran_rung first line now answer done a b c None l (is, ran) went frees = (is, (b, ran, went, frees))
+  ran_rung first line now answer done a b c (Some k) l (x, is, all, ran) went frees = (x, is, all, (b, ran, went, frees))
 
   pub ran_woken :
       (first line : ℕ) (done : List Done) (a b c : List PlaceValue) (k l : Option K)
-      → RanIf same puts notes ends first done a b k l → Went (WakesLine line ∷ []) b c → RanIf same puts notes ends first (Woken line ∷ done) a c k l
-  ran_woken first line done a b c None l (is, ran) went = (is, (b, ran, went))
-  ran_woken first line done a b c (Some k) l (x, is, all, ran) went = (x, is, all, (b, ran, went))
+      → RanIf same puts notes ends first done a b k l → Went (WakesLine line ∷ []) b c → AllStayHeld b c → RanIf same puts notes ends first (Woken line ∷ done) a c k l
+  ran_woken first line done a b c None l (is, ran) went stays = (is, (b, ran, went, stays))
+  ran_woken first line done a b c (Some k) l (x, is, all, ran) went stays = (x, is, all, (b, ran, went, stays))
 
   pub ran_is :
       (first : ℕ) (done : List Done) (a : List PlaceValue) (l lines : LinesValue) (k m keeper : Option K) → lines ≡ l → keeper ≡ m

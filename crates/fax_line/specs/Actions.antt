@@ -13,6 +13,7 @@ use Rattle.fax_gateway.specs.Wires.{Known}
 use Rattle.fax_gateway.specs.Driving.{Accepts, DriverValue, Entry, HasMade, Happens, IsTurn, RefusesRing, events, failed_in_a_row, most_failed, receipts}
 use Rattle.fax_gateway.specs.Turns.{TellTicks}
 use Rattle.fax_hold.specs.Holding.{HoldingValue}
+use Rattle.fax_hold.specs.Keeping.{HoldsByLog}
 
 -- its gateway, what drives that, what is known of its wire and from when on that has something to do, what the wire holds back
 -- where it does, and what the last turn told
@@ -64,12 +65,13 @@ pub record Goes (actions : List Action) (old new : LineValue) : Type 0 where
       (setup : Setup) (writes : Writing) (trace : List Event) (earlier : List Entry) → IsWriting writes → IsReachedBy setup writes trace old.gateway → HasMade earlier old.driver
       → (log : List Entry) × AreSteps setup writes trace actions log × Happens setup writes log trace new.gateway old.wire new.wire × HasMade (log ++ earlier) new.driver
 
--- A turn, and what it told: of the trace that it made longer, what the ticks told by which it did.
+-- A turn, and what it told: of the trace that it made longer, what the ticks told by which it did. What its wire holds back is what the
+-- turn handed over.
 pub record TellsTurn (now : ℕ) (old new : LineValue) : Type 0 where
   pub tells :
       (setup : Setup) (writes : Writing) (trace : List Event) (earlier : List Entry) → IsWriting writes → IsReachedBy setup writes trace old.gateway → HasMade earlier old.driver
       → (log : List Entry) × IsTurn now log × Happens setup writes log trace new.gateway old.wire new.wire × HasMade (log ++ earlier) new.driver
-      × TellTicks setup trace (events log ++ trace) new.turned.report new.turned.kept new.turned.refused new.turned.gave_up
+      × TellTicks setup trace (events log ++ trace) new.turned.report new.turned.kept new.turned.refused new.turned.gave_up × HoldsByLog log old.holding new.holding
 
 -- the call that a ring begins
 abbrev pub call_of : Result ℕ RingFault → Option ℕ

@@ -1,9 +1,11 @@
 -- All lines of a server, in forty slots: what is done with them, and what each goes through. Lists of deeds have the newest
 -- first. (This project's profile.)
-use Rattle.std.specs.Prelude.{◌≡◌, ℕ, ◌<◌, ◌≤◌, ◌+◌, ◌-◌, ◌%◌, Bool, true, false, nat_eq, List, [], ◌∷◌, ◌++◌, length, map, slice_get, slice_index_or, Option, Some, if◌then◌else◌}
+use Rattle.std.specs.Prelude.{◌≡◌, ℕ, ◌<◌, ◌≤◌, ◌+◌, ◌-◌, ◌%◌, Bool, true, false, nat_eq, List, [], ◌∷◌, ◌++◌, length, map, slice_get, slice_index_or, Option, Some, None, if◌then◌else◌}
 use Rattle.std.specs.List.{All}
 use Rattle.fax_line.specs.Actions.{Action, LineValue, Rings, Wakes}
-use Rattle.fax_line.specs.Places.{GoesInPlace, IsBegun, IsNewPlace, PlaceValue, TellsOrRests, is_at_rest, visit_of}
+use Rattle.fax_gateway.specs.declared.side.Side.TheVariants as side
+use Rattle.fax_hold.specs.Holding.{CeasesWhere}
+use Rattle.fax_line.specs.Places.{GoesInPlace, IsBegun, IsNewPlace, PlaceValue, StaysHeld, TellsOrRests, is_at_rest, visit_of}
 
 -- the lines, in the order in which they were added, and the slot that has the next turn
 pub record LinesValue : Type 0 where
@@ -60,9 +62,28 @@ pub record EachComes (comes : ℕ → PlaceValue → PlaceValue → Type 0) (old
   pub as_many : length new ≡ length old
   pub each : (number : ℕ) (other : PlaceValue) → number < length old → comes number (slice_index_or old number other) (slice_index_or new number other)
 
--- THE TURN OF A SLOT TELLS of each of its lines what that line's ticks told, but of those that are left at rest.
+-- THE TURN OF A SLOT TELLS of each of its lines what that line's ticks told, but of those that are left at rest. What the wires of these
+-- and of other lines hold back stays.
+abbrev pub TellsInSlot : Bool → ℕ → Bool → PlaceValue → PlaceValue → Type 0
+TellsInSlot true now rests old new = TellsOrRests now rests old new
+TellsInSlot false now rests old new = StaysHeld old new
+
 abbrev pub SlotTells : ℕ → ℕ → (ℕ → Bool) → List PlaceValue → List PlaceValue → Type 0
-SlotTells slot now rests old new = EachComes (λ number before after. nat_eq (slot_of number) slot ≡ true → TellsOrRests now (rests number) before after) old new
+SlotTells slot now rests old new = EachComes (λ number. TellsInSlot (nat_eq (slot_of number) slot) now (rests number)) old new
+
+-- A RING FREES THE WIRE of its line, where a call begins: that holds nothing back then, and is not mute. What the wires of other lines hold
+-- back stays.
+abbrev pub IsFreed : Bool → Option ℕ → PlaceValue → PlaceValue → Type 0
+IsFreed true (Some call) old new = CeasesWhere side.Calling old.line.holding new.line.holding
+IsFreed true None old new = StaysHeld old new
+IsFreed false call old new = StaysHeld old new
+
+abbrev pub RingFrees : ℕ → Option ℕ → List PlaceValue → List PlaceValue → Type 0
+RingFrees line call old new = EachComes (λ number. IsFreed (nat_eq number line) call) old new
+
+-- what the wires of all lines hold back stays
+abbrev pub AllStayHeld : List PlaceValue → List PlaceValue → Type 0
+AllStayHeld old new = EachComes (λ number. StaysHeld) old new
 
 abbrev pub AreNew : List PlaceValue → Type 0
 AreNew lines = All IsNewPlace lines

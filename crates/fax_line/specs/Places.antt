@@ -7,6 +7,7 @@ use Rattle.fax_gateway.specs.Events.{Event}
 use Rattle.fax_gateway.specs.Reached.{IsReachedBy}
 use Rattle.fax_gateway.specs.Setups.{Setup}
 use Rattle.fax_gateway.specs.Restored.{RestoredCall}
+use Rattle.fax_hold.specs.Holding.{StaysWhere}
 use Rattle.fax_line.specs.Actions.{Action, BeginsWith, Goes, LineValue, Rests, Rings, TellsTurn, Turns, Wakes}
 
 -- the line, from when on something is due on it, whether it was woken since it was turned last, and whether it was turned in
@@ -29,9 +30,13 @@ is_at_rest now place = not place.awake && not (is_due place.due now)
 abbrev pub visit_of : ℕ → Bool → Action
 visit_of now rests = if rests then Rests now else Turns now
 
+-- what the wire of a line holds back stays
+abbrev pub StaysHeld : PlaceValue → PlaceValue → Type 0
+StaysHeld old new = StaysWhere old.line.holding new.line.holding
+
 -- A line that was turned tells what its ticks told; one that was left at rest had no turn.
 abbrev pub TellsOrRests : ℕ → Bool → PlaceValue → PlaceValue → Type 0
-TellsOrRests now true old new = new.turned ≡ false
+TellsOrRests now true old new = (new.turned ≡ false) × StaysHeld old new
 TellsOrRests now false old new = (new.turned ≡ true) × TellsTurn now old.line new.line
 
 -- whether it is awake behind these actions: woken, and not turned since

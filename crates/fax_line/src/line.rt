@@ -1,5 +1,5 @@
 //! One line.
-ghost use Rattle.std.specs.Prelude.{◌≡◌, List, [], ◌∷◌, ℕ, IfOk, OnErr, Err, IsTrue, ◌↔◌, ◌<◌, ◌≤◌, false, true, length, is_some, option_copied, map, slice_get};
+ghost use Rattle.std.specs.Prelude.{◌≡◌, List, [], ◌∷◌, ℕ, IfOk, OnErr, OnOk, Err, IsTrue, ◌↔◌, ◌<◌, ◌≤◌, false, true, length, is_some, option_copied, map, slice_get};
 ghost use Rattle.fax_timers.specs.Moments.{earlier};
 ghost use Rattle.fax_call.specs.Writings.{Writing};
 ghost use Rattle.fax_gateway.specs.CallingLegs.{calling_leg, idle_after};
@@ -11,6 +11,8 @@ ghost use Rattle.fax_gateway.specs.Setups.{AreAllowed, Setup};
 ghost use Rattle.fax_gateway.specs.Turns.{call_dialled, call_ended, call_kept};
 ghost use Rattle.fax_gateway.specs.Restored.{call_shown};
 ghost use Rattle.fax_line.specs.Actions.{BeginsWith, Goes, IsNew, Rings, TellsTurn, Turns, call_of, no_turn};
+ghost use Rattle.fax_gateway.specs.declared.side.Side.TheVariants as side_shown;
+ghost use Rattle.fax_hold.specs.Holding.{CeasesWhere, StaysWhere};
 ghost use Rattle.fax_line.specs.Settling.{EndsTurn, IsOfTurnIf};
 
 use crate::settling::{PageToKeep, page_to_keep};
@@ -52,6 +54,7 @@ impl<W: LineWire + Drop> Line<W> {
         ensures settings { IfOk result (λ line. line.gateway.settings ≡ settings) }
         ensures wire { IfOk result (λ line. line.wire ≡ W.known wire) }
         ensures wire_due { IfOk result (λ line. line.wire_due ≡ W.due wire) }
+        ensures holding { IfOk result (λ line. line.holding ≡ W.holding wire) }
         ensures turned { IfOk result (λ line. line.turned ≡ no_turn) }
     {
         Line::restore(alloc, settings, Vec::new(alloc), wire)
@@ -70,6 +73,7 @@ impl<W: LineWire + Drop> Line<W> {
         ensures settings { IfOk result (λ line. line.gateway.settings ≡ settings) }
         ensures wire { IfOk result (λ line. line.wire ≡ W.known wire) }
         ensures wire_due { IfOk result (λ line. line.wire_due ≡ W.due wire) }
+        ensures holding { IfOk result (λ line. line.holding ≡ W.holding wire) }
         ensures turned { IfOk result (λ line. line.turned ≡ no_turn) }
     {
         let gateway = Gateway::restore(alloc, settings, calls)?;
@@ -105,6 +109,7 @@ impl<W: LineWire + Drop> Line<W> {
     /// The wire is told the time, between two turns.
     pub fn tell_time(&mut self, now: u64)
         ensures goes { Goes [] self.old self.new }
+        ensures stays { StaysWhere self.old.holding self.new.holding }
         ensures turned { self.new.turned ≡ self.old.turned }
     {
         self.wire.go_on(now);
@@ -117,6 +122,7 @@ impl<W: LineWire + Drop> Line<W> {
             → result ≡ Err RingFault.Busy ↔ (idle_after (calling_leg setup trace) ≡ false) }
         ensures no_number { (setup : Setup) (writes : Writing) (trace : List Event) → IsReachedBy setup writes trace self.old.gateway → idle_after (calling_leg setup trace) ≡ true
             → result ≡ Err RingFault.NoNumber ↔ (4294967296 ≤ rings trace) }
+        ensures freed { OnOk result (CeasesWhere side_shown.Calling self.old.holding self.new.holding) }
         ensures err { OnErr result (self.new ≡ self.old) }
         ensures turned { self.new.turned ≡ self.old.turned }
     {

@@ -3,8 +3,8 @@ ghost use Rattle.std.specs.Prelude.{◌≡◌, ◌≢◌, ◌+◌, ◌<◌, ◌&
 ghost use Rattle.fax_gateway.specs.Restored.{RestoredCall};
 ghost use Rattle.fax_hold.specs.Keeping.{PutsIf};
 ghost use Rattle.fax_line.specs.Actions.{BeginsWith, IsNew, Rings, Wakes, call_of};
-ghost use Rattle.fax_line.specs.Places.{visit_of};
-ghost use Rattle.fax_line.specs.Deeds.{AreBegun, AreNew, EachComes, EachGoes, IsAdded, IsLineAt, RingsLine, SlotTells, TurnsSlot, WakesLine, Went, have_turned, most_slots, rests_at, slot_after, slot_before, slot_of};
+ghost use Rattle.fax_line.specs.Places.{StaysHeld, visit_of};
+ghost use Rattle.fax_line.specs.Deeds.{AllStayHeld, AreBegun, AreNew, EachComes, EachGoes, IsAdded, IsLineAt, RingFrees, RingsLine, SlotTells, TurnsSlot, WakesLine, Went, have_turned, most_slots, rests_at, slot_after, slot_before, slot_of};
 ghost use Rattle.fax_line.specs.KeptRuns.{EndsIf, NotesIf, TellsLine, TellsSlot, TellsWhere};
 ghost use Rattle.fax_line.specs.Runs.{call_if};
 ghost use Rattle.fax_line.specs.Settling.{ArePagesOf, EndsSlot, EndsWhere, HandsOverSlot, LetsOutSlot, has_page, is_kept_in};
@@ -135,6 +135,7 @@ impl<W: LineWire + Drop> Lines<W> {
     /// A ring of line i, counted from 0, where there is one.
     pub fn ring(&mut self, i: usize, now: u64) -> Option<Result<u32, RingFault>>
         ensures went { Went (RingsLine i now (call_if result) ∷ []) self.old.lines self.new.lines }
+        ensures frees { RingFrees i (call_if result) self.old.lines self.new.lines }
         ensures there { IsSome result ↔ (i < length self.old.lines) }
         ensures slot { self.new.slot ≡ self.old.slot }
     {
@@ -144,6 +145,7 @@ impl<W: LineWire + Drop> Lines<W> {
     /// Something may have come for line i, counted from 0, where there is one: it is turned in the next turn of its slot.
     pub fn wake(&mut self, i: usize)
         ensures went { Went (WakesLine i ∷ []) self.old.lines self.new.lines }
+        ensures stays { AllStayHeld self.old.lines self.new.lines }
         ensures slot { self.new.slot ≡ self.old.slot }
     {
         wake_one(self.places.as_mut_slice(), i);
@@ -254,7 +256,7 @@ fn turn_slot<W: LineWire + Drop>(
 fn tell_slot<W: LineWire + Drop>(places: &mut [Place<W>], slot: usize, now: u64)
     requires { slot < most_slots }
     ensures goes { EachGoes (λ i. []) places.old places.new }
-    ensures others { EachComes (λ i before after. nat_eq (slot_of i) slot ≡ false → after ≡ before) places.old places.new }
+    ensures others { EachComes (λ i before after. (nat_eq (slot_of i) slot ≡ false → after ≡ before) × StaysHeld before after) places.old places.new }
 {
     let rounds = places.len() / SLOTS + 1;
     for round in 0..rounds {
@@ -272,6 +274,7 @@ fn ring_one<W: LineWire + Drop>(
     now: u64,
 ) -> Option<Result<u32, RingFault>>
     ensures went { EachGoes (λ line. if nat_eq line i then Rings now (call_if result) ∷ [] else []) places.old places.new }
+    ensures frees { RingFrees i (call_if result) places.old places.new }
     ensures there { IsSome result ↔ (i < length places.old) }
 {
     if i >= places.len() {
@@ -282,7 +285,8 @@ fn ring_one<W: LineWire + Drop>(
 
 /// Line i is woken, where there is one.
 fn wake_one<W: LineWire + Drop>(places: &mut [Place<W>], i: usize)
-    ensures { EachGoes (λ line. if nat_eq line i then Wakes ∷ [] else []) places.old places.new }
+    ensures went { EachGoes (λ line. if nat_eq line i then Wakes ∷ [] else []) places.old places.new }
+    ensures stays { AllStayHeld places.old places.new }
 {
     if i < places.len() {
         places[i].wake();

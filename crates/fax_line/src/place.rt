@@ -3,7 +3,8 @@ ghost use Rattle.std.specs.Prelude.{◌≡◌, List, [], ◌∷◌, not, true, f
 ghost use Rattle.fax_timers.specs.Moments.{is_due};
 ghost use Rattle.fax_gateway.specs.Restored.{RestoredCall};
 ghost use Rattle.fax_line.specs.Actions.{BeginsWith, Rings, Wakes, call_of};
-ghost use Rattle.fax_line.specs.Places.{BeginsInPlace, GoesInPlace, TellsOrRests, is_at_rest, visit_of};
+ghost use Rattle.fax_line.specs.Deeds.{IsFreed};
+ghost use Rattle.fax_line.specs.Places.{BeginsInPlace, GoesInPlace, StaysHeld, TellsOrRests, is_at_rest, visit_of};
 ghost use Rattle.fax_line.specs.Settling.{EndsTurn, HandsOver};
 
 use crate::line::Line;
@@ -95,6 +96,7 @@ impl<W: LineWire + Drop> Place<W> {
     /// Its wire is told the time, between two turns, where something is due.
     pub fn tell_time(&mut self, now: u64)
         ensures goes { GoesInPlace [] self.old self.new }
+        ensures stays { StaysHeld self.old self.new }
         ensures turned { self.new.turned ≡ self.old.turned }
     {
         if has_come(self.due, now) {
@@ -106,6 +108,7 @@ impl<W: LineWire + Drop> Place<W> {
     /// A ring.
     pub fn ring(&mut self, now: u64) -> Result<u32, RingFault>
         ensures goes { GoesInPlace (Rings now (call_of result) ∷ []) self.old self.new }
+        ensures freed { IsFreed true (call_of result) self.old self.new }
         ensures turned { self.new.turned ≡ self.old.turned }
     {
         let answer = self.line.ring(now);
@@ -116,6 +119,7 @@ impl<W: LineWire + Drop> Place<W> {
     /// Something may have come over its wire.
     pub fn wake(&mut self)
         ensures goes { GoesInPlace (Wakes ∷ []) self.old self.new }
+        ensures same { self.new.line ≡ self.old.line }
         ensures turned { self.new.turned ≡ self.old.turned }
     {
         self.is_awake = true;

@@ -1,4 +1,4 @@
-use Rattle.std.proofs.Common.{◌+◌, ◌*◌, [], List, refl, sym, subst, arith}
+use Rattle.std.proofs.Common.{◌+◌, ◌*◌, [], List, slice_index_or, refl, sym, subst, arith}
 use Rattle.std.proofs.lemmas.List.{get_or_default}
 use Rattle.fax_line.specs.Deeds.{EachGoes}
 use Rattle.fax_line.specs.Places.{GoesInPlace, PlaceValue}
@@ -23,7 +23,8 @@ loop-round-preserved g c =
       | then-i-places w ↦ subst (λ (l : List PlaceValue). EachGoes (λ i. []) olds l × Rounds (stays_if slot) (round + 1) olds l) (sym w.places-is) (
         told_on at olds places w.tell_time.new.self w.if-i-places.true
             (λ d. subst (λ (l : PlaceValue). GoesInPlace [] l w.tell_time.new.self) (get_or_default places at w.index-places-i.result d w.if-i-places.true) w.tell_time.ensures.goes) before.0,
-        stays_on slot round at olds places w.tell_time.new.self refl c.requires w.if-i-places.true before.1,
+        stays_on slot round at olds places (slice_index_or places at w.index-places-i.result) w.tell_time.new.self refl c.requires w.if-i-places.true
+            (λ d. get_or_default places at w.index-places-i.result d w.if-i-places.true) before.1 w.tell_time.ensures.stays,
       )
       | else-i-places w ↦ subst (λ (l : List PlaceValue). EachGoes (λ i. []) olds l × Rounds (stays_if slot) (round + 1) olds l) (sym w.places-is)
           (before.0, off_round (stays_if slot) slot round at olds places refl w.if-i-places.false (stays_passes slot round) before.1)

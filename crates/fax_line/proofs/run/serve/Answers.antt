@@ -82,7 +82,7 @@ loop-preserved g c =
             run_is first (c.loop.counter + 1) (d ∷ done) olds before w.max-latest-in-Ring.result c.match-order.latest w.ring-answer.new.self c.match-order.lines told (g.P.Pace.words c.match-order.pace)
                 w.latest-is w.lines-is (ap g.P.Pace.words w.pace-is) more,
             ran_is K same puts notes ends first (d ∷ done) olds w.ring-answer.new.self c.match-order.lines kept c.loop.keeper c.match-order.keeper w.lines-is w.keeper-is
-                (ran_rung K same puts notes ends first w.in-Ring.line w.in-Ring.now answer done olds c.loop.lines.lines w.ring-answer.new.self.lines kept c.loop.keeper ran went),
+                (ran_rung K same puts notes ends first w.in-Ring.line w.in-Ring.now answer done olds c.loop.lines.lines w.ring-answer.new.self.lines kept c.loop.keeper ran went w.ring-answer.ensures.frees),
           )
       | in-Wake w ↦
           let asked = subst (λ (o : Option Order). Grows (Asks o ∷ []) now_told asked_of) (c.in-Some.is ∙ ap (λ (o : Order). Some o) w.in-Wake.is) c.next.ensures in
@@ -93,7 +93,7 @@ loop-preserved g c =
             run_is first (c.loop.counter + 1) (d ∷ done) olds before c.loop.latest c.match-order.latest w.wake.new.self c.match-order.lines asked_of (g.P.Pace.words c.match-order.pace)
                 w.latest-is w.lines-is (ap g.P.Pace.words w.pace-is) more,
             ran_is K same puts notes ends first (d ∷ done) olds w.wake.new.self c.match-order.lines kept c.loop.keeper c.match-order.keeper w.lines-is w.keeper-is
-                (ran_woken K same puts notes ends first w.in-Wake.line done olds c.loop.lines.lines w.wake.new.self.lines kept c.loop.keeper ran w.wake.ensures.went),
+                (ran_woken K same puts notes ends first w.in-Wake.line done olds c.loop.lines.lines w.wake.new.self.lines kept c.loop.keeper ran w.wake.ensures.went w.wake.ensures.stays),
           )
     ]
 

@@ -9,7 +9,7 @@ returns-in-Ok-clause-goes g c =
     let new : LineValue = line_of c.ring.new.self c.self.inside.engine (g.W.Wire.known c.cease.new.self) (g.W.TimedWire.due c.cease.new.self) (g.W.LineWire.holding c.cease.new.self) c.self.inside.turned in
     subst (λ (l : LineValue). Goes (Rings c.args.now (Some c.in-Ok.number) ∷ []) l new) c.self.view_is
     (goes_ring c.args.now c.in-Ok.number c.self.inside.gateway c.ring.new.self c.self.inside.engine (g.W.Wire.known c.self.inside.wire) (g.W.Wire.known c.cease.new.self)
-    (g.W.TimedWire.due c.self.inside.wire) (g.W.TimedWire.due c.cease.new.self) (g.W.LineWire.holding c.self.inside.wire) (g.W.LineWire.holding c.cease.new.self) c.self.inside.turned c.cease.ensures c.in-Ok.ensures.rung)
+    (g.W.TimedWire.due c.self.inside.wire) (g.W.TimedWire.due c.cease.new.self) (g.W.LineWire.holding c.self.inside.wire) (g.W.LineWire.holding c.cease.new.self) c.self.inside.turned c.cease.ensures.told c.in-Ok.ensures.rung)
 
 pub returns-in-Err-clause-goes : goal.returns-in-Err-clause-goes
 returns-in-Err-clause-goes g c =
