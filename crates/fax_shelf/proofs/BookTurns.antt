@@ -1,5 +1,5 @@
 -- A turn that tells a page adds it to the book and to what is put.
-use Rattle.std.proofs.Common.{◌≡◌, ◌∙◌, ℕ, zero, suc, ◌-◌, max, Bool, List, [], ◌∷◌, ◌++◌, length, slice_get, Option, Some, None, inl, inr, refl, sym, ap, subst, append_assoc}
+use Rattle.std.proofs.Common.{◌≡◌, ◌∙◌, ℕ, zero, suc, ◌-◌, max, Bool, true, false, List, [], ◌∷◌, ◌++◌, length, slice_get, Option, Some, None, inl, inr, refl, sym, ap, subst, append_assoc}
 use Rattle.std.specs.List.{All}
 use Rattle.std.proofs.lemmas.List.{append-nil, append_cancel_left}
 use Rattle.std.proofs.lemmas.List.Elements.{All-head, All-tail}
@@ -37,7 +37,11 @@ use Rattle.fax_spool.specs.RecordOctets as spool
 use Rattle.fax_spool.specs.declared.kept_record.KeptRecord.TheVariants.{Page}
 use Rattle.fax_shelf.specs.Keeping.{IsRecordOf}
 use Rattle.fax_shelf.specs.Restorations.{Means}
+use Rattle.fax_gateway.specs.Restored.{CallPage}
+use Rattle.fax_hold.specs.Keeping.{Deed, Turn, handed_by, handed_last}
 use Rattle.fax_shelf.specs.Book.{Tiding, Confirms, confirms, confirms_on, reports, told_in}
+use Rattle.fax_shelf.specs.Histories.{IsKeptPage}
+use Rattle.fax_shelf.specs.OnLeg.{AreOnLeg, IsHandedOver, IsTurnOnLeg, page_at, page_if}
 use Rattle.fax_shelf.specs.TurnsTold.{EndsIn, IsPutAs, TurnsTellBoth}
 use Rattle.fax_shelf.proofs.Lives.{kept_pages_are_read}
 use Rattle.fax_shelf.proofs.Packing.{bits_are_padded}
@@ -48,18 +52,20 @@ record IsQuiet (setup : Setup) (older newer : List Event) : Type 0 where
   reports : reports_given newer ≡ reports_given older
   pages : pages_kept setup newer ≡ pages_kept setup older
   told : (before : List Tiding) → told_in setup newer before ≡ told_in setup older before
+  legs : (deeds : List Deed) (kept : List CallPage) → AreOnLeg setup deeds older kept → AreOnLeg setup deeds newer kept
 
 quiet_again : (setup : Setup) (older between newer : List Event) → IsQuiet setup older between → IsQuiet setup between newer → IsQuiet setup older newer
 quiet_again setup older between newer first second = record {
   reports = second.reports ∙ first.reports;
   pages = second.pages ∙ first.pages;
   told = λ before. second.told before ∙ first.told before;
+  legs = λ deeds kept are. second.legs deeds kept (first.legs deeds kept are);
 }
 
 comes_quiet : (setup : Setup) (at : Side) (now : ℕ) (e : Entry) (older trace : List Event) → Comes at now e → IsQuiet setup older trace → IsQuiet setup older (events_in e ++ trace)
 comes_quiet setup at now (Accepts (Ring moment number)) older trace h s = absurd h
-comes_quiet setup at now (Accepts (FromCalling octets moment decided read)) older trace h s = record { reports = s.reports; pages = s.pages; told = s.told }
-comes_quiet setup at now (Accepts (FromCalled octets moment decided)) older trace h s = record { reports = s.reports; pages = s.pages; told = s.told }
+comes_quiet setup at now (Accepts (FromCalling octets moment decided read)) older trace h s = record { reports = s.reports; pages = s.pages; told = s.told; legs = s.legs }
+comes_quiet setup at now (Accepts (FromCalled octets moment decided)) older trace h s = record { reports = s.reports; pages = s.pages; told = s.told; legs = s.legs }
 comes_quiet setup at now (Accepts (Tick moment given)) older trace h s = absurd h
 comes_quiet setup at now (RefusesRing fault) older trace h s = absurd h
 comes_quiet setup at now (RefusesDatagram on octets) older trace h s = s
@@ -69,7 +75,7 @@ comes_quiet setup at now (FailsToReceive on) older trace h s = absurd h
 comes_quiet setup at now (Sends on octets fails) older trace h s = absurd h
 
 all_quiet : (setup : Setup) (at : Side) (now : ℕ) (log : List Entry) (trace : List Event) → All (Comes at now) log → IsQuiet setup trace (events log ++ trace)
-all_quiet setup at now [] trace all = record { reports = refl; pages = refl; told = λ before. refl }
+all_quiet setup at now [] trace all = record { reports = refl; pages = refl; told = λ before. refl; legs = λ deeds kept are. are }
 all_quiet setup at now (e ∷ log) trace all =
     subst (λ (t : List Event). IsQuiet setup trace t) (sym (append_assoc (events_in e) (events log) trace))
     (comes_quiet setup at now e trace (events log ++ trace) (All-head (Comes at now) e log all) (all_quiet setup at now log trace (All-tail (Comes at now) e log all)))
@@ -91,12 +97,88 @@ one_event now given calling called first second =
     flat_map-append events_in called (calling ++ tick) ∙ ap (λ (l : List Event). l ++ events (calling ++ tick)) (sends_no_event side.Called given.on_called called second)
     ∙ flat_map-append events_in calling tick ∙ ap (λ (l : List Event). l ++ events tick) (sends_no_event side.Calling given.on_calling calling first)
 
--- a turn: what came, of which nothing is told, and then a tick, or none
-data Turned (setup : Setup) (older newer : List Event) : Type 0 where
-  Ticked : (between : List Event) → (now : ℕ) → (given : Given) → IsQuiet setup older between → newer ≡ Tick now given ∷ between → Turned setup older newer
-  Refused : IsQuiet setup older newer → Turned setup older newer
+-- ---- what a turn handed over on the calling leg
 
-turned : (setup : Setup) (writes : Writing) (older newer : List Event) (line : LineValue) → EndsIn setup writes older newer line → Turned setup older newer
+-- a log behind another one
+abbrev handed_from : Option (List ℕ) → List Entry → Option (List ℕ)
+handed_from before [] = before
+handed_from before (Accepts event ∷ earlier) = handed_from before earlier
+handed_from before (RefusesRing fault ∷ earlier) = handed_from before earlier
+handed_from before (RefusesDatagram at octets ∷ earlier) = handed_from before earlier
+handed_from before (RefusesTick now ∷ earlier) = handed_from before earlier
+handed_from before (ReceivesNothing at ∷ earlier) = handed_from before earlier
+handed_from before (FailsToReceive at ∷ earlier) = handed_from before earlier
+handed_from before (Sends at octets fails ∷ earlier) = handed_last at octets fails (handed_from before earlier)
+
+handed_is : (log : List Entry) → handed_by log ≡ handed_from None log
+handed_is [] = refl
+handed_is (Accepts event ∷ earlier) = handed_is earlier
+handed_is (RefusesRing fault ∷ earlier) = handed_is earlier
+handed_is (RefusesDatagram at octets ∷ earlier) = handed_is earlier
+handed_is (RefusesTick now ∷ earlier) = handed_is earlier
+handed_is (ReceivesNothing at ∷ earlier) = handed_is earlier
+handed_is (FailsToReceive at ∷ earlier) = handed_is earlier
+handed_is (Sends at octets fails ∷ earlier) = ap (handed_last at octets fails) (handed_is earlier)
+
+handed_both : (before : Option (List ℕ)) (newer older : List Entry) → handed_from before (newer ++ older) ≡ handed_from (handed_from before older) newer
+handed_both before [] older = refl
+handed_both before (Accepts event ∷ newer) older = handed_both before newer older
+handed_both before (RefusesRing fault ∷ newer) older = handed_both before newer older
+handed_both before (RefusesDatagram at octets ∷ newer) older = handed_both before newer older
+handed_both before (RefusesTick now ∷ newer) older = handed_both before newer older
+handed_both before (ReceivesNothing at ∷ newer) older = handed_both before newer older
+handed_both before (FailsToReceive at ∷ newer) older = handed_both before newer older
+handed_both before (Sends at octets fails ∷ newer) older = ap (handed_last at octets fails) (handed_both before newer older)
+
+handed_came : (at : Side) (now : ℕ) (before : Option (List ℕ)) (e : Entry) (log : List Entry) → Comes at now e → handed_from before (e ∷ log) ≡ handed_from before log
+handed_came at now before (Accepts event) log h = refl
+handed_came at now before (RefusesRing fault) log h = refl
+handed_came at now before (RefusesDatagram on octets) log h = refl
+handed_came at now before (RefusesTick moment) log h = refl
+handed_came at now before (ReceivesNothing on) log h = refl
+handed_came at now before (FailsToReceive on) log h = refl
+handed_came at now before (Sends on octets fails) log h = absurd h
+
+all_came : (at : Side) (now : ℕ) (before : Option (List ℕ)) (log : List Entry) → All (Comes at now) log → handed_from before log ≡ before
+all_came at now before [] all = refl
+all_came at now before (e ∷ log) all = handed_came at now before e log (All-head (Comes at now) e log all) ∙ all_came at now before log (All-tail (Comes at now) e log all)
+
+none_handed : (at : Side) (before : Option (List ℕ)) (e : Entry) (log : List Entry) → BringsNone at e → handed_from before (e ∷ log) ≡ handed_from before log
+none_handed at before e log (inl is) = ap (λ (x : Entry). handed_from before (x ∷ log)) is
+none_handed at before e log (inr is) = ap (λ (x : Entry). handed_from before (x ∷ log)) is
+
+-- receives hand nothing over
+receives_hand_none : (at : Side) (now : ℕ) (before : Option (List ℕ)) (log : List Entry) → AreReceives at now log → handed_from before log ≡ before
+receives_hand_none at now before log (inl (each, many)) = all_came at now before log each
+receives_hand_none at now before log (inr (came, last, is, each, low, none)) =
+    ap (λ (l : List Entry). handed_from before l) is ∙ none_handed at before last came none ∙ all_came at now before came each
+
+sent_on_called : (given : Option (List ℕ)) (before : Option (List ℕ)) (log : List Entry) → IsSent side.Called given log → handed_from before log ≡ before
+sent_on_called None before log is = ap (λ (l : List Entry). handed_from before l) is
+sent_on_called (Some octets) before log is = ap (λ (l : List Entry). handed_from before l) is.1
+
+lost_or_not : (octets : List ℕ) (fails : Bool) (before : Option (List ℕ)) → IsHandedOver (Some octets) (handed_last side.Calling octets fails before)
+lost_or_not octets true before = inr refl
+lost_or_not octets false before = inl refl
+
+sent_on_calling : (given : Option (List ℕ)) (log : List Entry) → IsSent side.Calling given log → IsHandedOver given (handed_from None log)
+sent_on_calling None log is = inl (ap (λ (l : List Entry). handed_from None l) is)
+sent_on_calling (Some octets) log is = subst (λ (l : List Entry). IsHandedOver (Some octets) (handed_from None l)) (sym is.1) (lost_or_not octets is.0 None)
+
+tick_hands : (now : ℕ) (given : Given) (calling called : List Entry) → IsSent side.Calling given.on_calling calling → IsSent side.Called given.on_called called
+    → IsHandedOver given.on_calling (handed_from None (called ++ (calling ++ Accepts (Tick now given) ∷ [])))
+tick_hands now given calling called first second =
+    let tick : List Entry = Accepts (Tick now given) ∷ [] in
+    subst (λ (o : Option (List ℕ)). IsHandedOver given.on_calling o)
+    (sym (handed_both None called (calling ++ tick) ∙ sent_on_called given.on_called (handed_from None (calling ++ tick)) called second ∙ handed_both None calling tick))
+    (sent_on_calling given.on_calling calling first)
+
+-- a turn: what came, of which nothing is told, and then a tick, or none; and what it handed over on the calling leg
+data Turned (setup : Setup) (log : List Entry) (older newer : List Event) : Type 0 where
+  Ticked : (between : List Event) → (now : ℕ) → (given : Given) → IsQuiet setup older between → newer ≡ Tick now given ∷ between → IsHandedOver given.on_calling (handed_by log) → Turned setup log older newer
+  Refused : IsQuiet setup older newer → handed_by log ≡ None → Turned setup log older newer
+
+turned : (setup : Setup) (writes : Writing) (older newer : List Event) (line : LineValue) (ends : EndsIn setup writes older newer line) → Turned setup ends.log older newer
 turned setup writes older newer line ends =
     let calling : List Entry = ends.turn.calling in
     let called : List Entry = ends.turn.called in
@@ -108,12 +190,21 @@ turned setup writes older newer line ends =
     ends.longer ∙ ap (λ (l : List Entry). events l ++ older) ends.turn.log_is
     ∙ ap (λ (l : List Event). l ++ older) (flat_map-append events_in ends.turn.tick (called ++ calling) ∙ ap (λ (l : List Event). events ends.turn.tick ++ l) (flat_map-append events_in called calling))
     ∙ append_assoc (events ends.turn.tick) (events called ++ events calling) older ∙ ap (λ (l : List Event). events ends.turn.tick ++ l) (append_assoc (events called) (events calling) older) in
-    by between quiet all ends.turn.ticks
+    let handed : handed_by ends.log ≡ handed_from None ends.turn.tick =
+    ap handed_by ends.turn.log_is ∙ handed_is (ends.turn.tick ++ (called ++ calling)) ∙ handed_both None ends.turn.tick (called ++ calling)
+    ∙ ap (λ (o : Option (List ℕ)). handed_from o ends.turn.tick)
+    (handed_both None called calling ∙ ap (λ (o : Option (List ℕ)). handed_from o called) (receives_hand_none side.Calling ends.now None calling ends.turn.on_calling)
+    ∙ receives_hand_none side.Called ends.now None called ends.turn.on_called) in
+    by between quiet all handed ends.turn.ticks
   where
-    by : (between : List Event) → IsQuiet setup older between → newer ≡ events ends.turn.tick ++ between → IsTick ends.now ends.turn.tick → Turned setup older newer
-    by between quiet all (inl (given, calling, called, first, second, is)) =
+    by : (between : List Event) → IsQuiet setup older between → newer ≡ events ends.turn.tick ++ between → handed_by ends.log ≡ handed_from None ends.turn.tick → IsTick ends.now ends.turn.tick
+        → Turned setup ends.log older newer
+    by between quiet all handed (inl (given, calling, called, first, second, is)) =
         Ticked between ends.now given quiet (all ∙ ap (λ (l : List Event). l ++ between) (ap events is ∙ one_event ends.now given calling called first second))
-    by between quiet all (inr is) = Refused (subst (λ (t : List Event). IsQuiet setup older t) (sym (all ∙ ap (λ (l : List Entry). events l ++ between) is)) quiet)
+        (subst (λ (o : Option (List ℕ)). IsHandedOver given.on_calling o) (sym (handed ∙ ap (λ (l : List Entry). handed_from None l) is)) (tick_hands ends.now given calling called first second))
+    by between quiet all handed (inr is) =
+        Refused (subst (λ (t : List Event). IsQuiet setup older t) (sym (all ∙ ap (λ (l : List Entry). events l ++ between) is)) quiet)
+        (handed ∙ ap (λ (l : List Entry). handed_from None l) is)
 
 -- ---- what it told is that of the tick
 
@@ -148,6 +239,7 @@ record Told (leg : Option CallingLeg) (now : ℕ) (given : Option (List ℕ)) (k
   format : kept.format ≡ confirmed.page.format
   closes : kept.closes ≡ confirmed.closes
   told : (before : List Tiding) → confirms_on leg now given before ≡ Confirms given (record { call = kept.call; page = confirmed.page }) kept.closes ∷ before
+  page : page_at leg now ≡ Some (record { call = kept.call; page = confirmed.page })
 
 same_some : (k other : Kept) → Some k ≡ Some other → k ≡ other
 same_some k other same = cc
@@ -169,6 +261,7 @@ told_leg (Some l) now given kept is = by (confirmed_at (Some l) now) refl is
           told = λ before.
               ap (λ (o : Option ConfirmedPage). confirms given l.number o before) at
               ∙ ap (λ (k : Kept). Confirms given (record { call = k.call; page = c.page }) k.closes ∷ before) same;
+          page = ap (page_if l.number) at ∙ ap (λ (k : Kept). Some (record { call = k.call; page = c.page })) same;
         }
 
 -- ---- the newest page of a book is a page
@@ -255,12 +348,12 @@ tick_kept setup older between now given kept quiet tells =
     let at : Option Kept = kept_at (calling_leg setup between) (max now (clock between)) in
     same_kept at kept (append_cancel_left (pages_kept setup older) (kept_list at) (kept_list kept) (ap (λ (l : List Kept). l ++ kept_list at) (sym quiet.pages) ∙ tells))
 
-tells_none : (setup : Setup) (older newer : List Event) (report : Option Report) (kept : Option Kept) → Turned setup older newer → reports_given newer ≡ reports_given older ++ report_list report
+tells_none : (setup : Setup) (older newer : List Event) (report : Option Report) (kept : Option Kept) → (log : List Entry) → Turned setup log older newer → reports_given newer ≡ reports_given older ++ report_list report
     → pages_kept setup newer ≡ pages_kept setup older ++ kept_list kept → kept ≡ None → (before : List Tiding) → told_in setup newer before ≡ reports report (told_in setup older before)
-tells_none setup older newer report kept (Refused quiet) reported pages none before =
+tells_none setup older newer report kept log (Refused quiet handed) reported pages none before =
     let no_report : None ≡ report = same_report None report (no_more (reports_given older) (report_list report) (sym quiet.reports ∙ reported)) in
     quiet.told before ∙ ap (λ (o : Option Report). reports o (told_in setup older before)) no_report
-tells_none setup older newer report kept (Ticked between now given quiet is) reported pages none before =
+tells_none setup older newer report kept log (Ticked between now given quiet is handed) reported pages none before =
     let leg : Option CallingLeg = calling_leg setup between in
     let moment : ℕ = max now (clock between) in
     let is_report : given.report ≡ report = tick_report setup older between now given report quiet (subst (λ (t : List Event). reports_given t ≡ reports_given older ++ report_list report) is reported) in
@@ -269,15 +362,15 @@ tells_none setup older newer report kept (Ticked between now given quiet is) rep
     ∙ ap (λ (t : List Tiding). reports report t) (quiet_leg leg moment given.on_calling (told_in setup between before) (is_kept ∙ none) ∙ quiet.told before)
 
 tells_one : ConfirmsTheNewest → JobsAreOfTheirCalls → WrittenPagesMean → (setup : Setup) (writes : Writing) (older newer : List Event) (report : Option Report) (kept : Option Kept) (book : Book) (own : Kept)
-    (page : PageToKeep) (value : spool.PageValue) → Turned setup older newer → IsTrace setup writes newer → book ≡ book_of (sides setup writes newer) → reports_given newer ≡ reports_given older ++ report_list report
+    (page : PageToKeep) (value : spool.PageValue) → (log : List Entry) → Turned setup log older newer → IsTrace setup writes newer → book ≡ book_of (sides setup writes newer) → reports_given newer ≡ reports_given older ++ report_list report
     → pages_kept setup newer ≡ pages_kept setup older ++ kept_list kept → kept ≡ Some own → IsKeptAs own (newest_page book) page → IsRecordOf page (Page value) → IsPutAs setup older newer report value
-tells_one newest origins mean setup writes older newer report kept book own page value (Refused quiet) trace is_book reported pages some is recorded =
+tells_one newest origins mean setup writes older newer report kept book own page value log (Refused quiet handed) trace is_book reported pages some is recorded =
     let no_page : None ≡ kept = same_kept None kept (no_more (pages_kept setup older) (kept_list kept) (sym quiet.pages ∙ pages)) in
     absurd (let e : None ≡ Some own = no_page ∙ some in none_is_some own e)
   where
     none_is_some : (k : Kept) → None ≡ Some k → ⊥
     none_is_some k e = cc
-tells_one newest origins mean setup writes older newer report kept book own page value (Ticked between now given quiet at) trace is_book reported pages some is recorded =
+tells_one newest origins mean setup writes older newer report kept book own page value log (Ticked between now given quiet at handed) trace is_book reported pages some is recorded =
     let leg : Option CallingLeg = calling_leg setup between in
     let moment : ℕ = max now (clock between) in
     let is_report : given.report ≡ report = tick_report setup older between now given report quiet (subst (λ (t : List Event). reports_given t ≡ reports_given older ++ report_list report) at reported) in
@@ -288,11 +381,11 @@ tells_one newest origins mean setup writes older newer report kept book own page
 
 pub turns_tell_both : ConfirmsTheNewest → JobsAreOfTheirCalls → WrittenPagesMean → TurnsTellBoth
 turns_tell_both newest origins mean setup writes older newer line ends =
-    let turn : Turned setup older newer = turned setup writes older newer line ends in
+    let turn : Turned setup ends.log older newer = turned setup writes older newer line ends in
     record {
-      none = λ none before. tells_none setup older newer line.turned.report line.turned.kept turn ends.tells.reports ends.tells.pages none before;
+      none = λ none before. tells_none setup older newer line.turned.report line.turned.kept ends.log turn ends.tells.reports ends.tells.pages none before;
       one = λ page value is recorded.
-          tells_one newest origins mean setup writes older newer line.turned.report line.turned.kept line.gateway.book is.kept page value turn ends.reached.is_trace ends.reached.book ends.tells.reports
+          tells_one newest origins mean setup writes older newer line.turned.report line.turned.kept line.gateway.book is.kept page value ends.log turn ends.reached.is_trace ends.reached.book ends.tells.reports
           ends.tells.pages is.told is.is_kept_as recorded;
     }
 
@@ -306,11 +399,11 @@ turn_has_page newest origins written setup writes older newer line number kept e
     none_some : (k : Kept) → None ≡ Some k → ⊥
     none_some k e = cc
 
-    by : Turned setup older newer → (page : PageToKeep) × (page.kept ≡ kept) × IsOfTurn line page
-    by (Refused quiet) =
+    by : Turned setup ends.log older newer → (page : PageToKeep) × (page.kept ≡ kept) × IsOfTurn line page
+    by (Refused quiet handed) =
         let no_page : None ≡ line.turned.kept = same_kept None line.turned.kept (no_more (pages_kept setup older) (kept_list line.turned.kept) (sym quiet.pages ∙ ends.tells.pages)) in
         absurd (none_some kept (no_page ∙ some))
-    by (Ticked between now given quiet at) =
+    by (Ticked between now given quiet at handed) =
         let trace : IsTrace setup writes (Tick now given ∷ between) = subst (λ (t : List Event). IsTrace setup writes t) at ends.reached.is_trace in
         let book : line.gateway.book ≡ book_of (sides setup writes (Tick now given ∷ between)) = ends.reached.book ∙ ap (λ (t : List Event). book_of (sides setup writes t)) at in
         let is_kept : kept_at (calling_leg setup between) (max now (clock between)) ≡ line.turned.kept =
@@ -332,3 +425,73 @@ turn_has_page newest origins written setup writes older newer line number kept e
             is_kept_as = record { told = refl; page = own; newest_is = is_newest; text = text.0; writes = text.1; octets = octets.1 };
           },
         )
+
+-- ---- the deed of the line's wire
+
+-- What a turn was on the calling leg: no tick, and nothing was handed over; or a tick that confirmed no page; or one that confirmed this
+-- page, which was put with an Ok or was not.
+pub data DeedOfTurn (setup : Setup) (handed : Option (List ℕ)) (older newer : List Event) (line : LineValue) : Type 0 where
+  NoTick : line.turned.kept ≡ None → handed ≡ None → ((deeds : List Deed) (kept : List CallPage) → AreOnLeg setup deeds older kept → AreOnLeg setup deeds newer kept) → DeedOfTurn setup handed older newer line
+  NoPage :
+      line.turned.kept ≡ None → ((is_kept : Bool) (deeds : List Deed) (kept : List CallPage) → AreOnLeg setup deeds older kept → AreOnLeg setup (Turn handed false is_kept ∷ deeds) newer kept)
+      → DeedOfTurn setup handed older newer line
+  OnePage :
+      (own : Kept) → line.turned.kept ≡ Some own → (page : CallPage) → ((to_keep : PageToKeep) → IsOfTurn line to_keep → IsKeptPage to_keep page)
+      → ((deeds : List Deed) (kept : List CallPage) → AreOnLeg setup deeds older kept → AreOnLeg setup (Turn handed true true ∷ deeds) newer (kept ++ page ∷ []))
+      → ((deeds : List Deed) (kept : List CallPage) → AreOnLeg setup deeds older kept → AreOnLeg setup (Turn handed true false ∷ deeds) newer kept) → DeedOfTurn setup handed older newer line
+
+quiet_page : (leg : Option CallingLeg) (now : ℕ) → kept_at leg now ≡ None → page_at leg now ≡ None
+quiet_page None now none = refl
+quiet_page (Some l) now none = by (confirmed_at (Some l) now) none
+  where
+    by : (o : Option ConfirmedPage) → kept_if l.number o ≡ None → page_if l.number o ≡ None
+    by None none = refl
+    by (Some c) none = absurd (cc)
+
+on_leg_of : (setup : Setup) (now : ℕ) (given : Given) (between newer : List Event) (o : Option CallPage) (deeds : List Deed) (kept : List CallPage) → newer ≡ Tick now given ∷ between
+    → page_at (calling_leg setup between) (max now (clock between)) ≡ o → IsTurnOnLeg (λ before pages. AreOnLeg setup before between pages) given.on_calling o deeds kept → AreOnLeg setup deeds newer kept
+on_leg_of setup now given between newer o deeds kept at is turn =
+    subst (λ (t : List Event). AreOnLeg setup deeds t kept) (sym at)
+    (subst (λ (x : Option CallPage). IsTurnOnLeg (λ before pages. AreOnLeg setup before between pages) given.on_calling x deeds kept) (sym is) turn)
+
+pub deed_of_turn : ConfirmsTheNewest → JobsAreOfTheirCalls → WrittenPagesMean → (setup : Setup) (writes : Writing) (older newer : List Event) (line : LineValue) (ends : EndsIn setup writes older newer line)
+    → DeedOfTurn setup (handed_by ends.log) older newer line
+deed_of_turn newest origins mean setup writes older newer line ends = by (turned setup writes older newer line ends)
+  where
+    ticked : (between : List Event) (now : ℕ) (given : Given) → IsQuiet setup older between → newer ≡ Tick now given ∷ between → IsHandedOver given.on_calling (handed_by ends.log)
+        → kept_at (calling_leg setup between) (max now (clock between)) ≡ line.turned.kept → (o : Option Kept) → line.turned.kept ≡ o → DeedOfTurn setup (handed_by ends.log) older newer line
+    ticked between now given quiet at handed is_kept None none =
+        NoPage none (λ kept_so deeds kept are.
+        on_leg_of setup now given between newer None (Turn (handed_by ends.log) false kept_so ∷ deeds) kept at (quiet_page (calling_leg setup between) (max now (clock between)) (is_kept ∙ none))
+        (handed_by ends.log, kept_so, deeds, handed, refl, quiet.legs deeds kept are))
+    ticked between now given quiet at handed is_kept (Some own) some =
+        let trace : IsTrace setup writes (Tick now given ∷ between) = subst (λ (t : List Event). IsTrace setup writes t) at ends.reached.is_trace in
+        let book : line.gateway.book ≡ book_of (sides setup writes (Tick now given ∷ between)) = ends.reached.book ∙ ap (λ (t : List Event). book_of (sides setup writes t)) at in
+        let told : Told (calling_leg setup between) (max now (clock between)) given.on_calling own = told_leg (calling_leg setup between) (max now (clock between)) given.on_calling own (is_kept ∙ some) in
+        let page : PageValue = told.confirmed.page in
+        let is_newest : newest_page line.gateway.book ≡ Some page = ap (λ (b : Book). newest_page b) book ∙ newest setup writes now given between told.confirmed trace told.at in
+        let jobs = origins setup writes (Tick now given ∷ between) trace in
+        let is_page : IsPage page =
+        newest_is_page setup (Tick now given ∷ between) (past_of (sides setup writes (Tick now given ∷ between))) page jobs.0 jobs.1 (ap (λ (b : Book). newest_page b) (sym book) ∙ is_newest) in
+        let one : CallPage = record { call = own.call; page = page } in
+        OnePage own some one
+        (λ to_keep its.
+        let same : its.kept ≡ own = same_some its.kept own (sym its.told ∙ some) in
+        let kept_as : IsKeptAs own (Some page) to_keep =
+        subst (λ (o : Option PageValue). IsKeptAs own o to_keep) is_newest (subst (λ (k : Kept). IsKeptAs k (newest_page line.gateway.book) to_keep) same its.is_kept_as) in
+        let value : spool.PageValue = record { life = 0; call = to_keep.kept.call; number = 0; format = to_keep.kept.format; closes = to_keep.kept.closes; line = []; tag = []; text = to_keep.text } in
+        let recorded : IsRecordOf to_keep (Page value) = record { value = value; is_page = refl; call = refl; format = refl; closes = refl; text = refl } in
+        (ap (λ (k : Kept). k.call) (sym kept_as.told), kept_pages_are_read mean own page to_keep value is_page told.format kept_as recorded))
+        (λ deeds kept are.
+        on_leg_of setup now given between newer (Some one) (Turn (handed_by ends.log) true true ∷ deeds) (kept ++ one ∷ []) at told.page
+        (handed_by ends.log, deeds, handed, inl (refl, (kept, refl, quiet.legs deeds kept are))))
+        (λ deeds kept are.
+        on_leg_of setup now given between newer (Some one) (Turn (handed_by ends.log) true false ∷ deeds) kept at told.page (handed_by ends.log, deeds, handed, inr (refl, quiet.legs deeds kept are)))
+
+    by : Turned setup ends.log older newer → DeedOfTurn setup (handed_by ends.log) older newer line
+    by (Refused quiet handed) =
+        NoTick (sym (same_kept None line.turned.kept (no_more (pages_kept setup older) (kept_list line.turned.kept) (sym quiet.pages ∙ ends.tells.pages)))) handed quiet.legs
+    by (Ticked between now given quiet at handed) =
+        ticked between now given quiet at handed
+        (tick_kept setup older between now given line.turned.kept quiet (subst (λ (t : List Event). pages_kept setup t ≡ pages_kept setup older ++ kept_list line.turned.kept) at ends.tells.pages))
+        line.turned.kept refl

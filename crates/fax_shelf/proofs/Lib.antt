@@ -10,6 +10,7 @@ mod Lives
 mod Naming
 mod Packing
 mod PastEnds
+mod PastLegs
 mod PastPuts
 pub mod PastRuns
 mod Pasts

@@ -235,7 +235,7 @@ is_width W1728 = search rules
 is_width W2048 = search rules
 is_width W2432 = search rules
 
-one_page : PagesAreUnique → (w : spool.PageValue) (page other : PageValue) → Means w page → Means w other → page ≡ other
+pub one_page : PagesAreUnique → (w : spool.PageValue) (page other : PageValue) → Means w page → Means w other → page ≡ other
 one_page unique w page other means too =
     same_page page other (means.0 ∙ sym too.0) (unique (elements_of w.format.width) Mr w.text page.rows other.rows (is_width w.format.width) means.1 too.1)
 

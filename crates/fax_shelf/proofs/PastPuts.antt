@@ -76,7 +76,7 @@ others_of number line names [] (v ∷ values) other none named = absurd named
 others_of number line names (p ∷ pages) [] other none named = absurd named
 others_of number line names (p ∷ pages) (v ∷ values) other none named = (other p.line v.line named.0 none.0, others_of number line names pages values other none.1 named.1)
 
-not_eq : (a b : ℕ) → nat_eq a b ≡ false → a ≢ b
+pub not_eq : (a b : ℕ) → nat_eq a b ≡ false → a ≢ b
 not_eq a b unlike same = let no : true ≡ false = sym (nat_eq_refl b) ∙ ap (λ (n : ℕ). nat_eq n b) (sym same) ∙ unlike in cc
   where
     nat_eq_refl : (n : ℕ) → nat_eq n n ≡ true
@@ -100,7 +100,7 @@ unlike : (number : ℕ) (pages : List PageToKeep) → IsOfNone number pages → 
 unlike number [] none = λ k d low. absurd (omega (arith, low))
 unlike number (page ∷ pages) none = λ k d low. unlike_at number page pages none.0 (unlike number pages none.1) k d low
 
-behind_none : (page : PageToKeep) (pages : List PageToKeep) (number : ℕ) → page.line ≡ number → AllPairs (λ page behind. page.line < behind.line) (page ∷ pages) → IsOfNone number pages
+pub behind_none : (page : PageToKeep) (pages : List PageToKeep) (number : ℕ) → page.line ≡ number → AllPairs (λ page behind. page.line < behind.line) (page ∷ pages) → IsOfNone number pages
 behind_none page pages number is all = none_from pages (λ k d low. all zero (suc k) d (omega arith) (omega (arith, low)))
   where
     none_from : (pages : List PageToKeep) → ((k : ℕ) (d : PageToKeep) → k < length pages → page.line < (slice_index_or pages k d).line) → IsOfNone number pages

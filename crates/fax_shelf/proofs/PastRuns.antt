@@ -1,7 +1,7 @@
 -- A run makes history: what becomes of a line and its past, order by order.
 use Rattle.std.proofs.Common.{◌≡◌, ◌≢◌, ◌∙◌, ℕ, zero, suc, max, ◌<◌, ◌≤◌, inl, inr, Bool, true, false, ◌&&◌, ◌||◌, nat_eq, if◌then◌else◌, List, [], ◌∷◌, ◌++◌, length, All, AllPairs, Option, Some, None, is_ok, slice_get, slice_index_or, arith, refl, sym, ap, subst, append_assoc, append-nil}
 use Rattle.std.proofs.lemmas.Bool.{eqb-true}
-use Rattle.fax_pagestore.specs.PageLaws.{PagesAreWritten}
+use Rattle.fax_pagestore.specs.PageLaws.{PagesAreUnique, PagesAreWritten, WrittenPagesMean}
 use Rattle.fax_jobs.specs.declared.report.Report.{Report}
 use Rattle.fax_call.specs.Writings.{IsWriting, Writing}
 use Rattle.fax_gateway.specs.declared.given.Kept.{Kept}
@@ -13,10 +13,12 @@ use Rattle.fax_gateway.specs.Setups.{Setup}
 use Rattle.fax_gateway.specs.Events.{Event, Ring}
 use Rattle.fax_gateway.specs.Reached.{GatewayValue, IsReachedBy}
 use Rattle.fax_gateway.specs.Driving.{Accepts, DriverValue, Entry, HasMade, RefusesRing, events}
-use Rattle.fax_hold.specs.Keeping.{PutsIf}
+use Rattle.fax_gateway.specs.declared.side.Side.TheVariants as side
+use Rattle.fax_hold.specs.Holding.{CeasesWhere, HoldingValue, StaysWhere}
+use Rattle.fax_hold.specs.Keeping.{HasDoneWhere, HoldsByLog, PutsIf, handed_by}
 use Rattle.fax_line.specs.Actions.{Action, Goes, IsRung, LineValue, Rests, Rings, TellsTurn, Turns, Wakes}
-use Rattle.fax_line.specs.Deeds.{RingsLine, SlotTells, TurnsSlot, WakesLine, Went, actions_of, slot_of}
-use Rattle.fax_line.specs.Places.{PlaceValue, TellsOrRests}
+use Rattle.fax_line.specs.Deeds.{AllStayHeld, IsFreed, RingFrees, RingsLine, SlotTells, TellsInSlot, TurnsSlot, WakesLine, Went, actions_of, slot_of}
+use Rattle.fax_line.specs.Places.{PlaceValue, StaysHeld, TellsOrRests}
 use Rattle.fax_line.specs.Runs.{Done, Rung, Turned, Woken, call_if, latest, next_slot}
 use Rattle.fax_line.specs.KeptRuns.{EndsIf, IsSettled, NotesIf, Ran, TellsFirst, TellsPlace, TellsWhere, kept_if, kept_pages}
 use Rattle.fax_line.specs.Settling.{EndsTurn, EndsWhere, IsOfTurn, IsPageOf, has_page, is_kept_in, was_turned}
@@ -38,7 +40,9 @@ use Rattle.fax_shelf.specs.Book.{Confirms, Restores as RestoresCalls, Tiding, pa
 use Rattle.fax_shelf.specs.TurnsTold.{EndsIn, IsPutAs, TellsBoth, TurnsTellBoth}
 use Rattle.fax_shelf.specs.SpoolKeeping.{EndsJobIf, IsUnchanged, NotesPage, PutsPages}
 use Rattle.fax_shelf.specs.Histories.{AreKeptOf, HasPast, OpeningsFindWhatWaits, RunsMakeHistory}
-use Rattle.fax_shelf.proofs.BookTurns.{turn_has_page}
+use Rattle.fax_shelf.specs.OnLeg.{AreOnLeg}
+use Rattle.fax_shelf.proofs.BookTurns.{deed_of_turn, turn_has_page}
+use Rattle.fax_shelf.proofs.PastLegs.{Leg, kept_once, leg_ended, leg_fresh, leg_rung, leg_still}
 use Rattle.fax_shelf.proofs.Lives.{restarts_are_deeds}
 use Rattle.fax_shelf.proofs.Waits.{one_more}
 use Rattle.fax_shelf.proofs.Pasts.{PastAs, wait_map}
@@ -47,13 +51,15 @@ use Rattle.fax_shelf.proofs.PastEnds.{Held, other_ended, other_noted, own_ended,
 
 -- ---- the gateway of a line
 
--- A trace led to its gateway, by which this is told behind what was told before it.
-record Reaches (setup : Setup) (writes : Writing) (before t : List Tiding) (line : LineValue) : Type 0 where
+-- A trace led to its gateway, by which this is told behind what was told before it; and its wire did what is of that trace, where these
+-- pages were put.
+record Reaches (setup : Setup) (writes : Writing) (before t : List Tiding) (puts : List CallPage) (line : LineValue) : Type 0 where
   trace : List Event
   made : List Entry
   reached : IsReachedBy setup writes trace line.gateway
   driven : HasMade made line.driver
   told : told_in setup trace before ≡ t
+  leg : Leg setup trace line.holding puts
 
 -- actions in which no tick is
 abbrev AreQuiet : List Action → Type 0
@@ -62,6 +68,18 @@ AreQuiet (Turns now ∷ actions) = ⊥
 AreQuiet (Rests now ∷ actions) = AreQuiet actions
 AreQuiet (Rings now call ∷ actions) = AreQuiet actions
 AreQuiet (Wakes ∷ actions) = AreQuiet actions
+
+-- what they make of what the line's wire holds back
+abbrev HeldBy : Action → Option HoldingValue → Option HoldingValue → Type 0
+HeldBy (Turns now) old new = StaysWhere old new
+HeldBy (Rests now) old new = StaysWhere old new
+HeldBy (Rings now None) old new = StaysWhere old new
+HeldBy (Rings now (Some number)) old new = CeasesWhere side.Calling old new
+HeldBy Wakes old new = StaysWhere old new
+
+held_by_ring : (now : ℕ) (call : Option ℕ) (old new : PlaceValue) → IsFreed true call old new → HeldBy (Rings now call) old.line.holding new.line.holding
+held_by_ring now None old new freed = freed
+held_by_ring now (Some number) old new freed = freed
 
 module _ (setup : Setup) (writes : Writing) (before : List Tiding) where
   told_none : (log : List Entry) (trace : List Event) → log ≡ [] → told_in setup (events log ++ trace) before ≡ told_in setup trace before
@@ -77,9 +95,23 @@ module _ (setup : Setup) (writes : Writing) (before : List Tiding) where
   told_rung now None newer older log trace is rung none =
       ap (λ (l : List Entry). told_in setup (events l ++ trace) before) (is ∙ ap (λ (l : List Entry). l ++ older) rung.1 ∙ ap (λ (l : List Entry). RefusesRing rung.0 ∷ l) none)
 
-  goes_with : (t : List Tiding) (old new : LineValue) (action : Action) → AreQuiet (action ∷ []) → IsWriting writes → Goes (action ∷ []) old new → Reaches setup writes before t old → Reaches setup writes before t new
-  goes_with t old new (Turns now) quiet writing goes was = absurd quiet
-  goes_with t old new (Rests now) quiet writing goes was =
+  -- where no event came
+  leg_quiet : (log : List Entry) (trace : List Event) (p : List CallPage) (old new : Option HoldingValue) → log ≡ [] → StaysWhere old new → Leg setup trace old p → Leg setup (events log ++ trace) new p
+  leg_quiet log trace p old new none stays leg = subst (λ (l : List Entry). Leg setup (events l ++ trace) new p) (sym none) (leg_still setup trace old new p stays leg)
+
+  leg_by_ring : (now : ℕ) (call : Option ℕ) (newer older log : List Entry) (trace : List Event) (p : List CallPage) (old new : Option HoldingValue) → log ≡ newer ++ older → IsRung now call newer → older ≡ []
+      → HeldBy (Rings now call) old new → Leg setup trace old p → Leg setup (events log ++ trace) new p
+  leg_by_ring now (Some number) newer older log trace p old new is rung none held leg =
+      subst (λ (l : List Entry). Leg setup (events l ++ trace) new p)
+      (sym (is ∙ ap (λ (l : List Entry). l ++ older) rung ∙ ap (λ (l : List Entry). Accepts (Ring now number) ∷ l) none)) (leg_rung setup trace now number old new p held leg)
+  leg_by_ring now None newer older log trace p old new is rung none held leg =
+      subst (λ (l : List Entry). Leg setup (events l ++ trace) new p)
+      (sym (is ∙ ap (λ (l : List Entry). l ++ older) rung.1 ∙ ap (λ (l : List Entry). RefusesRing rung.0 ∷ l) none)) (leg_still setup trace old new p held leg)
+
+  goes_with : (t : List Tiding) (p : List CallPage) (old new : LineValue) (action : Action) → AreQuiet (action ∷ []) → IsWriting writes → Goes (action ∷ []) old new → HeldBy action old.holding new.holding → Reaches setup writes before t p old
+      → Reaches setup writes before t p new
+  goes_with t p old new (Turns now) quiet writing goes stays was = absurd quiet
+  goes_with t p old new (Rests now) quiet writing goes stays was =
       let it = goes.goes setup writes was.trace was.made writing was.reached was.driven in
       record {
         trace = events it.0 ++ was.trace;
@@ -87,8 +119,9 @@ module _ (setup : Setup) (writes : Writing) (before : List Tiding) where
         reached = it.2.reached;
         driven = it.3;
         told = told_none it.0 was.trace (both_none it.1.0 it.1.1 it.0 it.1.2 it.1.3.0 it.1.4) ∙ was.told;
+        leg = leg_quiet it.0 was.trace p old.holding new.holding (both_none it.1.0 it.1.1 it.0 it.1.2 it.1.3.0 it.1.4) stays was.leg;
       }
-  goes_with t old new (Rings now call) quiet writing goes was =
+  goes_with t p old new (Rings now call) quiet writing goes freed was =
       let it = goes.goes setup writes was.trace was.made writing was.reached was.driven in
       record {
         trace = events it.0 ++ was.trace;
@@ -96,8 +129,9 @@ module _ (setup : Setup) (writes : Writing) (before : List Tiding) where
         reached = it.2.reached;
         driven = it.3;
         told = told_rung now call it.1.0 it.1.1 it.0 was.trace it.1.2 it.1.3 it.1.4 ∙ was.told;
+        leg = leg_by_ring now call it.1.0 it.1.1 it.0 was.trace p old.holding new.holding it.1.2 it.1.3 it.1.4 freed was.leg;
       }
-  goes_with t old new Wakes quiet writing goes was =
+  goes_with t p old new Wakes quiet writing goes stays was =
       let it = goes.goes setup writes was.trace was.made writing was.reached was.driven in
       record {
         trace = events it.0 ++ was.trace;
@@ -105,10 +139,11 @@ module _ (setup : Setup) (writes : Writing) (before : List Tiding) where
         reached = it.2.reached;
         driven = it.3;
         told = told_none it.0 was.trace (both_none it.1.0 it.1.1 it.0 it.1.2 it.1.3 it.1.4) ∙ was.told;
+        leg = leg_quiet it.0 was.trace p old.holding new.holding (both_none it.1.0 it.1.1 it.0 it.1.2 it.1.3 it.1.4) stays was.leg;
       }
 
-  goes_still : (t : List Tiding) (old new : LineValue) → IsWriting writes → Goes [] old new → Reaches setup writes before t old → Reaches setup writes before t new
-  goes_still t old new writing goes was =
+  goes_still : (t : List Tiding) (p : List CallPage) (old new : LineValue) → IsWriting writes → Goes [] old new → StaysWhere old.holding new.holding → Reaches setup writes before t p old → Reaches setup writes before t p new
+  goes_still t p old new writing goes stays was =
       let it = goes.goes setup writes was.trace was.made writing was.reached was.driven in
       record {
         trace = events it.0 ++ was.trace;
@@ -116,37 +151,52 @@ module _ (setup : Setup) (writes : Writing) (before : List Tiding) where
         reached = it.2.reached;
         driven = it.3;
         told = told_none it.0 was.trace it.1 ∙ was.told;
+        leg = leg_quiet it.0 was.trace p old.holding new.holding it.1 stays was.leg;
       }
-
-  -- where its gateway and its driver stay
-  same_line : (t : List Tiding) (old new : LineValue) → new.gateway ≡ old.gateway → new.driver ≡ old.driver → Reaches setup writes before t old → Reaches setup writes before t new
-  same_line t old new gateway driver was = record {
-    trace = was.trace;
-    made = was.made;
-    reached = subst (λ (g : GatewayValue). IsReachedBy setup writes was.trace g) (sym gateway) was.reached;
-    driven = subst (λ (d : DriverValue). HasMade was.made d) (sym driver) was.driven;
-    told = was.told;
-  }
 
   -- A turn: what is told of it, by what the line told.
   record TurnsSo (t : List Tiding) (line : LineValue) : Type 0 where
     older : List Event
     newer : List Event
+    made : List Entry
     ends : EndsIn setup writes older newer line
     was : told_in setup older before ≡ t
-    reaches : Reaches setup writes before (told_in setup newer before) line
+    driven : HasMade made line.driver
 
-  goes_turned : (t : List Tiding) (now : ℕ) (old new : LineValue) → IsWriting writes → TellsTurn now old new → Reaches setup writes before t old → TurnsSo t new
-  goes_turned t now old new writing tells was =
+  -- And what its wire holds back then.
+  record TurnsOnLeg (t : List Tiding) (p : List CallPage) (mid : Option HoldingValue) (line : LineValue) : Type 0 where
+    so : TurnsSo t line
+    leg : Leg setup so.older mid p
+    holds : HoldsByLog so.ends.log mid line.holding
+
+  goes_turned : (t : List Tiding) (p : List CallPage) (now : ℕ) (old new : LineValue) → IsWriting writes → TellsTurn now old new → Reaches setup writes before t p old → TurnsOnLeg t p old.holding new
+  goes_turned t p now old new writing tells was =
       let it = tells.tells setup writes was.trace was.made writing was.reached was.driven in
       let newer : List Event = events it.0 ++ was.trace in
       record {
-        older = was.trace;
-        newer = newer;
-        ends = record { now = now; log = it.0; turn = it.1; longer = refl; reached = it.2.reached; tells = it.4 };
-        was = was.told;
-        reaches = record { trace = newer; made = it.0 ++ was.made; reached = it.2.reached; driven = it.3; told = refl };
+        so = record {
+          older = was.trace;
+          newer = newer;
+          made = it.0 ++ was.made;
+          ends = record { now = now; log = it.0; turn = it.1; longer = refl; reached = it.2.reached; tells = it.4 };
+          was = was.told;
+          driven = it.3;
+        };
+        leg = was.leg;
+        holds = it.5;
       }
+
+  -- as the turn ends its gateway and its driver stay
+  turn_ended : (t : List Tiding) (p : List CallPage) (old new : LineValue) (so : TurnsSo t old) → new.gateway ≡ old.gateway → new.driver ≡ old.driver → Leg setup so.newer new.holding p
+      → Reaches setup writes before (told_in setup so.newer before) p new
+  turn_ended t p old new so gateway driver leg = record {
+    trace = so.newer;
+    made = so.made;
+    reached = subst (λ (g : GatewayValue). IsReachedBy setup writes so.newer g) (sym gateway) so.ends.reached;
+    driven = subst (λ (d : DriverValue). HasMade so.made d) (sym driver) so.driven;
+    told = refl;
+    leg = leg;
+  }
 
 -- ---- places in lists
 
@@ -485,49 +535,59 @@ module _
   -- ---- a run
 
   module _
-      (tell_both : TurnsTellBoth) (newest : ConfirmsTheNewest) (origins : JobsAreOfTheirCalls) (written : PagesAreWritten) (setup : Setup) (writes : Writing) (before : List Tiding) (writing : IsWriting writes)
-      (other : PlaceValue) where
+      (tell_both : TurnsTellBoth) (newest : ConfirmsTheNewest) (origins : JobsAreOfTheirCalls) (written : PagesAreWritten) (mean : WrittenPagesMean) (setup : Setup) (writes : Writing) (before : List Tiding)
+      (writing : IsWriting writes) (other : PlaceValue) where
     -- the line, and what is kept of its pages, tell the same; and by the ends of the run's turns these were put
     record Stands (q : List CallPage) (ends : List SlotEnd) (lines : List PlaceValue) (k : K) : Type 0 where
       many : length lines ≡ length names
       tidings : List Tiding
       puts : List CallPage
       are_put : AreKeptOf number (kept_pages ends) puts
-      reaches : Reaches setup writes before tidings (slice_index_or lines number other).line
+      on_leg : List CallPage
+      are_on_leg : AreKeptOf number (kept_pages ends) on_leg
+      reaches : Reaches setup writes before tidings on_leg (slice_index_or lines number other).line
       held : Holds tidings (q ++ puts) k
 
     low_in : (lines : List PlaceValue) → length lines ≡ length names → number < length lines
     low_in lines many = let low : number < length names = low_number in omega (arith, low, many)
 
     -- nothing is done with it in this turn
-    rests_on : (q : List CallPage) (ends : List SlotEnd) (slot : ℕ) (end : SlotEnd) (t : List Tiding) (puts : List CallPage) (turned lines : List PlaceValue) (k l : K) → length turned ≡ length names
+    rests_on : (q : List CallPage) (ends : List SlotEnd) (slot : ℕ) (end : SlotEnd) (t : List Tiding) (puts p : List CallPage) (turned lines : List PlaceValue) (k l : K) → length turned ≡ length names
         → was_turned slot number (slice_index_or turned number other) ≡ false → IsSettled Same Puts Notes Ends slot end turned lines k l → AreKeptOf number (kept_pages ends) puts
-        → Reaches setup writes before t (slice_index_or turned number other).line → Holds t (q ++ puts) k → Stands q (end ∷ ends) lines l
-    rests_on q ends slot end t puts turned lines k l many off settled are reach held =
+        → AreKeptOf number (kept_pages ends) p → Reaches setup writes before t p (slice_index_or turned number other).line → Holds t (q ++ puts) k → Stands q (end ∷ ends) lines l
+    rests_on q ends slot end t puts p turned lines k l many off settled are on reach held =
+        let none : AreKeptOf number (kept_if (is_ok end.answer) end.pages.items) [] =
+        kept_if_none number end.pages.items (is_ok end.answer) (none_turned slot number turned other end.pages.items settled.pages.each off) in
         let still = settles_still slot end turned lines k l settled many other t (q ++ puts) off held in record {
           many = many_left slot end turned lines k l settled many;
           tidings = t;
           puts = puts ++ [];
-          are_put = kept_both number (kept_pages ends) (kept_if (is_ok end.answer) end.pages.items) puts [] are
-              (kept_if_none number end.pages.items (is_ok end.answer) (none_turned slot number turned other end.pages.items settled.pages.each off));
-          reaches = subst (λ (p : PlaceValue). Reaches setup writes before t p.line) (sym still.1) reach;
+          are_put = kept_both number (kept_pages ends) (kept_if (is_ok end.answer) end.pages.items) puts [] are none;
+          on_leg = p ++ [];
+          are_on_leg = kept_both number (kept_pages ends) (kept_if (is_ok end.answer) end.pages.items) p [] on none;
+          reaches = subst (λ (x : List CallPage). Reaches setup writes before t x (slice_index_or lines number other).line) (sym (append-nil p))
+              (subst (λ (x : PlaceValue). Reaches setup writes before t p x.line) (sym still.1) reach);
           held = subst (λ (p : List CallPage). Holds t (q ++ p) l) (sym (append-nil puts)) still.0;
         }
 
-    turns_on : (q : List CallPage) (ends : List SlotEnd) (slot now : ℕ) (end : SlotEnd) (t : List Tiding) (puts : List CallPage) (mid turned lines : List PlaceValue) (k l : K) → length turned ≡ length names
+    turns_on : (q : List CallPage) (ends : List SlotEnd) (slot now : ℕ) (end : SlotEnd) (t : List Tiding) (puts p : List CallPage) (mid turned lines : List PlaceValue) (k l : K) → length turned ≡ length names
         → was_turned slot number (slice_index_or turned number other) ≡ true → TellsTurn now (slice_index_or mid number other).line (slice_index_or turned number other).line
-        → IsSettled Same Puts Notes Ends slot end turned lines k l → AreKeptOf number (kept_pages ends) puts → Reaches setup writes before t (slice_index_or mid number other).line → Holds t (q ++ puts) k
+        → IsSettled Same Puts Notes Ends slot end turned lines k l → AreKeptOf number (kept_pages ends) puts → AreKeptOf number (kept_pages ends) p → Reaches setup writes before t p (slice_index_or mid number other).line → Holds t (q ++ puts) k
         → Stands q (end ∷ ends) lines l
-    turns_on q ends slot now end t puts mid turned lines k l many on tells settled are reach held =
-        let so : TurnsSo setup writes before t (slice_index_or turned number other).line =
-        goes_turned setup writes before t now (slice_index_or mid number other).line (slice_index_or turned number other).line writing tells reach in
+    turns_on q ends slot now end t puts p mid turned lines k l many on tells settled are on_leg reach held =
+        let its = goes_turned setup writes before t p now (slice_index_or mid number other).line (slice_index_or turned number other).line writing tells reach in
+        let so : TurnsSo setup writes before t (slice_index_or turned number other).line = its.so in
         let ended = ended_so slot end turned lines k l settled many tell_both newest origins written setup writes before t other on so in
-        let left = settles_turned slot end turned lines k l settled many tell_both newest origins written setup writes before t other on so (q ++ puts) held in record {
+        let left = settles_turned slot end turned lines k l settled many tell_both newest origins written setup writes before t other on so (q ++ puts) held in
+        let leg = leg_ended setup so.older so.newer (handed_by so.ends.log) slot number end turned other (slice_index_or mid number other).line.holding (slice_index_or lines number other).line p
+        (deed_of_turn newest origins mean setup writes so.older so.newer (slice_index_or turned number other).line so.ends) settled.pages.each settled.pages.in_order ended.0 its.holds its.leg in record {
           many = many_left slot end turned lines k l settled many;
           tidings = told_in setup so.newer before;
           puts = puts ++ left.0;
           are_put = kept_both number (kept_pages ends) (kept_if (is_ok end.answer) end.pages.items) puts left.0 are left.1;
-          reaches = same_line setup writes before (told_in setup so.newer before) (slice_index_or turned number other).line (slice_index_or lines number other).line ended.0.gateway ended.0.driver so.reaches;
+          on_leg = p ++ leg.more;
+          are_on_leg = kept_both number (kept_pages ends) (kept_if (is_ok end.answer) end.pages.items) p leg.more on_leg leg.are_put;
+          reaches = turn_ended setup writes before t (p ++ leg.more) (slice_index_or turned number other).line (slice_index_or lines number other).line so ended.0.gateway ended.0.driver leg.leg;
           held = subst (λ (p : List CallPage). Holds (told_in setup so.newer before) p l) (append_assoc q puts left.0) left.2;
         }
 
@@ -550,22 +610,31 @@ module _
         goes : Goes (actions_of number (TurnsSlot slot now rests ∷ [])) old.line new.line
         goes = (went.each number other low).goes
 
+        told : TellsInSlot (nat_eq (slot_of number) slot) now (rests number) old new
+        told = tells.each number other low
+
+        told_so : (b r : Bool) → nat_eq (slot_of number) slot ≡ b → rests number ≡ r → TellsInSlot b now r old new
+        told_so b r is rest = subst (λ (c : Bool). TellsInSlot c now r old new) is (subst (λ (c : Bool). TellsInSlot (nat_eq (slot_of number) slot) now c old new) rest told)
+
         by : (b : Bool) → nat_eq (slot_of number) slot ≡ b → (r : Bool) → rests number ≡ r → Stands q (end ∷ ends) lines l
         by false is r rest =
+            let stays : StaysHeld old new = told_so false r is rest in
             let quiet : Goes [] old.line new.line = subst (λ (c : Bool). Goes (if c then (if rests number then Rests now else Turns now) ∷ [] else []) old.line new.line) is goes in
-            rests_on q ends slot end was.tidings was.puts turned lines k l many (ap (λ (c : Bool). c && new.turned) is) settled was.are_put (goes_still setup writes before was.tidings old.line new.line writing quiet was.reaches) was.held
+            rests_on q ends slot end was.tidings was.puts was.on_leg turned lines k l many (ap (λ (c : Bool). c && new.turned) is) settled was.are_put was.are_on_leg
+            (goes_still setup writes before was.tidings was.on_leg old.line new.line writing quiet stays was.reaches) was.held
         by true is true rest =
             let quiet : Goes (Rests now ∷ []) old.line new.line =
             subst (λ (r : Bool). Goes ((if r then Rests now else Turns now) ∷ []) old.line new.line) rest
             (subst (λ (c : Bool). Goes (if c then (if rests number then Rests now else Turns now) ∷ [] else []) old.line new.line) is goes) in
-            let none : new.turned ≡ false = subst (λ (r : Bool). TellsOrRests now r old new) rest (tells.each number other low is) in
-            rests_on q ends slot end was.tidings was.puts turned lines k l many (ap (λ (c : Bool). c && new.turned) is ∙ none) settled was.are_put (goes_with setup writes before was.tidings old.line new.line (Rests now) tt writing quiet was.reaches) was.held
+            let none : TellsOrRests now true old new = told_so true true is rest in
+            rests_on q ends slot end was.tidings was.puts was.on_leg turned lines k l many (ap (λ (c : Bool). c && new.turned) is ∙ none.0) settled was.are_put was.are_on_leg
+            (goes_with setup writes before was.tidings was.on_leg old.line new.line (Rests now) tt writing quiet none.1 was.reaches) was.held
         by true is false rest =
-            let told : TellsOrRests now false old new = subst (λ (r : Bool). TellsOrRests now r old new) rest (tells.each number other low is) in
-            turns_on q ends slot now end was.tidings was.puts mid turned lines k l many (ap (λ (c : Bool). c && new.turned) is ∙ told.0) told.1 settled was.are_put was.reaches was.held
+            let turns : TellsOrRests now false old new = told_so true false is rest in
+            turns_on q ends slot now end was.tidings was.puts was.on_leg mid turned lines k l many (ap (λ (c : Bool). c && new.turned) is ∙ turns.0) turns.1 settled was.are_put was.are_on_leg was.reaches was.held
 
-    ring_on : (q : List CallPage) (ends : List SlotEnd) (rung now : ℕ) (call : Option ℕ) (mid lines : List PlaceValue) (k : K) → Went (RingsLine rung now call ∷ []) mid lines → Stands q ends mid k → Stands q ends lines k
-    ring_on q ends rung now call mid lines k went was = record { many = went.as_many ∙ was.many; tidings = was.tidings; puts = was.puts; are_put = was.are_put; reaches = by (nat_eq number rung) refl; held = was.held }
+    ring_on : (q : List CallPage) (ends : List SlotEnd) (rung now : ℕ) (call : Option ℕ) (mid lines : List PlaceValue) (k : K) → Went (RingsLine rung now call ∷ []) mid lines → RingFrees rung call mid lines → Stands q ends mid k → Stands q ends lines k
+    ring_on q ends rung now call mid lines k went frees was = record { many = went.as_many ∙ was.many; tidings = was.tidings; puts = was.puts; are_put = was.are_put; on_leg = was.on_leg; are_on_leg = was.are_on_leg; reaches = by (nat_eq number rung) refl; held = was.held }
       where
         old : PlaceValue
         old = slice_index_or mid number other
@@ -576,13 +645,19 @@ module _
         goes : Goes (actions_of number (RingsLine rung now call ∷ [])) old.line new.line
         goes = (went.each number other (low_in mid was.many)).goes
 
-        by : (b : Bool) → nat_eq number rung ≡ b → Reaches setup writes before was.tidings new.line
-        by true is =
-            goes_with setup writes before was.tidings old.line new.line (Rings now call) tt writing (subst (λ (c : Bool). Goes (if c then Rings now call ∷ [] else []) old.line new.line) is goes) was.reaches
-        by false is = goes_still setup writes before was.tidings old.line new.line writing (subst (λ (c : Bool). Goes (if c then Rings now call ∷ [] else []) old.line new.line) is goes) was.reaches
+        freed : IsFreed (nat_eq number rung) call old new
+        freed = frees.each number other (low_in mid was.many)
 
-    wake_on : (q : List CallPage) (ends : List SlotEnd) (woken : ℕ) (mid lines : List PlaceValue) (k : K) → Went (WakesLine woken ∷ []) mid lines → Stands q ends mid k → Stands q ends lines k
-    wake_on q ends woken mid lines k went was = record { many = went.as_many ∙ was.many; tidings = was.tidings; puts = was.puts; are_put = was.are_put; reaches = by (nat_eq number woken) refl; held = was.held }
+        by : (b : Bool) → nat_eq number rung ≡ b → Reaches setup writes before was.tidings was.on_leg new.line
+        by true is =
+            goes_with setup writes before was.tidings was.on_leg old.line new.line (Rings now call) tt writing (subst (λ (c : Bool). Goes (if c then Rings now call ∷ [] else []) old.line new.line) is goes)
+            (held_by_ring now call old new (subst (λ (c : Bool). IsFreed c call old new) is freed)) was.reaches
+        by false is =
+            goes_still setup writes before was.tidings was.on_leg old.line new.line writing (subst (λ (c : Bool). Goes (if c then Rings now call ∷ [] else []) old.line new.line) is goes)
+            (subst (λ (c : Bool). IsFreed c call old new) is freed) was.reaches
+
+    wake_on : (q : List CallPage) (ends : List SlotEnd) (woken : ℕ) (mid lines : List PlaceValue) (k : K) → Went (WakesLine woken ∷ []) mid lines → AllStayHeld mid lines → Stands q ends mid k → Stands q ends lines k
+    wake_on q ends woken mid lines k went stays was = record { many = went.as_many ∙ was.many; tidings = was.tidings; puts = was.puts; are_put = was.are_put; on_leg = was.on_leg; are_on_leg = was.are_on_leg; reaches = by (nat_eq number woken) refl; held = was.held }
       where
         old : PlaceValue
         old = slice_index_or mid number other
@@ -593,9 +668,12 @@ module _
         goes : Goes (actions_of number (WakesLine woken ∷ [])) old.line new.line
         goes = (went.each number other (low_in mid was.many)).goes
 
-        by : (b : Bool) → nat_eq number woken ≡ b → Reaches setup writes before was.tidings new.line
-        by true is = goes_with setup writes before was.tidings old.line new.line Wakes tt writing (subst (λ (c : Bool). Goes (if c then Wakes ∷ [] else []) old.line new.line) is goes) was.reaches
-        by false is = goes_still setup writes before was.tidings old.line new.line writing (subst (λ (c : Bool). Goes (if c then Wakes ∷ [] else []) old.line new.line) is goes) was.reaches
+        held : StaysHeld old new
+        held = stays.each number other (low_in mid was.many)
+
+        by : (b : Bool) → nat_eq number woken ≡ b → Reaches setup writes before was.tidings was.on_leg new.line
+        by true is = goes_with setup writes before was.tidings was.on_leg old.line new.line Wakes tt writing (subst (λ (c : Bool). Goes (if c then Wakes ∷ [] else []) old.line new.line) is goes) held was.reaches
+        by false is = goes_still setup writes before was.tidings was.on_leg old.line new.line writing (subst (λ (c : Bool). Goes (if c then Wakes ∷ [] else []) old.line new.line) is goes) held was.reaches
 
     run_on : (q : List CallPage) (first : ℕ) (done : List Done) (settled : List SlotEnd) (begun left : List PlaceValue) (k l : K) → Ran Same Puts Notes Ends first done settled begun left k l → Stands q [] begun k → Stands q settled left l
     run_on q first [] [] begun left k l ran was = subst (λ (m : K). Stands q [] left m) (sym ran.1) (subst (λ (p : List PlaceValue). Stands q [] p k) (sym ran.0) was)
@@ -604,8 +682,8 @@ module _
     run_on q first (Turned now rests ∷ done) (end ∷ settled) begun left k l ran was =
         turn_on q settled (next_slot first done) (max (latest done) now) rests end ran.0 ran.1 left ran.2 l ran.4 ran.5 ran.6 (run_on q first done settled begun ran.0 k ran.2 ran.3 was)
     run_on q first (Rung rung now answer ∷ done) settled begun left k l ran was =
-        ring_on q settled rung (max (latest done) now) (call_if answer) ran.0 left l ran.2 (run_on q first done settled begun ran.0 k l ran.1 was)
-    run_on q first (Woken woken ∷ done) settled begun left k l ran was = wake_on q settled woken ran.0 left l ran.2 (run_on q first done settled begun ran.0 k l ran.1 was)
+        ring_on q settled rung (max (latest done) now) (call_if answer) ran.0 left l ran.2 ran.3 (run_on q first done settled begun ran.0 k l ran.1 was)
+    run_on q first (Woken woken ∷ done) settled begun left k l ran was = wake_on q settled woken ran.0 left l ran.2 ran.3 (run_on q first done settled begun ran.0 k l ran.1 was)
 
 -- ---- a run makes history
 
@@ -626,8 +704,8 @@ module _ {D K : Type 0} (seen : D → List ℕ) (may_leave : D → List ℕ → 
       by place name at None is unlike = let no : None ≡ Some name = sym (none_at shelves place is) ∙ at in absurd (cc)
       by place name at (Some shelf) is unlike = λ same. alone place shelf is unlike (same_some shelf.line name (sym (line_at shelves place shelf is) ∙ at) ∙ same)
 
-  pub runs_make_history : TurnsTellBoth → ConfirmsTheNewest → JobsAreOfTheirCalls → PagesAreWritten → OwedIsRestored → RunsMakeHistory seen may_leave is_usable shelves_of spool_of
-  runs_make_history tell_both newest origins written owed_is writes number line pages lives puts setup first done settled begun left k l writing past begins ran =
+  pub runs_make_history : TurnsTellBoth → ConfirmsTheNewest → JobsAreOfTheirCalls → PagesAreWritten → WrittenPagesMean → PagesAreUnique → OwedIsRestored → RunsMakeHistory seen may_leave is_usable shelves_of spool_of
+  runs_make_history tell_both newest origins written mean unique owed_is writes number line pages lives puts setup first done settled begun left k l writing past begins ran =
       let names : List (List ℕ) = lines_of (shelves_of k) in
       let alone : AreOtherNames number line names = same_names number line (shelves_of k) begins.alone in
       let named : begins.restored.shelf.line ≡ line = begins.restores.are.named in
@@ -660,15 +738,17 @@ module _ {D K : Type 0} (seen : D → List ℕ) (may_leave : D → List ℕ → 
         );
       } in
       let place_is : slice_index_or begun number begins.place ≡ begins.place = same_place (slice_index_or begun number begins.place) begins.place (sym (get_or begun number begins.place (get_low begun number begins.place begins.there)) ∙ begins.there) in
-      let reaches : Reaches setup writes before first_told (slice_index_or begun number begins.place).line = record {
+      let reaches : Reaches setup writes before first_told [] (slice_index_or begun number begins.place).line = record {
         trace = [];
         made = [];
         reached = subst (λ (p : PlaceValue). IsReachedBy setup writes [] p.line.gateway) (sym place_is) (begins.begins.gateway setup writes begins.set);
         driven = subst (λ (p : PlaceValue). HasMade [] p.line.driver) (sym place_is) begins.begins.driver;
         told = refl;
+        leg = leg_fresh setup (slice_index_or begun number begins.place).line.holding (subst (λ (p : PlaceValue). HasDoneWhere [] p.line.holding) (sym place_is) begins.fresh);
       } in
-      let stands = run_on seen may_leave is_usable shelves_of spool_of number line names alone low tell_both newest origins written setup writes before writing begins.place puts first done settled begun left k l ran
-      (record { many = sym begins.as_many ∙ sym many_names; tidings = first_told; puts = []; are_put = refl; reaches = reaches; held = held }) in
+      let stands = run_on seen may_leave is_usable shelves_of spool_of number line names alone low tell_both newest origins written mean setup writes before writing begins.place puts first done settled begun left k l ran
+      (record { many = sym begins.as_many ∙ sym many_names; tidings = first_told; puts = []; are_put = refl; on_leg = []; are_on_leg = refl; reaches = reaches; held = held }) in
+      let once : stands.on_leg ≡ stands.puts = kept_once unique number (kept_pages settled) stands.on_leg stands.puts stands.are_on_leg stands.are_put in
       record {
         place = slice_index_or left number begins.place;
         there = get_or left number begins.place (low_left number names left stands.many low);
@@ -676,6 +756,9 @@ module _ {D K : Type 0} (seen : D → List ℕ) (may_leave : D → List ℕ → 
         reached = stands.reaches.reached;
         kept = stands.puts;
         are_kept = stands.are_put;
+        leg = stands.reaches.leg.deeds;
+        did = stands.reaches.leg.did;
+        on_leg = subst (λ (p : List CallPage). AreOnLeg setup stands.reaches.leg.deeds stands.reaches.trace p) once stands.reaches.leg.on_leg;
         past = wait_map seen may_leave is_usable (spool_of l) (PastAs line stands.tidings (puts ++ stands.puts) stands.held.shelf (notes_of (spool_of l) stands.held.shelf))
             (HasPast writes line (record { setup = setup; trace = stands.reaches.trace } ∷ lives) (puts ++ stands.puts))
             (λ told p. record {

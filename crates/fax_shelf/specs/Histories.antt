@@ -11,6 +11,8 @@ use Rattle.fax_gateway.specs.Setups.{AreSetWith, Setup}
 use Rattle.fax_gateway.specs.Events.{Event}
 use Rattle.fax_gateway.specs.Reached.{IsReachedBy}
 use Rattle.fax_gateway.specs.Lives.{Life}
+use Rattle.fax_hold.specs.Keeping as hold
+use Rattle.fax_hold.specs.Keeping.{HasDoneWhere}
 use Rattle.fax_line.specs.Actions.{BeginsWith}
 use Rattle.fax_line.specs.Places.{PlaceValue}
 use Rattle.fax_line.specs.Runs.{Done}
@@ -30,6 +32,7 @@ use Rattle.fax_shelf.specs.Lives.{Deed, State, WasDone}
 use Rattle.fax_shelf.specs.Refusals.{WaitSo}
 use Rattle.fax_shelf.specs.SpoolKeeping.{EndsJobIf, IsUnchanged, NotesPage, PutsPages}
 use Rattle.fax_shelf.specs.Book.{AreOfLives, pages_put}
+use Rattle.fax_shelf.specs.OnLeg.{AreOnLeg}
 
 -- THE PAST OF A LINE, where these pages wait on the disk: deeds that were done, which are those of these lives of its gateway, and by
 -- which so many pages were put with an `Ok`.
@@ -62,8 +65,8 @@ AreKeptOf number [] puts = puts ≡ []
 AreKeptOf number (page ∷ pages) [] = (page.line ≢ number) × AreKeptOf number pages []
 AreKeptOf number (page ∷ pages) (p ∷ puts) = ((page.line ≡ number) × IsKeptPage page p × AreKeptOf number pages puts) ⊎ ((page.line ≢ number) × AreKeptOf number pages (p ∷ puts))
 
--- A LINE OF A RUN BEGINS where these pages wait on the disk: it is restored with those of its own, and so is its shelf. No other
--- line has its name.
+-- A LINE OF A RUN BEGINS where these pages wait on the disk: it is restored with those of its own, and so is its shelf. Its wire holds
+-- nothing back. No other line has its name.
 pub record BeginsRun {D : Type 0} (seen : D → List ℕ) (may_leave : D → List ℕ → Type 0) (is_usable : D → Bool) (number : ℕ) (line : List ℕ) (pages : List spool.PageValue) (setup : Setup) (lines : List PlaceValue) (shelves : List ShelfValue) (spool : Spool D) : Type 0 where
   pub waits : PagesWait seen may_leave is_usable spool pages
   pub restored : Restored
@@ -71,13 +74,16 @@ pub record BeginsRun {D : Type 0} (seen : D → List ℕ) (may_leave : D → Lis
   pub place : PlaceValue
   pub there : slice_get lines number ≡ Some place
   pub begins : BeginsWith (map call_shown restored.calls.items) place.line
+  pub fresh : HasDoneWhere [] place.line.holding
   pub set : AreSetWith setup place.line.gateway.settings (map call_shown restored.calls.items)
   pub shelved : slice_get shelves number ≡ Some restored.shelf
   pub as_many : length shelves ≡ length lines
   pub alone : (other : ℕ) (shelf : ShelfValue) → slice_get shelves other ≡ Some shelf → other ≢ number → shelf.line ≢ line
 
 -- A RUN LEAVES IT SO: a trace led to its gateway; and whatever crash follows, pages wait on the disk behind which that trace is one
--- life more of the line's past, and the pages of the line that the run put with an `Ok` are those that were put in it.
+-- life more of the line's past, and the pages of the line that the run put with an `Ok` are those that were put in it. What the line's
+-- wire let out on the calling leg is what the ticks of that trace gave, but where a page was not put with an `Ok`, and then nothing
+-- until the next call (`AreOnLeg`, `HasDone`).
 pub record LeavesRun {D : Type 0} (seen : D → List ℕ) (may_leave : D → List ℕ → Type 0) (is_usable : D → Bool) (writes : Writing) (number : ℕ) (line : List ℕ) (lives : List Life) (puts : List CallPage) (setup : Setup) (settled : List SlotEnd) (lines : List PlaceValue) (spool : Spool D) : Type 0 where
   pub place : PlaceValue
   pub there : slice_get lines number ≡ Some place
@@ -85,6 +91,9 @@ pub record LeavesRun {D : Type 0} (seen : D → List ℕ) (may_leave : D → Lis
   pub reached : IsReachedBy setup writes trace place.line.gateway
   pub kept : List CallPage
   pub are_kept : AreKeptOf number (kept_pages settled) kept
+  pub leg : List hold.Deed
+  pub did : HasDoneWhere leg place.line.holding
+  pub on_leg : AreOnLeg setup leg trace kept
   pub past : WaitSo seen may_leave is_usable spool (HasPast writes line (record { setup = setup; trace = trace } ∷ lives) (puts ++ kept))
 
 -- a run whose pages are kept in a spool, by what has these shelves and this spool

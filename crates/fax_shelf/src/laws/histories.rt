@@ -1,16 +1,18 @@
 //! The law of a whole run: it joins what the turns of a line leave with the lives of its gateway.
 ghost use Rattle.fax_shelf.specs.Histories.{OpeningsFindWhatWaits, RunsMakeHistory};
+ghost use Rattle.fax_shelf.specs.OnLeg.{UnputPagesLetNothingOut};
 ghost use Rattle.fax_shelf.specs.declared.keeping.Keeping.{Keeping as KeepingShown};
 
 use crate::laws::book::turns_tell_both;
 use crate::laws::what_is_owed_is_restored;
 use fax_gateway::laws::{confirms_the_newest, jobs_are_of_their_calls};
 use fax_keep::KeptFile;
-use fax_pagestore::laws::pages_are_written;
+use fax_pagestore::laws::{pages_are_unique, pages_are_written, written_pages_mean};
 use sqlite_disk::Disk;
 
 /// Each run of lines whose pages are kept leaves of each of them deeds that are those of the lives of its gateway, with one life more:
-/// whatever came over the wires, whatever was ordered, whichever puts failed, and wherever it stops.
+/// whatever came over the wires, whatever was ordered, whichever puts failed, and wherever it stops. What a line's wire let out on the
+/// calling leg is what the ticks of that life gave, but where a page was not put with an `Ok`, and then nothing until the next call.
 pub fn runs_make_history()
     ensures { RunsMakeHistory ⟦<KeptFile as Disk>⟧.seen ⟦<KeptFile as Disk>⟧.may_leave ⟦<KeptFile as Disk>⟧.is_usable (λ (keeping : KeepingShown). keeping.shelves.items) (λ (keeping : KeepingShown). keeping.spool) }
 {
@@ -18,8 +20,16 @@ pub fn runs_make_history()
     confirms_the_newest();
     jobs_are_of_their_calls();
     pages_are_written();
+    written_pages_mean();
+    pages_are_unique();
     what_is_owed_is_restored();
 }
+
+/// Where the deeds of a line's wire are those of a trace, a tick that confirms a page lets nothing out on the calling leg unless that page
+/// was put with an `Ok`.
+pub fn unput_pages_let_nothing_out()
+    ensures { UnputPagesLetNothingOut }
+{}
 
 /// An opening finds the pages that wait by the records of both files, the older one first: there a run begins.
 pub fn openings_find_what_waits<D: Disk>()
