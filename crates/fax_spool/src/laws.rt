@@ -1,6 +1,7 @@
 //! Laws of spools: functions that do nothing, each of whose contracts is a theorem.
 ghost use Rattle.fax_spool.specs.Calls.{CrashesLeaveWhatWaits, NewSpoolsTellNone, OneWithoutAnOk};
 ghost use Rattle.fax_spool.specs.Opened.{OpeningsFindWhatCrashesLeave};
+ghost use Rattle.fax_spool.specs.Stopped.{StoppedOpeningsLeaveWhatWaits};
 ghost use Rattle.fax_spool.specs.Waits.{SharesWhatWaits};
 ghost use Rattle.fax_spool.specs.Records.{StandsForOneList};
 ghost use Rattle.fax_spool.specs.Spools.{TellsOneList};
@@ -44,4 +45,9 @@ pub fn openings_find_what_crashes_leave<D: Disk>()
 /// By two files that tell no record no page waits.
 pub fn new_spools_tell_none()
     ensures { NewSpoolsTellNone }
+{}
+
+/// However many openings stopped before one is through, the files tell the pages that waited, and which of them is the older one.
+pub fn stopped_openings_leave_what_waits()
+    ensures { StoppedOpeningsLeaveWhatWaits }
 {}
