@@ -12,6 +12,7 @@ mod Packing
 mod PastEnds
 mod PastPuts
 pub mod PastRuns
+pub mod NextRuns
 mod Pasts
 mod Records
 mod Shelving

@@ -3,6 +3,7 @@ pub mod Histories
 pub mod Jobs
 pub mod Keeping
 pub mod Lives
+pub mod NextRuns
 pub mod Refusals
 pub mod Restorations
 pub mod Shelves
