@@ -4,13 +4,13 @@ use Rattle.fax_spool.specs.RecordOctets.{PageValue}
 use Rattle.fax_spool.specs.Waits.{waiting}
 use Rattle.fax_spool.specs.Spools.{Tells, epoch_now, epoch_of}
 use Rattle.fax_spool.specs.Calls.{CrashesLeaveWhatWaits, NewSpoolsTellNone, TellWaits}
-use Rattle.fax_spool.specs.Stopped.{IsLeftByOpening, StopOpening, StoppedOpeningsLeaveWhatWaits}
-use Rattle.fax_spool.specs.Opened.{AreBoth, IsOpened, OpeningsFindWhatCrashesLeave, closed, newer_of, older_of}
+use Rattle.fax_spool.specs.Stopped.{IsLeftByOpening, OpeningsLeaveTheirEpoch, StoppedOpeningsLeaveWhatWaits}
+use Rattle.fax_spool.specs.Opened.{AreBoth, OpeningsFindWhatCrashesLeave, closed, newer_of, older_of}
 use Rattle.fax_spool.specs.declared.kept_record.KeptRecord.{KeptRecord}
 use Rattle.fax_spool.specs.declared.kept_record.KeptRecord.TheVariants.{Epoch}
 use Rattle.fax_spool.proofs.Doing.{rests_told}
 use Rattle.fax_spool.proofs.Order.{AreFound, are_found, order_begins}
-use Rattle.fax_spool.proofs.SpoolSteps.{first_within, waiting_push}
+use Rattle.fax_spool.proofs.SpoolSteps.{at_rest, first_within, waiting_push}
 use Rattle.fax_spool.proofs.Told.{tells_one_list}
 
 read_again : (file other : List ℕ) (records found : List KeptRecord) → other ≡ file → Tells file records → Tells other found → found ≡ records
@@ -79,3 +79,18 @@ stopped_openings_leave_what_waits zero older newer last_older last_newer pages t
     subst (λ (l : List ℕ). TellWaits l last_newer pages) (sym stop.0) (subst (λ (l : List ℕ). TellWaits older l pages) (sym stop.1) tell)
 stopped_openings_leave_what_waits (suc times) older newer last_older last_newer pages tell stop =
     left_by_one stop.0 stop.1 stop.2 stop.3 last_older last_newer pages (stopped_openings_leave_what_waits times older newer stop.0 stop.1 pages tell stop.4) stop.5 stop.6
+
+pub openings_leave_their_epoch : {D : Type 0} (seen : D → List ℕ) (may_leave : D → List ℕ → Type 0) (is_usable : D → Bool) → OpeningsLeaveTheirEpoch seen may_leave is_usable
+openings_leave_their_epoch seen may_leave is_usable one other older newer opened is left =
+    let olds : List KeptRecord = older_of is.ones is.others in
+    let news : List KeptRecord = newer_of is.ones is.others in
+    record {
+      ones = is.ones;
+      others = is.others;
+      one_tells = is.one_tells;
+      other_tells = is.other_tells;
+      number = epoch_now opened.spool;
+      older_epochs = is.older_epochs;
+      newer_epochs = is.newer_epochs;
+      left = inr (at_rest seen may_leave is_usable opened.spool opened.spool olds (news ++ Epoch (epoch_now opened.spool) ∷ []) is.keeps older newer left);
+    }

@@ -1,7 +1,7 @@
 //! Laws of spools: functions that do nothing, each of whose contracts is a theorem.
 ghost use Rattle.fax_spool.specs.Calls.{CrashesLeaveWhatWaits, NewSpoolsTellNone, OneWithoutAnOk};
 ghost use Rattle.fax_spool.specs.Opened.{OpeningsFindWhatCrashesLeave};
-ghost use Rattle.fax_spool.specs.Stopped.{StoppedOpeningsLeaveWhatWaits};
+ghost use Rattle.fax_spool.specs.Stopped.{OpeningsLeaveTheirEpoch, StoppedOpeningsLeaveWhatWaits};
 ghost use Rattle.fax_spool.specs.Waits.{SharesWhatWaits};
 ghost use Rattle.fax_spool.specs.Records.{StandsForOneList};
 ghost use Rattle.fax_spool.specs.Spools.{TellsOneList};
@@ -50,4 +50,9 @@ pub fn new_spools_tell_none()
 /// However many openings stopped before one is through, the files tell the pages that waited, and which of them is the older one.
 pub fn stopped_openings_leave_what_waits()
     ensures { StoppedOpeningsLeaveWhatWaits }
+{}
+
+/// An opening behind which nothing was done leaves what it found, and the record of its epoch: so it counts as one that stopped.
+pub fn openings_leave_their_epoch<D: Disk>()
+    ensures { OpeningsLeaveTheirEpoch D.seen D.may_leave D.is_usable }
 {}
