@@ -13,6 +13,7 @@ mod PastEnds
 mod PastLegs
 mod PastPuts
 pub mod PastRuns
+pub mod NextRuns
 mod Pasts
 mod Records
 mod Shelving

@@ -25,12 +25,9 @@ use Rattle.fax_line.specs.Settling.{EndsTurn, EndsWhere, IsOfTurn, IsPageOf, has
 use Rattle.fax_line.specs.declared.settling.PageToKeep.{PageToKeep}
 use Rattle.fax_line.specs.declared.settling.SlotEnd.{SlotEnd}
 use Rattle.fax_spool.specs.RecordOctets as spool
-use Rattle.fax_spool.specs.Opened.{closed, newer_of, older_of}
-use Rattle.fax_spool.specs.Spools.{epoch_now}
-use Rattle.fax_spool.specs.Waits.{waiting}
-use Rattle.fax_spool.specs.declared.kept_record.KeptRecord.{KeptRecord}
+use Rattle.fax_spool.specs.Opened.{closed}
 use Rattle.fax_spool.specs.declared.spool.Spool.{Spool}
-use Rattle.fax_spool.specs.declared.kept_record.KeptRecord.TheVariants.{Epoch, Page}
+use Rattle.fax_spool.specs.declared.kept_record.KeptRecord.TheVariants.{Page}
 use Rattle.fax_shelf.specs.Restorations.{Restores, calls_of}
 use Rattle.fax_shelf.specs.Shelves.{ShelfValue, lines_of}
 use Rattle.fax_shelf.specs.Keeping.{IsRecordOf}
@@ -39,12 +36,11 @@ use Rattle.fax_shelf.specs.Refusals.{notes_of}
 use Rattle.fax_shelf.specs.Book.{Confirms, Restores as RestoresCalls, Tiding, page_of, reports, told_by, told_in, told_over}
 use Rattle.fax_shelf.specs.TurnsTold.{EndsIn, IsPutAs, TellsBoth, TurnsTellBoth}
 use Rattle.fax_shelf.specs.SpoolKeeping.{EndsJobIf, IsUnchanged, NotesPage, PutsPages}
-use Rattle.fax_shelf.specs.Histories.{AreKeptOf, HasPast, OpeningsFindWhatWaits, RunsMakeHistory}
+use Rattle.fax_shelf.specs.Histories.{AreKeptOf, HasPast, RunsMakeHistory}
 use Rattle.fax_shelf.specs.OnLeg.{AreOnLeg}
 use Rattle.fax_shelf.proofs.BookTurns.{deed_of_turn, turn_has_page}
 use Rattle.fax_shelf.proofs.PastLegs.{Leg, kept_once, leg_ended, leg_fresh, leg_rung, leg_still}
 use Rattle.fax_shelf.proofs.Lives.{restarts_are_deeds}
-use Rattle.fax_shelf.proofs.Waits.{one_more}
 use Rattle.fax_shelf.proofs.Pasts.{PastAs, wait_map}
 use Rattle.fax_shelf.proofs.PastPuts.{AreOtherNames, HasPage, IsConfirmed, kept_of_none, line_at, own_err, own_ok, puts_others, puts_stay}
 use Rattle.fax_shelf.proofs.PastEnds.{Held, other_ended, other_noted, own_ended, own_noted}
@@ -783,15 +779,3 @@ module _ {D K : Type 0} (seen : D → List ℕ) (may_leave : D → List ℕ → 
 
       low_left : (number : ℕ) (names : List (List ℕ)) (lines : List PlaceValue) → length lines ≡ length names → number < length names → number < length lines
       low_left number names lines many low = omega (arith, many, low)
-
--- ---- a spool is opened
-
-pub openings_find_what_waits : {D : Type 0} (seen : D → List ℕ) (may_leave : D → List ℕ → Type 0) (is_usable : D → Bool) → OpeningsFindWhatWaits seen may_leave is_usable
-openings_find_what_waits seen may_leave is_usable one other opened is =
-    let olds : List KeptRecord = older_of is.ones is.others in
-    let news : List KeptRecord = newer_of is.ones is.others in
-    let epoch : KeptRecord = Epoch (epoch_now opened.spool) in
-    record {
-      wait = record { olds = olds; news = news ++ epoch ∷ []; kept = is.keeps; wait = ap waiting (sym (append_assoc olds news (epoch ∷ []))) ∙ one_more [] (olds ++ news) epoch };
-      told = is.pages;
-    }

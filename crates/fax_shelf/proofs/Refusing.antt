@@ -77,7 +77,7 @@ refused_values life (p ∷ pages) (n ∷ numbers) olds news all adds =
 
 module _ {D : Type 0} (seen : D → List ℕ) (may_leave : D → List ℕ → Type 0) (is_usable : D → Bool) where
   rest_still : (before after : Spool D) (waits : List PageValue) → IsAsBefore seen may_leave is_usable before after → PagesWait seen may_leave is_usable before waits → PagesWait seen may_leave is_usable after waits
-  rest_still before after waits same was = record { olds = was.olds; news = was.news; kept = same.keeps was.olds was.news was.kept; wait = was.wait }
+  rest_still before after waits same was = record { olds = was.olds; news = was.news; kept = same.keeps was.olds was.news was.kept; in_order = was.in_order; wait = was.wait }
 
   -- ---- pages that are not put
 

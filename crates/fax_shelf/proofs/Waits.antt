@@ -1,13 +1,14 @@
 -- What waits on a disk, behind one more record or fewer.
-use Rattle.std.proofs.Common.{◌≡◌, ◌∙◌, ℕ, ◌+◌, ◌&&◌, nat_eq, nat_le, nat_lt, bytes_eq, inl, inr, Bool, true, false, not, cond, List, [], ◌∷◌, ◌++◌, map, drop, refl, sym, ap, subst, append_assoc, append-nil}
+use Rattle.std.proofs.Common.{◌≡◌, ◌∙◌, ℕ, ◌+◌, ◌<◌, ◌&&◌, nat_eq, nat_le, nat_lt, bytes_eq, inl, inr, Bool, true, false, not, cond, List, [], ◌∷◌, ◌++◌, map, drop, refl, sym, ap, subst, append_assoc, append-nil}
 use Rattle.std.specs.Bool.{MatchBool}
 use Rattle.fax_spool.specs.RecordOctets.{EndedValue, PageValue}
 use Rattle.fax_spool.specs.KeptRecords.{kept_of}
-use Rattle.fax_spool.specs.Spools.{Keeps, NoneIsLeft}
+use Rattle.fax_spool.specs.Spools.{Keeps, NoneIsLeft, epoch_of}
 use Rattle.fax_spool.specs.Waits.{PageName, SharesWhatWaits, after, ends, name_of, waiting, waiting_behind, without}
 use Rattle.fax_spool.specs.declared.kept_record.KeptRecord.{KeptRecord}
 use Rattle.fax_spool.specs.declared.kept_record.KeptRecord.TheVariants.{Ended, Epoch}
 use Rattle.fax_spool.specs.declared.spool.Spool.{Spool}
+use Rattle.fax_spool.proofs.Order.{order_stays}
 use Rattle.fax_shelf.specs.declared.shelf.Waiting.{Waiting}
 use Rattle.fax_shelf.specs.declared.shelf.Ended as shelf
 use Rattle.fax_shelf.specs.Shelves.{AreAmong, IsAmong, IsEndOf, NamesFirst, NoneIsForgotten, ShelfValue, left_by, name_in}
@@ -39,6 +40,7 @@ wait_ended old new ended put waits was = record {
   olds = was.olds;
   news = was.news ++ Ended ended ∷ [];
   kept = put was.olds was.news was.kept;
+  in_order = order_stays was.olds was.news (Ended ended ∷ []) was.in_order;
   wait = ap waiting (sym (append_assoc was.olds was.news (Ended ended ∷ []))) ∙ one_more [] (was.olds ++ was.news) (Ended ended) ∙ ap (λ (l : List PageValue). without ended l) was.wait;
 }
 
@@ -52,23 +54,25 @@ wait_cleared old new true shares cleared waits was =
       olds = [];
       news = was.news;
       kept = is.1;
+      in_order = inl refl;
       wait = ap (λ (l : List PageValue). l ++ waiting was.news) (sym is.0) ∙ sym (shares was.olds was.news) ∙ was.wait;
     }
-wait_cleared old new false shares cleared waits was = record { olds = was.olds; news = was.news; kept = cleared was.olds was.news was.kept; wait = was.wait }
+wait_cleared old new false shares cleared waits was = record { olds = was.olds; news = was.news; kept = cleared was.olds was.news was.kept; in_order = was.in_order; wait = was.wait }
 
 pub wait_changed :
-    {D : Type 0} {seen : D → List ℕ} {may_leave : D → List ℕ → Type 0} {is_usable : D → Bool} (Low : List KeptRecord → Type 0) (old new : Spool D) (changed : Bool) (number : ℕ)
+    {D : Type 0} {seen : D → List ℕ} {may_leave : D → List ℕ → Type 0} {is_usable : D → Bool} (old new : Spool D) (changed : Bool) (number : ℕ)
     → ((olds news : List KeptRecord) → Keeps seen may_leave is_usable old olds news
-    → MatchBool changed ((olds ≡ []) × Low news × Keeps seen may_leave is_usable new news (Epoch number ∷ [])) (Keeps seen may_leave is_usable new olds news))
+    → MatchBool changed ((olds ≡ []) × (epoch_of news < number) × Keeps seen may_leave is_usable new news (Epoch number ∷ [])) (Keeps seen may_leave is_usable new olds news))
     → (waits : List PageValue) → PagesWait seen may_leave is_usable old waits → PagesWait seen may_leave is_usable new waits
-wait_changed Low old new true number changed waits was =
+wait_changed old new true number changed waits was =
     let is = changed was.olds was.news was.kept in record {
       olds = was.news;
       news = Epoch number ∷ [];
       kept = is.2;
+      in_order = inr is.1;
       wait = one_more [] was.news (Epoch number) ∙ ap (λ (l : List KeptRecord). waiting (l ++ was.news)) (sym is.0) ∙ was.wait;
     }
-wait_changed Low old new false number changed waits was = record { olds = was.olds; news = was.news; kept = changed was.olds was.news was.kept; wait = was.wait }
+wait_changed old new false number changed waits was = record { olds = was.olds; news = was.news; kept = changed was.olds was.news was.kept; in_order = was.in_order; wait = was.wait }
 
 -- ---- a job that ended
 

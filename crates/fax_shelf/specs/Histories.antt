@@ -20,8 +20,8 @@ use Rattle.fax_line.specs.KeptRuns.{Ran, kept_pages}
 use Rattle.fax_line.specs.declared.settling.PageToKeep.{PageToKeep}
 use Rattle.fax_line.specs.declared.settling.SlotEnd.{SlotEnd}
 use Rattle.fax_spool.specs.RecordOctets as spool
-use Rattle.fax_spool.specs.Opened.{IsOpened, closed, newer_of, older_of}
-use Rattle.fax_spool.specs.Waits.{waiting}
+use Rattle.fax_spool.specs.Calls.{TellWaits}
+use Rattle.fax_spool.specs.Opened.{AreBoth, IsOpened, closed}
 use Rattle.fax_spool.specs.declared.opening.Opened.{Opened}
 use Rattle.fax_spool.specs.declared.spool.Spool.{Spool}
 use Rattle.fax_shelf.specs.Shelves.{ShelfValue}
@@ -49,11 +49,11 @@ pub record WasOpened {D : Type 0} (seen : D → List ℕ) (may_leave : D → Lis
   pub wait : PagesWait seen may_leave is_usable opened.spool pages
   pub told : opened.pages.items ≡ closed pages
 
--- AN OPENING FINDS WHAT WAITS by the records of both files, the older one first.
+-- AN OPENING FINDS WHAT WAITS by the records of both files, whichever of them it is handed first.
 abbrev pub OpeningsFindWhatWaits : {D : Type 0} → (D → List ℕ) → (D → List ℕ → Type 0) → (D → Bool) → Type 0
 OpeningsFindWhatWaits {D} seen may_leave is_usable =
-    (one other : List ℕ) (opened : Opened D) (is : IsOpened seen may_leave is_usable one other opened)
-    → WasOpened seen may_leave is_usable opened (waiting (older_of is.ones is.others ++ newer_of is.ones is.others))
+    (older newer one other : List ℕ) (pages : List spool.PageValue) (opened : Opened D) → TellWaits older newer pages → AreBoth older newer one other
+    → IsOpened seen may_leave is_usable one other opened → WasOpened seen may_leave is_usable opened pages
 
 -- the page, and the call that it came in, which its text means
 abbrev pub IsKeptPage : PageToKeep → CallPage → Type 0

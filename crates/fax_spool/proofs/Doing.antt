@@ -1,11 +1,11 @@
 -- What the calls of a spool do, by their answers.
-use Rattle.std.proofs.Common.{◌≡◌, ◌⊎◌, inl, inr, ℕ, Bool, true, false, List, [], ◌∷◌, ◌++◌, map, refl, sym, ◌∙◌, ap, subst, arith, append_assoc, Result, Ok, Err, IsErrAnd}
+use Rattle.std.proofs.Common.{◌≡◌, ◌⊎◌, ◌<◌, inl, inr, ℕ, Bool, true, false, List, [], ◌∷◌, ◌++◌, map, refl, sym, ◌∙◌, ap, subst, arith, append_assoc, Result, Ok, Err, IsErrAnd}
 use Rattle.std.specs.Result.{is_ok}
 use Rattle.std.proofs.lemmas.List.{append-nil}
 use Rattle.fax_spool.specs.RecordOctets.{PageValue}
 use Rattle.fax_spool.specs.KeptRecords.{kept_of}
 use Rattle.fax_spool.specs.Waits.{after, waiting}
-use Rattle.fax_spool.specs.Spools.{Keeps, MayLeaveBoth, NoneIsLeft, TellBoth}
+use Rattle.fax_spool.specs.Spools.{AreInOrder, IsOrderFound, Keeps, MayLeaveBoth, NoneIsLeft, TellBoth, epoch_of}
 use Rattle.fax_spool.specs.Calls.{Answered, Call, Does, DoneButOne, EachCrashTells, IsAsBefore, OneWithoutAnOk, Refuses, Rests, TellWaits, WereMade, done_by, done_by_all}
 use Rattle.fax_spool.specs.Calls.{Turns}
 use Rattle.fax_spool.specs.declared.kept_record.KeptRecord.{KeptRecord}
@@ -13,6 +13,7 @@ use Rattle.fax_spool.specs.declared.kept_record.KeptRecord.TheVariants.{Epoch}
 use Rattle.fax_spool.specs.Settled.{IsSettled}
 use Rattle.fax_spool.specs.declared.file.RecordFile.{RecordFile}
 use Rattle.fax_spool.specs.declared.spool.Spool.{Spool}
+use Rattle.fax_spool.proofs.Order.{order_stays}
 use Rattle.fax_spool.proofs.Shares.{shares}
 use Rattle.fax_spool.proofs.SpoolSteps.{at_rest, waiting_pages, waiting_push}
 
@@ -32,26 +33,26 @@ more_epoch olds news n none = waiting_push [] news (Epoch n) ∙ sym (ap (λ (l 
 
 -- what the files tell behind a crash as a file is cleared
 pub told_cleared : (older newer : List ℕ) (olds news : List KeptRecord) → TellBoth older newer olds news ⊎ (NoneIsLeft olds news × TellBoth older newer [] news)
-    → (os : List KeptRecord) × (ns : List KeptRecord) × TellBoth older newer os ns × (waiting (os ++ ns) ≡ waiting (olds ++ news))
-told_cleared older newer olds news (inl tell) = (olds, news, tell, refl)
-told_cleared older newer olds news (inr tell) = ([], news, tell.1, none_gone olds news tell.0)
+    → AreInOrder olds news → (os : List KeptRecord) × (ns : List KeptRecord) × TellBoth older newer os ns × IsOrderFound os ns × (waiting (os ++ ns) ≡ waiting (olds ++ news))
+told_cleared older newer olds news (inl tell) order = (olds, news, tell, inr order, refl)
+told_cleared older newer olds news (inr tell) order = ([], news, tell.1, inr (inl refl), none_gone olds news tell.0)
 
 -- and as the other one is taken into use
 pub told_changed : (older newer : List ℕ) (olds news : List KeptRecord) (n : ℕ) → olds ≡ [] → TellBoth older newer olds news ⊎ TellBoth older newer news [] ⊎ TellBoth older newer news (Epoch n ∷ [])
-    → (os : List KeptRecord) × (ns : List KeptRecord) × TellBoth older newer os ns × (waiting (os ++ ns) ≡ waiting (olds ++ news))
-told_changed older newer olds news n none (inl tell) = (olds, news, tell, refl)
-told_changed older newer olds news n none (inr (inl tell)) = (news, [], tell, ap (λ (l : List KeptRecord). waiting l) (append-nil news) ∙ sym (ap (λ (l : List KeptRecord). waiting (l ++ news)) none))
-told_changed older newer olds news n none (inr (inr tell)) = (news, Epoch n ∷ [], tell, more_epoch olds news n none)
+    → epoch_of news < n → (os : List KeptRecord) × (ns : List KeptRecord) × TellBoth older newer os ns × IsOrderFound os ns × (waiting (os ++ ns) ≡ waiting (olds ++ news))
+told_changed older newer olds news n none (inl tell) low = (olds, news, tell, inr (inl none), refl)
+told_changed older newer olds news n none (inr (inl tell)) low = (news, [], tell, inl refl, ap (λ (l : List KeptRecord). waiting l) (append-nil news) ∙ sym (ap (λ (l : List KeptRecord). waiting (l ++ news)) none))
+told_changed older newer olds news n none (inr (inr tell)) low = (news, Epoch n ∷ [], tell, inr (inr low), more_epoch olds news n none)
 
 module _ {D : Type 0} (seen : D → List ℕ) (may_leave : D → List ℕ → Type 0) (is_usable : D → Bool) (old new : Spool D) where
-  told_so : (call : Call) (waits : List PageValue) (older newer : List ℕ) (olds news : List KeptRecord) → TellBoth older newer olds news → (P : List PageValue → Type 0) → P (waiting (olds ++ news))
+  told_so : (call : Call) (waits : List PageValue) (older newer : List ℕ) (olds news : List KeptRecord) → TellBoth older newer olds news → IsOrderFound olds news → (P : List PageValue → Type 0) → P (waiting (olds ++ news))
       → (pages : List PageValue) × TellWaits older newer pages × P pages
-  told_so call waits older newer olds news tell P p = (waiting (olds ++ news), record { olds = olds; news = news; tell = tell; wait = refl }, p)
+  told_so call waits older newer olds news tell order P p = (waiting (olds ++ news), record { olds = olds; news = news; tell = tell; in_order = order; wait = refl }, p)
 
   pub rests_told : (waits : List PageValue) → Rests seen may_leave is_usable old waits → EachCrashTells may_leave old (λ told. told ≡ waits)
   rests_told waits rests = λ older newer left. (
     waits,
-    record { olds = rests.olds; news = rests.news; tell = at_rest seen may_leave is_usable old old rests.olds rests.news rests.kept older newer left; wait = rests.wait },
+    record { olds = rests.olds; news = rests.news; tell = at_rest seen may_leave is_usable old old rests.olds rests.news rests.kept older newer left; in_order = inr rests.in_order; wait = rests.wait },
     refl,
   )
 
@@ -107,6 +108,7 @@ module _ {D : Type 0} (seen : D → List ℕ) (may_leave : D → List ℕ → Ty
         olds = rests.olds;
         news = rests.news ++ more;
         kept = put rests.olds rests.news rests.kept;
+        in_order = order_stays rests.olds rests.news more rests.in_order;
         wait = adds rests.olds rests.news ∙ ap (λ (l : List PageValue). done_by call l) rests.wait;
       };
       left = λ err. cc;
@@ -119,10 +121,10 @@ module _ {D : Type 0} (seen : D → List ℕ) (may_leave : D → List ℕ → Ty
     may_have_put crash refuses = record {
       done = λ ok. cc;
       left = λ err waits rests older newer left. elim (crash rests.olds rests.news rests.kept older newer left) [
-        | inl tell ↦ (waits, record { olds = rests.olds; news = rests.news; tell = tell; wait = rests.wait }, inl refl)
+        | inl tell ↦ (waits, record { olds = rests.olds; news = rests.news; tell = tell; in_order = inr rests.in_order; wait = rests.wait }, inl refl)
         | inr tell ↦ (
           done_by call waits,
-          record { olds = rests.olds; news = rests.news ++ more; tell = tell; wait = adds rests.olds rests.news ∙ ap (λ (l : List PageValue). done_by call l) rests.wait },
+          record { olds = rests.olds; news = rests.news ++ more; tell = tell; in_order = inr (order_stays rests.olds rests.news more rests.in_order); wait = adds rests.olds rests.news ∙ ap (λ (l : List PageValue). done_by call l) rests.wait },
           inr refl,
         )
       ];
@@ -132,22 +134,23 @@ module _ {D : Type 0} (seen : D → List ℕ) (may_leave : D → List ℕ → Ty
 
   -- a file was cleared, or taken into use
   module _ (speaks : old.refuses ≡ false) where
-    pub does_turn : ((olds news : List KeptRecord) → Keeps seen may_leave is_usable old olds news → (os : List KeptRecord) × (ns : List KeptRecord) × Keeps seen may_leave is_usable new os ns × (waiting (os ++ ns) ≡ waiting (olds ++ news)))
+    pub does_turn : ((olds news : List KeptRecord) → Keeps seen may_leave is_usable old olds news → AreInOrder olds news
+        → (os : List KeptRecord) × (ns : List KeptRecord) × Keeps seen may_leave is_usable new os ns × AreInOrder os ns × (waiting (os ++ ns) ≡ waiting (olds ++ news)))
         → Does seen may_leave is_usable Turns true old new
     does_turn turn = record {
-      done = λ ok waits rests. let it = turn rests.olds rests.news rests.kept in record { olds = it.0; news = it.1; kept = it.2; wait = it.3 ∙ rests.wait };
+      done = λ ok waits rests. let it = turn rests.olds rests.news rests.kept rests.in_order in record { olds = it.0; news = it.1; kept = it.2; in_order = it.3; wait = it.4 ∙ rests.wait };
       left = λ err. cc;
       failed = λ err. cc;
       refused = λ refuses. cc;
     }
 
-    pub may_have_turned : ((olds news : List KeptRecord) → Keeps seen may_leave is_usable old olds news → (older newer : List ℕ) → MayLeaveBoth may_leave new older newer
-        → (os : List KeptRecord) × (ns : List KeptRecord) × TellBoth older newer os ns × (waiting (os ++ ns) ≡ waiting (olds ++ news))) → new.refuses ≡ true → Does seen may_leave is_usable Turns false old new
+    pub may_have_turned : ((olds news : List KeptRecord) → Keeps seen may_leave is_usable old olds news → AreInOrder olds news → (older newer : List ℕ) → MayLeaveBoth may_leave new older newer
+        → (os : List KeptRecord) × (ns : List KeptRecord) × TellBoth older newer os ns × IsOrderFound os ns × (waiting (os ++ ns) ≡ waiting (olds ++ news))) → new.refuses ≡ true → Does seen may_leave is_usable Turns false old new
     may_have_turned crash refuses = record {
       done = λ ok. cc;
       left = λ err waits rests older newer left.
-          let it = crash rests.olds rests.news rests.kept older newer left in
-          (waits, record { olds = it.0; news = it.1; tell = it.2; wait = it.3 ∙ rests.wait }, inl refl);
+          let it = crash rests.olds rests.news rests.kept rests.in_order older newer left in
+          (waits, record { olds = it.0; news = it.1; tell = it.2; in_order = it.3; wait = it.4 ∙ rests.wait }, inl refl);
       failed = λ err. inl refuses;
       refused = λ was. cc;
     }
@@ -178,7 +181,7 @@ module _ {D : Type 0} (seen : D → List ℕ) (may_leave : D → List ℕ → Ty
           let it = does.left refl (done_by_all earlier waits) rests older newer left in
           (it.0, it.1, elim it.2 [ inl same ↦ inl same | inr done ↦ inr (call, inl refl, done) ]),
     )
-    | inr same ↦ inl (record { olds = rests.olds; news = rests.news; kept = same.keeps rests.olds rests.news rests.kept; wait = rests.wait })
+    | inr same ↦ inl (record { olds = rests.olds; news = rests.news; kept = same.keeps rests.olds rests.news rests.kept; in_order = rests.in_order; wait = rests.wait })
   ]
   next_call call false earlier between last waits does (inr refuses) =
       let same = (does.refused refuses.0).1 in

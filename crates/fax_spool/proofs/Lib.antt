@@ -7,6 +7,8 @@ mod Digests
 mod SpoolSteps
 mod Loops
 mod Shares
+pub mod Order
+mod Reopening
 mod Openings
 mod Told
 mod Doing

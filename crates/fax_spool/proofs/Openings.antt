@@ -5,7 +5,7 @@ use Rattle.fax_spool.specs.Records.{Stands}
 use Rattle.fax_spool.specs.Found.{items_of}
 use Rattle.fax_spool.specs.KeptRecords.{AreReadAs}
 use Rattle.fax_spool.specs.Waits.{waiting}
-use Rattle.fax_spool.specs.Spools.{Keeps, Tells, epoch_now}
+use Rattle.fax_spool.specs.Spools.{Keeps, Tells, epoch_now, greatest_epoch}
 use Rattle.fax_spool.specs.Opened.{IsOpened, closed, comes_first, damaged, newer_of, older_of}
 use Rattle.fax_spool.specs.declared.file.Found.{Found}
 use Rattle.fax_spool.specs.declared.opening.Opened.{Opened}
@@ -31,8 +31,9 @@ is_not_before a b lt = grind (arith, nat_tests, lt)
 module _ {D : Type 0} (seen : D → List ℕ) (may_leave : D → List ℕ → Type 0) (is_usable : D → Bool) (one other : List ℕ) (opened : Opened D) (ones others : List KeptRecord) (one_tells : Tells one ones) (other_tells : Tells other others) where
   -- the first file is the older one
   pub first_is_older : comes_first ones others ≡ true → Keeps seen may_leave is_usable opened.spool ones (others ++ Epoch (epoch_now opened.spool) ∷ [])
+      → greatest_epoch ones < epoch_now opened.spool → greatest_epoch others < epoch_now opened.spool
       → opened.pages.items ≡ closed (waiting (ones ++ others)) → opened.older_damaged ≡ damaged ones → opened.newer_damaged ≡ damaged others → IsOpened seen may_leave is_usable one other opened
-  first_is_older is keeps pages older newer =
+  first_is_older is keeps older_low newer_low pages older newer =
       let olds : older_of ones others ≡ ones = ap (λ (b : Bool). if b then ones else others) is in
       let news : newer_of ones others ≡ others = ap (λ (b : Bool). if b then others else ones) is in
       record {
@@ -42,6 +43,8 @@ module _ {D : Type 0} (seen : D → List ℕ) (may_leave : D → List ℕ → Ty
         other_tells = other_tells;
         keeps = subst (λ (l : List KeptRecord). Keeps seen may_leave is_usable opened.spool l (newer_of ones others ++ Epoch (epoch_now opened.spool) ∷ [])) (sym olds)
             (subst (λ (l : List KeptRecord). Keeps seen may_leave is_usable opened.spool ones (l ++ Epoch (epoch_now opened.spool) ∷ [])) (sym news) keeps);
+        older_epochs = subst (λ (l : List KeptRecord). greatest_epoch l < epoch_now opened.spool) (sym olds) older_low;
+        newer_epochs = subst (λ (l : List KeptRecord). greatest_epoch l < epoch_now opened.spool) (sym news) newer_low;
         pages = pages ∙ sym (ap (λ (l : List KeptRecord). closed (waiting (l ++ newer_of ones others))) olds ∙ ap (λ (l : List KeptRecord). closed (waiting (ones ++ l))) news);
         older_damaged = older ∙ sym (ap damaged olds);
         newer_damaged = newer ∙ sym (ap damaged news);
@@ -49,8 +52,9 @@ module _ {D : Type 0} (seen : D → List ℕ) (may_leave : D → List ℕ → Ty
 
   -- the second one is
   pub second_is_older : comes_first ones others ≡ false → Keeps seen may_leave is_usable opened.spool others (ones ++ Epoch (epoch_now opened.spool) ∷ [])
+      → greatest_epoch others < epoch_now opened.spool → greatest_epoch ones < epoch_now opened.spool
       → opened.pages.items ≡ closed (waiting (others ++ ones)) → opened.older_damaged ≡ damaged others → opened.newer_damaged ≡ damaged ones → IsOpened seen may_leave is_usable one other opened
-  second_is_older is keeps pages older newer =
+  second_is_older is keeps older_low newer_low pages older newer =
       let olds : older_of ones others ≡ others = ap (λ (b : Bool). if b then ones else others) is in
       let news : newer_of ones others ≡ ones = ap (λ (b : Bool). if b then others else ones) is in
       record {
@@ -60,6 +64,8 @@ module _ {D : Type 0} (seen : D → List ℕ) (may_leave : D → List ℕ → Ty
         other_tells = other_tells;
         keeps = subst (λ (l : List KeptRecord). Keeps seen may_leave is_usable opened.spool l (newer_of ones others ++ Epoch (epoch_now opened.spool) ∷ [])) (sym olds)
             (subst (λ (l : List KeptRecord). Keeps seen may_leave is_usable opened.spool others (l ++ Epoch (epoch_now opened.spool) ∷ [])) (sym news) keeps);
+        older_epochs = subst (λ (l : List KeptRecord). greatest_epoch l < epoch_now opened.spool) (sym olds) older_low;
+        newer_epochs = subst (λ (l : List KeptRecord). greatest_epoch l < epoch_now opened.spool) (sym news) newer_low;
         pages = pages ∙ sym (ap (λ (l : List KeptRecord). closed (waiting (l ++ newer_of ones others))) olds ∙ ap (λ (l : List KeptRecord). closed (waiting (others ++ l))) news);
         older_damaged = older ∙ sym (ap damaged olds);
         newer_damaged = newer ∙ sym (ap damaged news);

@@ -105,7 +105,7 @@ grows most (Ended ended ∷ records) = grows most records
 grows most (Epoch number ∷ records) = omega (arith, grows (max most number) records)
 grows most (Damaged ∷ records) = grows most records
 
-first_within : (records : List KeptRecord) → epoch_of records ≤ greatest_epoch records
+pub first_within : (records : List KeptRecord) → epoch_of records ≤ greatest_epoch records
 first_within [] = omega arith
 first_within (Page page ∷ records) = omega arith
 first_within (Ended ended ∷ records) = omega arith

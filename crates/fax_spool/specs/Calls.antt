@@ -3,7 +3,7 @@
 use Rattle.std.specs.Prelude.{◌≡◌, ◌⊎◌, ℕ, Bool, true, false, List, [], ◌∷◌, ◌++◌, if◌then◌else◌}
 use Rattle.fax_spool.specs.RecordOctets.{PageValue, EndedValue}
 use Rattle.fax_spool.specs.Waits.{waiting, without}
-use Rattle.fax_spool.specs.Spools.{Keeps, MayLeaveBoth, TellBoth, files_of}
+use Rattle.fax_spool.specs.Spools.{AreInOrder, IsOrderFound, Keeps, MayLeaveBoth, TellBoth, Tells, files_of}
 use Rattle.fax_spool.specs.declared.kept_record.KeptRecord.{KeptRecord}
 use Rattle.fax_spool.specs.declared.spool.Spool.{Spool}
 
@@ -17,24 +17,35 @@ Refuses spool = refuses_now spool ≡ true
 abbrev pub Accepts : {D : Type 0} → Spool D → Type 0
 Accepts spool = refuses_now spool ≡ false
 
--- these pages wait in a spool between two calls, whatever crash follows
+-- these pages wait in a spool between two calls, whatever crash follows; and its files are in order
 pub record Rests {D : Type 0} (seen : D → List ℕ) (may_leave : D → List ℕ → Type 0) (is_usable : D → Bool) (spool : Spool D) (pages : List PageValue) : Type 0 where
   pub olds : List KeptRecord
   pub news : List KeptRecord
   pub kept : Keeps seen may_leave is_usable spool olds news
+  pub in_order : AreInOrder olds news
   pub wait : waiting (olds ++ news) ≡ pages
 
--- two files tell that these pages wait
+-- two files tell that these pages wait, and which of them is the older one
 pub record TellWaits (older newer : List ℕ) (pages : List PageValue) : Type 0 where
   pub olds : List KeptRecord
   pub news : List KeptRecord
   pub tell : TellBoth older newer olds news
+  pub in_order : IsOrderFound olds news
   pub wait : waiting (olds ++ news) ≡ pages
 
 -- Whenever the machine stops, the files tell that pages wait of which this holds.
 abbrev pub EachCrashTells : {D : Type 0} → (D → List ℕ → Type 0) → Spool D → (List PageValue → Type 0) → Type 0
 EachCrashTells may_leave spool P =
     (older newer : List ℕ) → MayLeaveBoth may_leave spool older newer → (pages : List PageValue) × TellWaits older newer pages × P pages
+
+-- CRASHES LEAVE WHAT WAITS: whatever crash comes between two calls, the files tell just these pages.
+abbrev pub CrashesLeaveWhatWaits : {D : Type 0} → (D → List ℕ) → (D → List ℕ → Type 0) → (D → Bool) → Type 0
+CrashesLeaveWhatWaits {D} seen may_leave is_usable =
+    (spool : Spool D) (pages : List PageValue) → Rests seen may_leave is_usable spool pages → EachCrashTells may_leave spool (λ told. told ≡ pages)
+
+-- by the files of a new spool, which tell no record, no page waits
+abbrev pub NewSpoolsTellNone : Type 0
+NewSpoolsTellNone = (older newer : List ℕ) → Tells older [] → Tells newer [] → TellWaits older newer []
 
 pub data Call : Type 0 where
   -- pages are put

@@ -8,3 +8,4 @@ pub mod Waits
 pub mod Spools
 pub mod Calls
 pub mod Opened
+pub mod Stopped

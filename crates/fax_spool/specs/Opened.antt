@@ -1,9 +1,10 @@
 -- What the two files of a spool are found to hold as they are opened. (This project's profile.)
-use Rattle.std.specs.Prelude.{◌≡◌, ℕ, Bool, true, false, not, ◌&&◌, ◌||◌, nat_eq, nat_le, bytes_eq, List, [], ◌∷◌, ◌++◌, if◌then◌else◌}
+use Rattle.std.specs.Prelude.{◌≡◌, ◌⊎◌, ◌<◌, ℕ, Bool, true, false, not, ◌&&◌, ◌||◌, nat_eq, nat_le, bytes_eq, List, [], ◌∷◌, ◌++◌, if◌then◌else◌}
 use Rattle.std.specs.List.{count_by, list_any}
 use Rattle.fax_spool.specs.RecordOctets.{PageValue}
+use Rattle.fax_spool.specs.Calls.{Rests, TellWaits}
 use Rattle.fax_spool.specs.Waits.{waiting}
-use Rattle.fax_spool.specs.Spools.{Keeps, Tells, epoch_now, epoch_of}
+use Rattle.fax_spool.specs.Spools.{Keeps, Tells, epoch_now, epoch_of, greatest_epoch}
 use Rattle.fax_spool.specs.declared.kept_record.KeptRecord.{KeptRecord}
 use Rattle.fax_spool.specs.declared.kept_record.KeptRecord.TheVariants.{Page, Ended, Epoch, Damaged}
 use Rattle.fax_spool.specs.declared.opening.Opened.{Opened}
@@ -39,14 +40,27 @@ is_damaged Damaged = true
 abbrev pub damaged : List KeptRecord → ℕ
 damaged records = count_by is_damaged records
 
--- A SPOOL WAS OPENED OVER TWO FILES: it keeps what both of them tell, the older one first, and the epoch that begins; the pages
--- that wait by them are told in order; and so is how many records are damaged.
+-- A SPOOL WAS OPENED OVER TWO FILES: it keeps what both of them tell, the older one first, and the epoch that begins, whose number
+-- is greater than each before it; the pages that wait by them are told in order; and so is how many records are damaged.
 pub record IsOpened {D : Type 0} (seen : D → List ℕ) (may_leave : D → List ℕ → Type 0) (is_usable : D → Bool) (one other : List ℕ) (opened : Opened D) : Type 0 where
   pub ones : List KeptRecord
   pub others : List KeptRecord
   pub one_tells : Tells one ones
   pub other_tells : Tells other others
   pub keeps : Keeps seen may_leave is_usable opened.spool (older_of ones others) (newer_of ones others ++ Epoch (epoch_now opened.spool) ∷ [])
+  pub older_epochs : greatest_epoch (older_of ones others) < epoch_now opened.spool
+  pub newer_epochs : greatest_epoch (newer_of ones others) < epoch_now opened.spool
   pub pages : opened.pages.items ≡ closed (waiting (older_of ones others ++ newer_of ones others))
   pub older_damaged : opened.older_damaged ≡ damaged (older_of ones others)
   pub newer_damaged : opened.newer_damaged ≡ damaged (newer_of ones others)
+
+-- two files are these, in either order
+abbrev pub AreBoth : List ℕ → List ℕ → List ℕ → List ℕ → Type 0
+AreBoth older newer one other = ((one ≡ older) × (other ≡ newer)) ⊎ ((one ≡ newer) × (other ≡ older))
+
+-- AN OPENING FINDS WHAT A CRASH LEFT, whichever of both files it is handed first: the pages that wait by them wait in the spool that
+-- was opened, and are told.
+abbrev pub OpeningsFindWhatCrashesLeave : {D : Type 0} → (D → List ℕ) → (D → List ℕ → Type 0) → (D → Bool) → Type 0
+OpeningsFindWhatCrashesLeave {D} seen may_leave is_usable =
+    (older newer one other : List ℕ) (pages : List PageValue) (opened : Opened D) → TellWaits older newer pages → AreBoth older newer one other
+    → IsOpened seen may_leave is_usable one other opened → Rests seen may_leave is_usable opened.spool pages × (opened.pages.items ≡ closed pages)

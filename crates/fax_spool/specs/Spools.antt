@@ -1,5 +1,5 @@
 -- A spool between two calls, and what a crash may leave of it. (This project's profile.)
-use Rattle.std.specs.Prelude.{◌≡◌, ◌≤◌, ℕ, max, Bool, IsTrue, List, [], ◌∷◌, map}
+use Rattle.std.specs.Prelude.{◌≡◌, ◌⊎◌, ◌<◌, ◌≤◌, ℕ, max, Bool, IsTrue, List, [], ◌∷◌, map}
 use Rattle.fax_spool.specs.Records.{Stands}
 use Rattle.fax_spool.specs.Settled.{IsSettled}
 use Rattle.fax_spool.specs.KeptRecords.{AreReadAs}
@@ -53,6 +53,14 @@ NoneIsLeft olds news = left_behind (waiting olds) news ≡ []
 
 abbrev pub TellBoth : List ℕ → List ℕ → List KeptRecord → List KeptRecord → Type 0
 TellBoth older newer olds news = Tells older olds × Tells newer news
+
+-- THE FILES ARE IN ORDER: the older one tells nothing, or its first epoch comes before that of the newer one.
+abbrev pub AreInOrder : List KeptRecord → List KeptRecord → Type 0
+AreInOrder olds news = (olds ≡ []) ⊎ (epoch_of olds < epoch_of news)
+
+-- Which of two files is the older one is found by their first epochs; or one of them tells nothing, and so it makes no difference.
+abbrev pub IsOrderFound : List KeptRecord → List KeptRecord → Type 0
+IsOrderFound olds news = (news ≡ []) ⊎ AreInOrder olds news
 
 -- the greatest number of an epoch so far
 abbrev pub epoch_now : {D : Type 0} → Spool D → ℕ

@@ -1,5 +1,7 @@
 //! Laws of spools: functions that do nothing, each of whose contracts is a theorem.
-ghost use Rattle.fax_spool.specs.Calls.{OneWithoutAnOk};
+ghost use Rattle.fax_spool.specs.Calls.{CrashesLeaveWhatWaits, NewSpoolsTellNone, OneWithoutAnOk};
+ghost use Rattle.fax_spool.specs.Opened.{OpeningsFindWhatCrashesLeave};
+ghost use Rattle.fax_spool.specs.Stopped.{OpeningsLeaveTheirEpoch, StoppedOpeningsLeaveWhatWaits};
 ghost use Rattle.fax_spool.specs.Waits.{SharesWhatWaits};
 ghost use Rattle.fax_spool.specs.Records.{StandsForOneList};
 ghost use Rattle.fax_spool.specs.Spools.{TellsOneList};
@@ -27,4 +29,30 @@ pub fn one_call_at_most_is_done_without_an_ok<D: Disk>()
 /// waits by these. So where nothing is left of the older one's pages, its records say nothing that those of the newer one do not.
 pub fn files_share_what_waits()
     ensures { SharesWhatWaits }
+{}
+
+/// Whatever crash comes between two calls, the files tell the pages that wait, and which of them is the older one.
+pub fn crashes_leave_what_waits<D: Disk>()
+    ensures { CrashesLeaveWhatWaits D.seen D.may_leave D.is_usable }
+{}
+
+/// An opening finds what a crash left, whichever of both files it is handed first: just the pages that wait by them wait in the spool
+/// that was opened, and are told. So the files are found in the order in which they were used.
+pub fn openings_find_what_crashes_leave<D: Disk>()
+    ensures { OpeningsFindWhatCrashesLeave D.seen D.may_leave D.is_usable }
+{}
+
+/// By two files that tell no record no page waits.
+pub fn new_spools_tell_none()
+    ensures { NewSpoolsTellNone }
+{}
+
+/// However many openings stopped before one is through, the files tell the pages that waited, and which of them is the older one.
+pub fn stopped_openings_leave_what_waits()
+    ensures { StoppedOpeningsLeaveWhatWaits }
+{}
+
+/// An opening behind which nothing was done leaves what it found, and the record of its epoch: so it counts as one that stopped.
+pub fn openings_leave_their_epoch<D: Disk>()
+    ensures { OpeningsLeaveTheirEpoch D.seen D.may_leave D.is_usable }
 {}

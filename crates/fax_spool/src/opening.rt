@@ -1,12 +1,12 @@
 //! Both files of a spool, opened.
-ghost use Rattle.std.specs.Prelude.{◌≡◌, ◌++◌, ◌∷◌, ◌||◌, [], List, ℕ, not, IfOk, OnOk, IsTrue};
+ghost use Rattle.std.specs.Prelude.{◌≡◌, ◌<◌, ◌++◌, ◌∷◌, ◌||◌, [], List, ℕ, not, IfOk, OnOk, IsTrue};
 ghost use Rattle.std.specs.List.{list_any};
 ghost use Rattle.sqlite_disk.specs.Disk.{Only};
 ghost use Rattle.fax_spool.specs.Settled.{IsSettled};
 ghost use Rattle.fax_spool.specs.KeptRecords.{AreReadAs};
 ghost use Rattle.fax_spool.specs.Waits.{waiting};
 ghost use Rattle.fax_spool.specs.Calls.{Accepts};
-ghost use Rattle.fax_spool.specs.Spools.{AreClean, Keeps, epoch_now, files_of};
+ghost use Rattle.fax_spool.specs.Spools.{AreClean, Keeps, epoch_now, files_of, greatest_epoch};
 ghost use Rattle.fax_spool.specs.Opened.{IsOpened, closed, damaged, is_damaged, same_call};
 
 use crate::waiting::follow_all;
@@ -76,6 +76,8 @@ fn begin<D: Disk + Drop>(
         → IsSettled D.seen D.may_leave D.is_usable newer.disk newer.end newer_items → AreReadAs newer_items news.now
         → Keeps D.seen D.may_leave D.is_usable opened.spool olds.now (news.now ++ KeptRecord.Epoch (epoch_now opened.spool) ∷ [])) }
     ensures clean { IfOk result (λ opened. AreClean D.is_clean (files_of opened.spool) → AreClean D.is_clean (older, newer)) }
+    ensures older_epochs { IfOk result (λ opened. greatest_epoch olds.now < epoch_now opened.spool) }
+    ensures newer_epochs { IfOk result (λ opened. greatest_epoch news.now < epoch_now opened.spool) }
     ensures pages { IfOk result (λ opened. opened.pages.items ≡ closed (waiting (olds.now ++ news.now))) }
     ensures older_damaged { IfOk result (λ opened. opened.older_damaged ≡ damaged olds.now) }
     ensures newer_damaged { IfOk result (λ opened. opened.newer_damaged ≡ damaged news.now) }

@@ -1,12 +1,10 @@
-use Rattle.std.proofs.Common.{◌<◌, List}
-use Rattle.fax_spool.specs.Spools.{epoch_now, epoch_of}
-use Rattle.fax_spool.specs.declared.kept_record.KeptRecord.{KeptRecord}
+use Rattle.fax_spool.specs.Spools.{epoch_now}
 use Rattle.fax_shelf.proofs.Refusing.{not_turned}
 use Rattle.fax_shelf.proofs.Waits.{wait_changed}
 use Rattle.fax_shelf.proofs.keeping.change.Goals as goal
 
 pub returns-in-Ok-clause-stays : goal.returns-in-Ok-clause-stays
-returns-in-Ok-clause-stays c = wait_changed (λ (news : List KeptRecord). epoch_of news < epoch_now c.change.new.self) c.args.spool.now c.change.new.self c.in-Ok.was (epoch_now c.change.new.self) c.in-Ok.ensures.changed
+returns-in-Ok-clause-stays c = wait_changed c.args.spool.now c.change.new.self c.in-Ok.was (epoch_now c.change.new.self) c.in-Ok.ensures.changed
 
 pub returns-in-Err-clause-told : goal.returns-in-Err-clause-told
 returns-in-Err-clause-told c = not_turned _ _ _ c.args.spool.now c.change.new.self c.in-Err.ensures.does

@@ -40,7 +40,7 @@ pub returns-then-self-clause-does : goal.returns-then-self-clause-does
 returns-then-self-clause-does g c = does_nothing _ _ _ c.args.self.now c.args.self.now Turns
 
 pub returns-then-self-ne0-clause-does : goal.returns-then-self-ne0-clause-does
-returns-then-self-ne0-clause-does g c = does_turn _ _ _ c.args.self.now c.args.self.now c.if-self.false (λ olds news k. (olds, news, k, refl))
+returns-then-self-ne0-clause-does g c = does_turn _ _ _ c.args.self.now c.args.self.now c.if-self.false (λ olds news k order. (olds, news, k, order, refl))
 
 pub returns-then-self-2-clause-does : goal.returns-then-self-2-clause-does
 returns-then-self-2-clause-does g c = does_nothing _ _ _ c.args.self.now c.args.self.now Turns
@@ -54,10 +54,10 @@ returns-in_err-append-clause-does g c =
     let empty : c.args.self.now.older.end ≡ 0 = grind (arith, c.if-self-ne0.false) in
     does_err _ _ _ c.args.self.now new _ c.from_residual-in_err-append.result Turns c.from_residual-in_err-append.ensures.1
     (may_have_turned _ _ _ c.args.self.now new c.if-self.false
-    (λ olds news k older newer left. told_changed _ _ olds news _ (none_told _ _ _ c.args.self.now new olds news k empty) (returns-in_err-append-clause-crash g c olds news k older newer left)) c.in_err-append.ensures.failed)
+    (λ olds news k order older newer left. told_changed _ _ olds news _ (none_told _ _ _ c.args.self.now new olds news k empty) (returns-in_err-append-clause-crash g c olds news k older newer left) (omega (arith, k.epoch))) c.in_err-append.ensures.failed)
 
 pub returns-clause-does : goal.returns-clause-does
 returns-clause-does g c =
     let new = record c.args.self.now { older = c.swap.new.x; newer = c.append.new.file; older_pages = c.swap-2.new.x; newer_pages = c.swap-2.new.y; epoch = c.args.self.now.epoch + 1; refuses = c.append.new.refuses } in
     does_turn _ _ _ c.args.self.now new c.if-self.false
-    (λ olds news k. let is = returns-clause-changed g c olds news k in (news, Epoch (c.args.self.now.epoch + 1) ∷ [], is.2, more_epoch olds news (c.args.self.now.epoch + 1) is.0))
+    (λ olds news k order. let is = returns-clause-changed g c olds news k in (news, Epoch (c.args.self.now.epoch + 1) ∷ [], is.2, inr is.1, more_epoch olds news (c.args.self.now.epoch + 1) is.0))

@@ -1,4 +1,4 @@
-use Rattle.std.proofs.Common.{◌≡◌, [], true, false, refl, arith}
+use Rattle.std.proofs.Common.{◌≡◌, [], true, false, refl, inl, arith}
 use Rattle.fax_spool.proofs.Loops.{none_more}
 use Rattle.fax_spool.specs.Calls.{Turns}
 use Rattle.fax_spool.proofs.Doing.{does_err, does_nothing, does_turn, may_have_turned, none_gone, told_cleared}
@@ -27,7 +27,7 @@ pub returns-then-self-clause-does : goal.returns-then-self-clause-does
 returns-then-self-clause-does g c = does_nothing _ _ _ c.args.self.now c.args.self.now Turns
 
 pub returns-then-not-is_empty-clause-does : goal.returns-then-not-is_empty-clause-does
-returns-then-not-is_empty-clause-does g c = does_turn _ _ _ c.args.self.now c.args.self.now c.if-self.false (λ olds news k. (olds, news, k, refl))
+returns-then-not-is_empty-clause-does g c = does_turn _ _ _ c.args.self.now c.args.self.now c.if-self.false (λ olds news k order. (olds, news, k, order, refl))
 
 pub returns-then-not-may_be_used-clause-does : goal.returns-then-not-may_be_used-clause-does
 returns-then-not-may_be_used-clause-does g c = does_nothing _ _ _ c.args.self.now c.args.self.now Turns
@@ -35,8 +35,8 @@ returns-then-not-may_be_used-clause-does g c = does_nothing _ _ _ c.args.self.no
 pub returns-in_err-clear-clause-does : goal.returns-in_err-clear-clause-does
 returns-in_err-clear-clause-does g c = does_err _ _ _ c.args.self.now _ _ c.from_residual.result Turns c.from_residual.ensures.1
     (may_have_turned _ _ _ c.args.self.now (record c.args.self.now { older = c.clear.new.self; refuses = true }) c.if-self.false
-    (λ olds news k older newer left. told_cleared _ _ olds news (returns-in_err-clear-clause-crash g c olds news k older newer left)) refl)
+    (λ olds news k order older newer left. told_cleared _ _ olds news (returns-in_err-clear-clause-crash g c olds news k older newer left) order) refl)
 
 pub returns-clause-does : goal.returns-clause-does
 returns-clause-does g c = does_turn _ _ _ c.args.self.now (record c.args.self.now { older = c.clear.new.self; refuses = false }) c.if-self.false
-    (λ olds news k. let is = returns-clause-cleared g c olds news k in ([], news, is.1, none_gone olds news is.0))
+    (λ olds news k order. let is = returns-clause-cleared g c olds news k in ([], news, is.1, inl refl, none_gone olds news is.0))
