@@ -9,7 +9,7 @@ pub returns-clause-played : goal.returns-clause-played
 returns-clause-played g c = λ setup writes rounds before writing at few unreported goes p.
     let job = c.args.job.now in
     let calling = c.in_ok-round.ensures.turned setup writes (caller_behind setup writes job rounds) writing (caller_behind-job setup writes job rounds) p.caller in
-    let (turn, is_turn, happens, made, told, goes) = c.turn-turned.ensures.turned setup writes (trace_behind rounds) (log_behind rounds) writing p.gateway p.driver in
+    let (turn, is_turn, happens, made, told, wire) = c.turn-turned.ensures.turned setup writes (trace_behind rounds) (log_behind rounds) writing p.gateway p.driver in
     let called = c.in_ok-round-2.ensures setup (answerer_behind setup rounds) p.answerer in
     let (round, same, played) = round_more setup writes job rounds c.args.now before _ _ _ _ turn at few unreported goes p calling is_turn happens made called in (
       round,
