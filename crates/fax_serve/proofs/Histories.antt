@@ -13,7 +13,9 @@ use Rattle.fax_shelf.specs.Jobs.{PagesWait}
 use Rattle.fax_shelf.specs.Restorations.{Restores}
 use Rattle.fax_shelf.specs.Shelves.{ShelfValue}
 use Rattle.fax_shelf.specs.Histories.{RunsMakeHistory}
+use Rattle.fax_shelf.specs.NextRuns.{RunsGoOn, WasRun, WereRun}
 use Rattle.fax_serve.specs.Histories.{ServersMakeHistory}
+use Rattle.fax_serve.specs.NextRuns.{FollowOn, ServedLine, ServersRunOn, run_of}
 use Rattle.fax_serve.specs.KeptRuns.{AreRestored}
 use Rattle.fax_serve.specs.Openings.{IsRestored}
 
@@ -90,6 +92,17 @@ differ zero (suc b) unlike = inl (omega arith)
 differ (suc a) zero unlike = inr (omega arith)
 differ (suc a) (suc b) unlike = elim (differ a b (λ same. unlike (ap suc same))) [ inl less ↦ inl (omega (arith, less)) | inr less ↦ inr (omega (arith, less)) ]
 
+same_place : (a b : PlaceValue) → Some a ≡ Some b → a ≡ b
+same_place a b same = cc
+
+-- no other line has its name
+apart : (configs : List LineConfig) → AreUnlike (names_of_lines configs) → (number other : ℕ) (line : List ℕ) (shelf : ShelfValue) → other < length configs → get_or (names_of_lines configs) other [] ≡ shelf.line → number < length configs → get_or (names_of_lines configs) number [] ≡ line
+    → other ≢ number → shelf.line ≡ line → ⊥
+apart configs unlike number other line shelf low its low_number name differs same_name = elim (differ other number differs) [
+  | inl less ↦ unlike other number [] less (let many : length (names_of_lines configs) ≡ length configs = length_names configs in omega (arith, many, low_number)) (its ∙ same_name ∙ sym name)
+  | inr less ↦ unlike number other [] less (let many : length (names_of_lines configs) ≡ length configs = length_names configs in omega (arith, many, low)) (name ∙ sym same_name ∙ sym its)
+]
+
 module _ {D K : Type 0} (seen : D → List ℕ) (may_leave : D → List ℕ → Type 0) (is_usable : D → Bool) (shelves_of : K → List ShelfValue) (spool_of : K → Spool D) where
   pub servers_make_history : RunsMakeHistory seen may_leave is_usable shelves_of spool_of → ServersMakeHistory seen may_leave is_usable shelves_of spool_of
   servers_make_history runs configs served number config place pages writes lives puts setup unlike at there opened writing set past =
@@ -105,20 +118,44 @@ module _ {D K : Type 0} (seen : D → List ℕ) (may_leave : D → List ℕ → 
         place = mine.place;
         there = mine.there;
         begins = mine.is.begins;
+        fresh = mine.is.fresh;
         set = subst (λ (p : PlaceValue). AreSetWith setup p.line.gateway.settings (map call_shown mine.is.restored.calls.items)) same (set mine.is.restored restores);
         shelved = mine.shelved ∙ ap (λ (s : ShelfValue). Some s) (sym mine.is.shelf_is);
         as_many = as_many served.opened.pages.items configs served.begun (shelves_of served.keeper) served.restored;
         alone = λ other shelf is differs same_name.
             let its_name = named_at served.opened.pages.items configs served.begun (shelves_of served.keeper) other shelf served.restored is in
-            apart other (string_bytes config.name) shelf its_name.0 (its_name.1 []) name.0 (name.1 []) differs same_name;
+            apart configs unlike number other (string_bytes config.name) shelf its_name.0 (its_name.1 []) name.0 (name.1 []) differs same_name;
       }) served.run.ran
-    where
-      same_place : (a b : PlaceValue) → Some a ≡ Some b → a ≡ b
-      same_place a b same = cc
 
-      apart : (other : ℕ) (line : List ℕ) (shelf : ShelfValue) → other < length configs → get_or (names_of_lines configs) other [] ≡ shelf.line → number < length configs → get_or (names_of_lines configs) number [] ≡ line
-          → other ≢ number → shelf.line ≡ line → ⊥
-      apart other line shelf low its low_number name differs same_name = elim (differ other number differs) [
-        | inl less ↦ unlike other number [] less (let many : length (names_of_lines configs) ≡ length configs = length_names configs in omega (arith, many, low_number)) (its ∙ same_name ∙ sym name)
-        | inr less ↦ unlike number other [] less (let many : length (names_of_lines configs) ≡ length configs = length_names configs in omega (arith, many, low)) (name ∙ sym same_name ∙ sym its)
-      ]
+  -- what a run of the server was to a line
+  was_run : (line : List ℕ) (ran : ServedLine seen may_leave is_usable shelves_of spool_of line) → WasRun seen may_leave is_usable shelves_of spool_of line (run_of ran)
+  was_run line ran =
+      let pages : List spool.PageValue = ran.served.opened.pages.items in
+      let mine : Its pages ran.config ran.number ran.served.begun (shelves_of ran.served.keeper) = its pages ran.configs ran.served.begun (shelves_of ran.served.keeper) ran.number ran.config ran.served.restored ran.at in
+      let restores : Restores line pages mine.is.restored = subst (λ (l : List ℕ). Restores l pages mine.is.restored) ran.named mine.is.restores in
+      let same : ran.place ≡ mine.place = same_place ran.place mine.place (sym ran.there ∙ mine.there) in
+      let name = config_low ran.configs ran.number ran.config ran.at in
+      record {
+        spool_is = ran.served.spool_is;
+        restored = mine.is.restored;
+        restores = restores;
+        place = mine.place;
+        there = mine.there;
+        begins = mine.is.begins;
+        fresh = mine.is.fresh;
+        set = subst (λ (p : PlaceValue). AreSetWith ran.setup p.line.gateway.settings (map call_shown mine.is.restored.calls.items)) same (ran.set mine.is.restored restores);
+        shelved = mine.shelved ∙ ap (λ (s : ShelfValue). Some s) (sym mine.is.shelf_is);
+        as_many = as_many pages ran.configs ran.served.begun (shelves_of ran.served.keeper) ran.served.restored;
+        alone = λ other shelf is differs same_name.
+            let its_name = named_at pages ran.configs ran.served.begun (shelves_of ran.served.keeper) other shelf ran.served.restored is in
+            apart ran.configs ran.unlike ran.number other line shelf its_name.0 (its_name.1 []) name.0 (name.1 [] ∙ ran.named) differs same_name;
+        ran = ran.served.run.ran;
+      }
+
+  were_run : (line : List ℕ) (runs : List (ServedLine seen may_leave is_usable shelves_of spool_of line)) → FollowOn seen may_leave is_usable shelves_of spool_of line runs
+      → WereRun seen may_leave is_usable shelves_of spool_of line (map run_of runs)
+  were_run line [] follow = tt
+  were_run line (ran ∷ earlier) follow = (was_run line ran, follow.0, were_run line earlier follow.1)
+
+  pub servers_run_on : RunsGoOn seen may_leave is_usable shelves_of spool_of → ServersRunOn seen may_leave is_usable shelves_of spool_of
+  servers_run_on go_on writes line runs writing follow = go_on writes line (map run_of runs) writing (were_run line runs follow)

@@ -4,5 +4,6 @@ pub mod HangUps
 pub mod Histories
 pub mod KeptRuns
 pub mod Legs
+pub mod NextRuns
 pub mod Openings
 pub mod Runs

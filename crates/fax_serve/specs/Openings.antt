@@ -3,6 +3,7 @@ use Rattle.std.specs.Prelude.{◌≡◌, List, [], ◌∷◌, ◌++◌, map}
 use Rattle.std.specs.String.{string_bytes}
 use Rattle.fax_config.specs.declared.config.LineConfig.{LineConfig}
 use Rattle.fax_gateway.specs.Restored.{call_shown}
+use Rattle.fax_hold.specs.Keeping.{HasDoneWhere}
 use Rattle.fax_line.specs.Actions.{BeginsWith}
 use Rattle.fax_line.specs.Places.{PlaceValue}
 use Rattle.fax_spool.specs.RecordOctets as spool
@@ -10,11 +11,12 @@ use Rattle.fax_shelf.specs.Restorations.{Restores}
 use Rattle.fax_shelf.specs.Shelves.{ShelfValue}
 use Rattle.fax_shelf.specs.declared.restored.Restored.{Restored}
 
--- A LINE BEGINS WITH THE CALLS OF ITS OWN of these pages: of those that have its name; and so does its shelf.
+-- A LINE BEGINS WITH THE CALLS OF ITS OWN of these pages: of those that have its name; and so does its shelf. Its wire holds nothing back.
 pub record IsRestored (pages : List spool.PageValue) (config : LineConfig) (place : PlaceValue) (shelf : ShelfValue) : Type 0 where
   pub restored : Restored
   pub restores : Restores (string_bytes config.name) pages restored
   pub begins : BeginsWith (map call_shown restored.calls.items) place.line
+  pub fresh : HasDoneWhere [] place.line.holding
   pub shelf_is : restored.shelf ≡ shelf
 
 -- one more line, behind the others, and its shelf

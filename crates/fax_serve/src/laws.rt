@@ -1,12 +1,14 @@
 //! Laws of the definitions: functions that do nothing, each of whose contracts is a theorem.
 ghost use Rattle.fax_serve.specs.HangUps.{GoodbyesAreExpected};
 ghost use Rattle.fax_serve.specs.Histories.{ServersMakeHistory};
+ghost use Rattle.fax_serve.specs.NextRuns.{ServersRunOn};
 ghost use Rattle.fax_serve.specs.declared.keeper.SpoolKeeper.{SpoolKeeper as KeeperShown};
 
 use fax_gateway::laws::{confirms_the_newest, jobs_are_of_their_calls};
 use fax_keep::KeptFile;
-use fax_pagestore::laws::pages_are_written;
+use fax_pagestore::laws::{pages_are_unique, pages_are_written, written_pages_mean};
 use fax_shelf::laws::book::turns_tell_both;
+use fax_shelf::laws::histories::{first_runs_begin, next_runs_begin};
 use fax_shelf::laws::what_is_owed_is_restored;
 use sqlite_disk::Disk;
 
@@ -24,5 +26,23 @@ pub fn servers_make_history()
     confirms_the_newest();
     jobs_are_of_their_calls();
     pages_are_written();
+    written_pages_mean();
+    pages_are_unique();
     what_is_owed_is_restored();
+}
+
+/// Over any number of runs of the server and crashes, each run is one life more of the gateway of each of its lines; and the past of the
+/// line is where the next run begins, whatever the crash left, and whichever of both files its opening is handed first.
+pub fn servers_run_on()
+    ensures { ServersRunOn ⟦<KeptFile as Disk>⟧.seen ⟦<KeptFile as Disk>⟧.may_leave ⟦<KeptFile as Disk>⟧.is_usable (λ (keeper : KeeperShown). keeper.keeping.shelves.items) (λ (keeper : KeeperShown). keeper.keeping.spool) }
+{
+    turns_tell_both();
+    confirms_the_newest();
+    jobs_are_of_their_calls();
+    pages_are_written();
+    written_pages_mean();
+    pages_are_unique();
+    what_is_owed_is_restored();
+    first_runs_begin::<KeptFile>();
+    next_runs_begin::<KeptFile>();
 }

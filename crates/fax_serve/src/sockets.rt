@@ -2,6 +2,7 @@
 ghost use Rattle.std.specs.Prelude.{◌≡◌, ◌+◌, [], IfOk, OnOk, length, map};
 ghost use Rattle.fax_gateway.specs.Setups.{AreAllowed};
 ghost use Rattle.fax_gateway.specs.Restored.{call_shown};
+ghost use Rattle.fax_hold.specs.Keeping.{HasDoneWhere};
 ghost use Rattle.fax_line.specs.Actions.{BeginsWith};
 ghost use Rattle.fax_line.specs.Deeds.{AreBegun, AreNew};
 ghost use Rattle.fax_serve.specs.KeptRuns.{AreRestored};
@@ -104,7 +105,8 @@ fn open_line<N: Net>(
     config: &LineConfig,
     calls: Vec<RestoredCall<PackedRows>>,
 ) -> Result<ServedLine, ServeFault>
-    ensures { IfOk result (λ line. BeginsWith (map call_shown calls.items) line) }
+    ensures begins { IfOk result (λ line. BeginsWith (map call_shown calls.items) line) }
+    ensures fresh { IfOk result (λ line. HasDoneWhere [] line.holding) }
 {
     let wire = open_wire(net, alloc, config)?;
     let wire = RepeatingWire::new(wire, policy_of(config.repeat));

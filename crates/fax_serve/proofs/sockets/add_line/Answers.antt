@@ -1,16 +1,17 @@
-use Rattle.std.proofs.Common.{List, ℕ, map, refl, sym, subst}
+use Rattle.std.proofs.Common.{List, [], ℕ, map, refl, sym, subst}
 use Rattle.fax_gateway.specs.Restored.{RestoredCall, call_shown}
+use Rattle.fax_hold.specs.Keeping.{HasDoneWhere}
 use Rattle.fax_line.specs.Actions.{BeginsWith, LineValue}
 use Rattle.fax_shelf.specs.Restorations.{Restores}
 use Rattle.fax_shelf.proofs.Calls.{no_calls}
 use Rattle.fax_serve.proofs.sockets.add_line.Goals as goal
 
 pub returns-clause-begun : goal.returns-clause-begun
-returns-clause-begun g c are = c.add.ensures.begun (map call_shown c.in_ok-calls.field-0.calls.items) are c.in_ok-line.ensures
+returns-clause-begun g c are = c.add.ensures.begun (map call_shown c.in_ok-calls.field-0.calls.items) are c.in_ok-line.ensures.begins
 
 pub returns-clause-new : goal.returns-clause-new
 returns-clause-new g c = λ none are.
-    c.add.ensures.new are (subst (λ (calls : List RestoredCall). BeginsWith calls c.in_ok-line.line) (no_calls _ _ c.in_ok-calls.field-0 c.in_ok-calls.ensures none) c.in_ok-line.ensures)
+    c.add.ensures.new are (subst (λ (calls : List RestoredCall). BeginsWith calls c.in_ok-line.line) (no_calls _ _ c.in_ok-calls.field-0 c.in_ok-calls.ensures none) c.in_ok-line.ensures.begins)
 
 pub returns-clause-restored : goal.returns-clause-restored
 returns-clause-restored g c =
@@ -23,7 +24,8 @@ returns-clause-restored g c =
       is = record {
         restored = c.in_ok-calls.field-0;
         restores = subst (λ (name : List ℕ). Restores name c.args.pages.now c.in_ok-calls.field-0) c.as_str.ensures.value c.in_ok-calls.ensures;
-        begins = subst (λ (line : LineValue). BeginsWith (map call_shown c.in_ok-calls.field-0.calls.items) line) (sym is_added.line_is) c.in_ok-line.ensures;
+        begins = subst (λ (line : LineValue). BeginsWith (map call_shown c.in_ok-calls.field-0.calls.items) line) (sym is_added.line_is) c.in_ok-line.ensures.begins;
+        fresh = subst (λ (line : LineValue). HasDoneWhere [] line.holding) (sym is_added.line_is) c.in_ok-line.ensures.fresh;
         shelf_is = refl;
       };
     }

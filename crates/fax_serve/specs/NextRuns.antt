@@ -1,0 +1,73 @@
+-- Runs of a server, one after another, whatever crash came between them. Lists of runs have the newest first. (This project's profile.)
+use Rattle.std.specs.Prelude.{◌≡◌, ℕ, Bool, List, [], ◌∷◌, map, Some, slice_get}
+use Rattle.std.specs.String.{string_bytes}
+use Rattle.fax_config.specs.declared.config.LineConfig.{LineConfig}
+use Rattle.fax_config.specs.Configurations.{AreUnlike, names_of_lines}
+use Rattle.fax_jobs.specs.declared.report.Report.{Report}
+use Rattle.fax_call.specs.Writings.{IsWriting, Writing}
+use Rattle.fax_gateway.specs.Restored.{call_shown}
+use Rattle.fax_gateway.specs.Setups.{AreSetWith, Setup}
+use Rattle.fax_line.specs.Places.{PlaceValue}
+use Rattle.fax_line.specs.declared.settling.PageToKeep.{PageToKeep}
+use Rattle.fax_spool.specs.declared.spool.Spool.{Spool}
+use Rattle.fax_shelf.specs.Restorations.{Restores}
+use Rattle.fax_shelf.specs.Shelves.{ShelfValue}
+use Rattle.fax_shelf.specs.declared.restored.Restored.{Restored}
+use Rattle.fax_shelf.specs.NextRuns.{HasLives, IsOpenedBehind, OneRun}
+use Rattle.fax_shelf.specs.SpoolKeeping.{EndsJobIf, IsUnchanged, NotesPage, PutsPages}
+use Rattle.fax_serve.specs.KeptRuns.{ServedKept}
+
+-- a run of a server whose pages are kept on a disk, by what has these shelves and this spool
+abbrev pub ServedOnDisk : {D K : Type 0} → (D → List ℕ) → (D → List ℕ → Type 0) → (D → Bool) → (K → List ShelfValue) → (K → Spool D) → List LineConfig → Type 0
+ServedOnDisk {D} {K} seen may_leave is_usable shelves_of spool_of configs =
+    ServedKept (λ (old new : K). IsUnchanged (shelves_of old) (shelves_of new) (spool_of old) (spool_of new))
+    (λ (pages : List PageToKeep) (is_kept : Bool) (old new : K). PutsPages seen may_leave is_usable pages is_kept (shelves_of old) (shelves_of new) (spool_of old) (spool_of new))
+    (λ (line call : ℕ) (old new : K). NotesPage line call (shelves_of old) (shelves_of new) (spool_of old) (spool_of new))
+    (λ (line : ℕ) (report : Report) (old new : K). EndsJobIf seen may_leave is_usable line report (shelves_of old) (shelves_of new) (spool_of old) (spool_of new)) spool_of shelves_of configs
+
+-- A server ran, which had a line of this name and no other of it: at its place among the others, its gateway set up with the calls of
+-- its own pages.
+pub record ServedLine {D K : Type 0} (seen : D → List ℕ) (may_leave : D → List ℕ → Type 0) (is_usable : D → Bool) (shelves_of : K → List ShelfValue) (spool_of : K → Spool D) (line : List ℕ) : Type 0 where
+  pub configs : List LineConfig
+  pub served : ServedOnDisk seen may_leave is_usable shelves_of spool_of configs
+  pub unlike : AreUnlike (names_of_lines configs)
+  pub number : ℕ
+  pub config : LineConfig
+  pub at : slice_get configs number ≡ Some config
+  pub named : string_bytes config.name ≡ line
+  pub place : PlaceValue
+  pub there : slice_get served.begun number ≡ Some place
+  pub setup : Setup
+  pub set : (restored : Restored) → Restores line served.opened.pages.items restored → AreSetWith setup place.line.gateway.settings (map call_shown restored.calls.items)
+
+-- what there was of that run for the line
+abbrev pub run_of :
+    {D K : Type 0} {seen : D → List ℕ} {may_leave : D → List ℕ → Type 0} {is_usable : D → Bool} {shelves_of : K → List ShelfValue} {spool_of : K → Spool D} {line : List ℕ}
+    → ServedLine seen may_leave is_usable shelves_of spool_of line → OneRun D K
+run_of ran = record {
+  opened = ran.served.opened;
+  number = ran.number;
+  setup = ran.setup;
+  first = ran.served.run.first;
+  done = ran.served.run.done;
+  settled = ran.served.run.settled;
+  begun = ran.served.begun;
+  left = ran.served.run.left;
+  before = ran.served.keeper;
+  after = ran.served.run.after;
+}
+
+-- the spool of each run was opened over what a crash left of that of the one before it, the first over two files that told nothing
+abbrev pub FollowOn :
+    {D K : Type 0} (seen : D → List ℕ) (may_leave : D → List ℕ → Type 0) (is_usable : D → Bool) (shelves_of : K → List ShelfValue) (spool_of : K → Spool D) (line : List ℕ)
+    → List (ServedLine seen may_leave is_usable shelves_of spool_of line) → Type 0
+FollowOn seen may_leave is_usable shelves_of spool_of line [] = Unit {0}
+FollowOn seen may_leave is_usable shelves_of spool_of line (ran ∷ earlier) =
+    IsOpenedBehind seen may_leave is_usable spool_of (map run_of earlier) ran.served.opened × FollowOn seen may_leave is_usable shelves_of spool_of line earlier
+
+-- A SERVER GOES ON over any number of runs and crashes: of each line each run is one life more of its gateway, and its past is where the
+-- next run begins. From run to run there may be other lines beside it, in any order.
+abbrev pub ServersRunOn : {D K : Type 0} → (D → List ℕ) → (D → List ℕ → Type 0) → (D → Bool) → (K → List ShelfValue) → (K → Spool D) → Type 0
+ServersRunOn {D} {K} seen may_leave is_usable shelves_of spool_of =
+    (writes : Writing) (line : List ℕ) (runs : List (ServedLine seen may_leave is_usable shelves_of spool_of line)) → IsWriting writes
+    → FollowOn seen may_leave is_usable shelves_of spool_of line runs → HasLives seen may_leave is_usable spool_of writes line (map run_of runs)
