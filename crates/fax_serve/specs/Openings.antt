@@ -3,10 +3,10 @@ use Rattle.std.specs.Prelude.{◌≡◌, List, [], ◌∷◌, ◌++◌, map}
 use Rattle.std.specs.String.{string_bytes}
 use Rattle.fax_config.specs.declared.config.LineConfig.{LineConfig}
 use Rattle.fax_gateway.specs.Restored.{call_shown}
-use Rattle.fax_hold.specs.Keeping.{HasDoneWhere}
 use Rattle.fax_line.specs.Actions.{BeginsWith}
 use Rattle.fax_line.specs.Places.{PlaceValue}
 use Rattle.fax_spool.specs.RecordOctets as spool
+use Rattle.fax_shelf.specs.OnLeg.{HasDoneOn}
 use Rattle.fax_shelf.specs.Restorations.{Restores}
 use Rattle.fax_shelf.specs.Shelves.{ShelfValue}
 use Rattle.fax_shelf.specs.declared.restored.Restored.{Restored}
@@ -16,7 +16,7 @@ pub record IsRestored (pages : List spool.PageValue) (config : LineConfig) (plac
   pub restored : Restored
   pub restores : Restores (string_bytes config.name) pages restored
   pub begins : BeginsWith (map call_shown restored.calls.items) place.line
-  pub fresh : HasDoneWhere [] place.line.holding
+  pub fresh : HasDoneOn [] place.line.holding
   pub shelf_is : restored.shelf ≡ shelf
 
 -- one more line, behind the others, and its shelf

@@ -2,9 +2,9 @@
 ghost use Rattle.std.specs.Prelude.{◌≡◌, ◌+◌, [], IfOk, OnOk, length, map};
 ghost use Rattle.fax_gateway.specs.Setups.{AreAllowed};
 ghost use Rattle.fax_gateway.specs.Restored.{call_shown};
-ghost use Rattle.fax_hold.specs.Keeping.{HasDoneWhere};
 ghost use Rattle.fax_line.specs.Actions.{BeginsWith};
 ghost use Rattle.fax_line.specs.Deeds.{AreBegun, AreNew};
+ghost use Rattle.fax_shelf.specs.OnLeg.{HasDoneOn};
 ghost use Rattle.fax_serve.specs.KeptRuns.{AreRestored};
 ghost use Rattle.fax_serve.specs.Openings.{AddsRestored};
 
@@ -106,7 +106,7 @@ fn open_line<N: Net>(
     calls: Vec<RestoredCall<PackedRows>>,
 ) -> Result<ServedLine, ServeFault>
     ensures begins { IfOk result (λ line. BeginsWith (map call_shown calls.items) line) }
-    ensures fresh { IfOk result (λ line. HasDoneWhere [] line.holding) }
+    ensures fresh { IfOk result (λ line. HasDoneOn [] line.holding) }
 {
     let wire = open_wire(net, alloc, config)?;
     let wire = RepeatingWire::new(wire, policy_of(config.repeat));

@@ -18,7 +18,7 @@ use Rattle.fax_line.specs.Settling.{EndsTurn, IsOfTurn, IsPageOf, has_page, is_k
 use Rattle.fax_line.specs.declared.settling.PageToKeep.{PageToKeep}
 use Rattle.fax_line.specs.declared.settling.SlotEnd.{SlotEnd}
 use Rattle.fax_shelf.specs.Histories.{AreKeptOf, IsKeptPage}
-use Rattle.fax_shelf.specs.OnLeg.{AreOnLeg, IsTurnOnLeg, UnputPagesLetNothingOut}
+use Rattle.fax_shelf.specs.OnLeg.{AreOnLeg, HasDoneOn, IsTurnOnLeg, UnputPagesLetNothingOut}
 use Rattle.fax_spool.specs.RecordOctets as spool
 use Rattle.fax_shelf.proofs.Lives.{one_page}
 use Rattle.fax_shelf.proofs.BookTurns.{DeedOfTurn, NoPage, NoTick, OnePage}
@@ -27,19 +27,37 @@ use Rattle.fax_shelf.proofs.PastPuts.{behind_none, kept_none, kept_of_none, not_
 -- The deeds of its wire are those of this trace, and these pages were put with an Ok.
 pub record Leg (setup : Setup) (trace : List Event) (holding : Option HoldingValue) (kept : List CallPage) : Type 0 where
   pub deeds : List Deed
-  pub did : HasDoneWhere deeds holding
+  pub did : HasDoneOn deeds holding
   pub on_leg : AreOnLeg setup deeds trace kept
 
-pub leg_fresh : (setup : Setup) (holding : Option HoldingValue) → HasDoneWhere [] holding → Leg setup [] holding []
+done_on_still : (deeds : List Deed) (old new : Option HoldingValue) → StaysWhere old new → HasDoneOn deeds old → HasDoneOn deeds new
+done_on_still deeds None new stays done = absurd done
+done_on_still deeds (Some old) None stays done = absurd stays
+done_on_still deeds (Some old) (Some new) stays done = done_where_still deeds (Some old) (Some new) stays done
+
+begins_on : (deeds : List Deed) (old new : Option HoldingValue) → CeasesWhere side.Calling old new → HasDoneOn deeds old → HasDoneOn (Begins ∷ deeds) new
+begins_on deeds None new ceases done = absurd done
+begins_on deeds (Some old) None ceases done = absurd ceases
+begins_on deeds (Some old) (Some new) ceases done = begins_where deeds (Some old) (Some new) ceases done
+
+no_turn_on : (deeds : List Deed) (is_kept : Bool) (wire : Option HoldingValue) → HasDoneOn (Turn None false is_kept ∷ deeds) wire → HasDoneOn deeds wire
+no_turn_on deeds is_kept None done = absurd done
+no_turn_on deeds is_kept (Some wire) done = no_turn_where deeds is_kept (Some wire) done
+
+done_where : (deeds : List Deed) (wire : Option HoldingValue) → HasDoneOn deeds wire → HasDoneWhere deeds wire
+done_where deeds None done = tt
+done_where deeds (Some wire) done = done
+
+pub leg_fresh : (setup : Setup) (holding : Option HoldingValue) → HasDoneOn [] holding → Leg setup [] holding []
 leg_fresh setup holding fresh = record { deeds = []; did = fresh; on_leg = (refl, refl) }
 
 pub leg_still : (setup : Setup) (trace : List Event) (old new : Option HoldingValue) (kept : List CallPage) → StaysWhere old new → Leg setup trace old kept → Leg setup trace new kept
-leg_still setup trace old new kept stays was = record { deeds = was.deeds; did = done_where_still was.deeds old new stays was.did; on_leg = was.on_leg }
+leg_still setup trace old new kept stays was = record { deeds = was.deeds; did = done_on_still was.deeds old new stays was.did; on_leg = was.on_leg }
 
 pub leg_rung : (setup : Setup) (trace : List Event) (now number : ℕ) (old new : Option HoldingValue) (kept : List CallPage) → CeasesWhere side.Calling old new → Leg setup trace old kept → Leg setup (Ring now number ∷ trace) new kept
 leg_rung setup trace now number old new kept ceases was = record {
   deeds = Begins ∷ was.deeds;
-  did = begins_where was.deeds old new ceases was.did;
+  did = begins_on was.deeds old new ceases was.did;
   on_leg = (was.deeds, refl, was.on_leg);
 }
 
@@ -47,14 +65,14 @@ leg_rung setup trace now number old new kept ceases was = record {
 
 -- by what the end of a turn makes of the wire
 ended : (handed : Option (List ℕ)) (deeds : List Deed) (is_kept : Bool) (old new : LineValue) → EndsTurn is_kept old new → HoldsBehindWhere deeds handed old.holding
-    → HasDoneWhere (Turn handed (is_some old.turned.kept) is_kept ∷ deeds) new.holding
+    → HasDoneOn (Turn handed (is_some old.turned.kept) is_kept ∷ deeds) new.holding
 ended handed deeds is_kept old new ends behind =
-    subst (λ (w : Option HoldingValue). HasDoneWhere (Turn handed (is_some old.turned.kept) is_kept ∷ deeds) w) (sym ends.is)
+    subst (λ (w : Option HoldingValue). HasDoneOn (Turn handed (is_some old.turned.kept) is_kept ∷ deeds) w) (sym ends.is)
     (ends.done deeds handed (subst (λ (w : Option HoldingValue). HoldsBehindWhere deeds handed w) ends.was behind))
 
-confirming : (handed : Option (List ℕ)) (deeds : List Deed) (is_kept : Bool) (holding : Option HoldingValue) (o p : Option Kept) → o ≡ p → HasDoneWhere (Turn handed (is_some o) is_kept ∷ deeds) holding
-    → HasDoneWhere (Turn handed (is_some p) is_kept ∷ deeds) holding
-confirming handed deeds is_kept holding o p is did = subst (λ (k : Option Kept). HasDoneWhere (Turn handed (is_some k) is_kept ∷ deeds) holding) is did
+confirming : (handed : Option (List ℕ)) (deeds : List Deed) (is_kept : Bool) (holding : Option HoldingValue) (o p : Option Kept) → o ≡ p → HasDoneOn (Turn handed (is_some o) is_kept ∷ deeds) holding
+    → HasDoneOn (Turn handed (is_some p) is_kept ∷ deeds) holding
+confirming handed deeds is_kept holding o p is did = subst (λ (k : Option Kept). HasDoneOn (Turn handed (is_some k) is_kept ∷ deeds) holding) is did
 
 -- ---- the pages of the line among those that were put
 
@@ -123,8 +141,8 @@ leg_ended setup older newer handed slot number end lines other mid new kept deed
     own : LineValue
     own = (slice_index_or lines number other).line
 
-    did : HasDoneWhere (Turn handed (is_some own.turned.kept) (is_kept_in end number) ∷ was.deeds) new.holding
-    did = ended handed was.deeds (is_kept_in end number) own new ends (holds was.deeds was.did)
+    did : HasDoneOn (Turn handed (is_some own.turned.kept) (is_kept_in end number) ∷ was.deeds) new.holding
+    did = ended handed was.deeds (is_kept_in end number) own new ends (holds was.deeds (done_where was.deeds mid was.did))
 
     nothing : own.turned.kept ≡ None → AreKeptOf number (kept_if (is_ok end.answer) end.pages.items) []
     nothing none = none_kept number end.pages.items (is_ok end.answer) (none_has slot number lines other end.pages.items each none)
@@ -132,7 +150,7 @@ leg_ended setup older newer handed slot number end lines other mid new kept deed
     of_page : (page : CallPage) → ((to_keep : PageToKeep) → IsOfTurn own to_keep → IsKeptPage to_keep page)
         → ((deeds : List Deed) (before : List CallPage) → AreOnLeg setup deeds older before → AreOnLeg setup (Turn handed true true ∷ deeds) newer (before ++ page ∷ []))
         → ((deeds : List Deed) (before : List CallPage) → AreOnLeg setup deeds older before → AreOnLeg setup (Turn handed true false ∷ deeds) newer before)
-        → (has ok : Bool) → has_page end.pages.items number ≡ has → is_ok end.answer ≡ ok → HasDoneWhere (Turn handed true (has && ok) ∷ was.deeds) new.holding
+        → (has ok : Bool) → has_page end.pages.items number ≡ has → is_ok end.answer ≡ ok → HasDoneOn (Turn handed true (has && ok) ∷ was.deeds) new.holding
         → LegSo setup newer new.holding kept number (kept_if (is_ok end.answer) end.pages.items)
     of_page page means put refused true true has ok done =
         let its : Own slot number lines other end.pages.items = own_of slot number lines other end.pages.items each rising has in record {
@@ -151,8 +169,8 @@ leg_ended setup older newer handed slot number end lines other mid new kept deed
     by (NoTick none nothing_handed goes) =
         nothing_put setup newer new.holding kept number (kept_if (is_ok end.answer) end.pages.items) (nothing none) (record {
           deeds = was.deeds;
-          did = no_turn_where was.deeds (is_kept_in end number) new.holding
-              (subst (λ (h : Option (List ℕ)). HasDoneWhere (Turn h false (is_kept_in end number) ∷ was.deeds) new.holding) nothing_handed
+          did = no_turn_on was.deeds (is_kept_in end number) new.holding
+              (subst (λ (h : Option (List ℕ)). HasDoneOn (Turn h false (is_kept_in end number) ∷ was.deeds) new.holding) nothing_handed
               (confirming handed was.deeds (is_kept_in end number) new.holding own.turned.kept None none did));
           on_leg = goes was.deeds kept was.on_leg;
         })

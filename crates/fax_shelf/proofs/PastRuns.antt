@@ -15,7 +15,7 @@ use Rattle.fax_gateway.specs.Reached.{GatewayValue, IsReachedBy}
 use Rattle.fax_gateway.specs.Driving.{Accepts, DriverValue, Entry, HasMade, RefusesRing, events}
 use Rattle.fax_gateway.specs.declared.side.Side.TheVariants as side
 use Rattle.fax_hold.specs.Holding.{CeasesWhere, HoldingValue, StaysWhere}
-use Rattle.fax_hold.specs.Keeping.{HasDoneWhere, HoldsByLog, PutsIf, handed_by}
+use Rattle.fax_hold.specs.Keeping.{HoldsByLog, PutsIf, handed_by}
 use Rattle.fax_line.specs.Actions.{Action, Goes, IsRung, LineValue, Rests, Rings, TellsTurn, Turns, Wakes}
 use Rattle.fax_line.specs.Deeds.{AllStayHeld, IsFreed, RingFrees, RingsLine, SlotTells, TellsInSlot, TurnsSlot, WakesLine, Went, actions_of, slot_of}
 use Rattle.fax_line.specs.Places.{PlaceValue, StaysHeld, TellsOrRests}
@@ -37,7 +37,7 @@ use Rattle.fax_shelf.specs.Book.{Confirms, Restores as RestoresCalls, Tiding, pa
 use Rattle.fax_shelf.specs.TurnsTold.{EndsIn, IsPutAs, TellsBoth, TurnsTellBoth}
 use Rattle.fax_shelf.specs.SpoolKeeping.{EndsJobIf, IsUnchanged, NotesPage, PutsPages}
 use Rattle.fax_shelf.specs.Histories.{AreKeptOf, HasPast, RunsMakeHistory}
-use Rattle.fax_shelf.specs.OnLeg.{AreOnLeg}
+use Rattle.fax_shelf.specs.OnLeg.{AreOnLeg, HasDoneOn}
 use Rattle.fax_shelf.proofs.BookTurns.{deed_of_turn, turn_has_page}
 use Rattle.fax_shelf.proofs.PastLegs.{Leg, kept_once, leg_ended, leg_fresh, leg_rung, leg_still}
 use Rattle.fax_shelf.proofs.Lives.{restarts_are_deeds}
@@ -740,7 +740,7 @@ module _ {D K : Type 0} (seen : D → List ℕ) (may_leave : D → List ℕ → 
         reached = subst (λ (p : PlaceValue). IsReachedBy setup writes [] p.line.gateway) (sym place_is) (begins.begins.gateway setup writes begins.set);
         driven = subst (λ (p : PlaceValue). HasMade [] p.line.driver) (sym place_is) begins.begins.driver;
         told = refl;
-        leg = leg_fresh setup (slice_index_or begun number begins.place).line.holding (subst (λ (p : PlaceValue). HasDoneWhere [] p.line.holding) (sym place_is) begins.fresh);
+        leg = leg_fresh setup (slice_index_or begun number begins.place).line.holding (subst (λ (p : PlaceValue). HasDoneOn [] p.line.holding) (sym place_is) begins.fresh);
       } in
       let stands = run_on seen may_leave is_usable shelves_of spool_of number line names alone low tell_both newest origins written mean setup writes before writing begins.place puts first done settled begun left k l ran
       (record { many = sym begins.as_many ∙ sym many_names; tidings = first_told; puts = []; are_put = refl; on_leg = []; are_on_leg = refl; reaches = reaches; held = held }) in

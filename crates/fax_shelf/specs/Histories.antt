@@ -12,7 +12,6 @@ use Rattle.fax_gateway.specs.Events.{Event}
 use Rattle.fax_gateway.specs.Reached.{IsReachedBy}
 use Rattle.fax_gateway.specs.Lives.{Life}
 use Rattle.fax_hold.specs.Keeping as hold
-use Rattle.fax_hold.specs.Keeping.{HasDoneWhere}
 use Rattle.fax_line.specs.Actions.{BeginsWith}
 use Rattle.fax_line.specs.Places.{PlaceValue}
 use Rattle.fax_line.specs.Runs.{Done}
@@ -32,7 +31,7 @@ use Rattle.fax_shelf.specs.Lives.{Deed, State, WasDone}
 use Rattle.fax_shelf.specs.Refusals.{WaitSo}
 use Rattle.fax_shelf.specs.SpoolKeeping.{EndsJobIf, IsUnchanged, NotesPage, PutsPages}
 use Rattle.fax_shelf.specs.Book.{AreOfLives, pages_put}
-use Rattle.fax_shelf.specs.OnLeg.{AreOnLeg}
+use Rattle.fax_shelf.specs.OnLeg.{AreOnLeg, HasDoneOn}
 
 -- THE PAST OF A LINE, where these pages wait on the disk: deeds that were done, which are those of these lives of its gateway, and by
 -- which so many pages were put with an `Ok`.
@@ -74,7 +73,7 @@ pub record BeginsRun {D : Type 0} (seen : D → List ℕ) (may_leave : D → Lis
   pub place : PlaceValue
   pub there : slice_get lines number ≡ Some place
   pub begins : BeginsWith (map call_shown restored.calls.items) place.line
-  pub fresh : HasDoneWhere [] place.line.holding
+  pub fresh : HasDoneOn [] place.line.holding
   pub set : AreSetWith setup place.line.gateway.settings (map call_shown restored.calls.items)
   pub shelved : slice_get shelves number ≡ Some restored.shelf
   pub as_many : length shelves ≡ length lines
@@ -92,7 +91,7 @@ pub record LeavesRun {D : Type 0} (seen : D → List ℕ) (may_leave : D → Lis
   pub kept : List CallPage
   pub are_kept : AreKeptOf number (kept_pages settled) kept
   pub leg : List hold.Deed
-  pub did : HasDoneWhere leg place.line.holding
+  pub did : HasDoneOn leg place.line.holding
   pub on_leg : AreOnLeg setup leg trace kept
   pub past : WaitSo seen may_leave is_usable spool (HasPast writes line (record { setup = setup; trace = trace } ∷ lives) (puts ++ kept))
 

@@ -7,7 +7,6 @@ use Rattle.fax_gateway.specs.Setups.{AreSetWith, Setup}
 use Rattle.fax_gateway.specs.Reached.{IsReachedBy}
 use Rattle.fax_gateway.specs.Lives.{Life}
 use Rattle.fax_hold.specs.Keeping as hold
-use Rattle.fax_hold.specs.Keeping.{HasDoneWhere}
 use Rattle.fax_line.specs.Actions.{BeginsWith}
 use Rattle.fax_line.specs.Places.{PlaceValue}
 use Rattle.fax_line.specs.Runs.{Done}
@@ -22,7 +21,7 @@ use Rattle.fax_spool.specs.declared.spool.Spool.{Spool}
 use Rattle.fax_shelf.specs.Shelves.{ShelfValue}
 use Rattle.fax_shelf.specs.Restorations.{Restores}
 use Rattle.fax_shelf.specs.declared.restored.Restored.{Restored}
-use Rattle.fax_shelf.specs.OnLeg.{AreOnLeg}
+use Rattle.fax_shelf.specs.OnLeg.{AreOnLeg, HasDoneOn}
 use Rattle.fax_shelf.specs.Histories.{AreKeptOf, HasPast, LeavesRun, RanOnDisk, WasOpened}
 
 -- where the next run of a line begins: its past, and the pages that wait and are told
@@ -95,7 +94,7 @@ pub record WasRun {D K : Type 0} (seen : D → List ℕ) (may_leave : D → List
   pub place : PlaceValue
   pub there : slice_get run.begun run.number ≡ Some place
   pub begins : BeginsWith (map call_shown restored.calls.items) place.line
-  pub fresh : HasDoneWhere [] place.line.holding
+  pub fresh : HasDoneOn [] place.line.holding
   pub set : AreSetWith run.setup place.line.gateway.settings (map call_shown restored.calls.items)
   pub shelved : slice_get (shelves_of run.before) run.number ≡ Some restored.shelf
   pub as_many : length (shelves_of run.before) ≡ length run.begun
@@ -123,7 +122,7 @@ pub record IsLifeOf {D K : Type 0} (writes : Writing) (run : OneRun D K) (life :
   pub reached : IsReachedBy life.setup writes life.trace place.line.gateway
   pub are_kept : AreKeptOf run.number (kept_pages run.settled) kept
   pub leg : List hold.Deed
-  pub did : HasDoneWhere leg place.line.holding
+  pub did : HasDoneOn leg place.line.holding
   pub on_leg : AreOnLeg life.setup leg life.trace kept
 
 -- each run is one life, and these are the pages that all of them put with an `Ok`, in their order

@@ -7,7 +7,13 @@ use Rattle.fax_gateway.specs.Setups.{Setup}
 use Rattle.fax_gateway.specs.Events.{Event, Given, Ring, FromCalling, FromCalled, Tick, clock}
 use Rattle.fax_gateway.specs.CallingLegs.{CallingLeg, calling_leg}
 use Rattle.fax_gateway.specs.Cuts.{confirmed_at}
-use Rattle.fax_hold.specs.Keeping.{Deed, Turn, Begins, went_out}
+use Rattle.fax_hold.specs.Holding.{HoldingValue}
+use Rattle.fax_hold.specs.Keeping.{Deed, HasDone, Turn, Begins, went_out}
+
+-- A line's wire, which holds back, has done these deeds.
+abbrev pub HasDoneOn : List Deed → Option HoldingValue → Type 0
+HasDoneOn deeds None = ⊥
+HasDoneOn deeds (Some wire) = HasDone deeds wire
 
 -- What a turn handed over is what its tick gave on the calling leg, or nothing, where memory for that was refused.
 abbrev pub IsHandedOver : (gave handed : Option (List ℕ)) → Type 0
