@@ -18,8 +18,6 @@ ghost use Rattle.fax_c.specs.Calls.{ReadsRuns, ReadsPixels, WritesRuns, coding_b
 mod outcome;
 mod page;
 mod reading;
-#[cfg(test)]
-mod tests;
 mod writing;
 
 pub use outcome::{Filled, Outcome, Refusal};

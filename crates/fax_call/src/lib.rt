@@ -14,8 +14,6 @@ mod procedure;
 mod room;
 mod state;
 mod table;
-#[cfg(test)]
-mod tests;
 mod text;
 
 pub use caller::Caller;

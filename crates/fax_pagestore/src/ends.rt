@@ -5,8 +5,6 @@ ghost use Rattle.fax_pagestore.specs.Ends.{HoldsEol, BeginNoEol, CountsNot};
 
 use crate::reading::EOL_ZEROS;
 
-#[cfg(test)]
-mod tests;
 
 /// Four zeros are the low half of an octet that this divides, and the high half of one below this.
 const HALF: u8 = 16;
@@ -14,18 +12,64 @@ const HALF: u8 = 16;
 /// How many octets are looked at side by side.
 const BLOCK: usize = 16;
 
-/// From which octet on, at this one or behind it, no EOL stands in octets. It may be a later one than need
-/// be: an octet of zeros counts as an EOL, and so do two half octets of zeros side by side in two octets,
-/// since each EOL has one of them, wherever its 11 zeros begin (ITU-T T.4, 4.1.2).
+/// How many octets stand behind a separator before they are looked at though no EOL stands in them.
+const LONG: usize = 4096;
+
+/// From which octet on, at this one or behind it, no EOL stands in octets: behind all of them where these are many, and as
+/// many again as when they were last looked at, so that a line is refused that can be none any more.
 pub(crate) fn behind_eols(octets: &[u8], from: usize) -> usize
     requires { from ≤ length octets.now }
     ensures within { (from ≤ result) × (result ≤ length octets.now) }
     ensures none { HoldsEol (drop (8 * result) (bits_of octets.now)) → ⊥ }
 {
     let len = octets.len();
-    if from == len || octets[len - 1] == 0 {
+    if len >= LONG && len.leading_zeros() < from.leading_zeros() {
         return len;
     }
+    behind_last(octets, from)
+}
+
+/// From which octet on, at this one or behind it, no EOL stands in octets. It may be a later one than need be where one
+/// stands there: an octet of zeros counts as an EOL, and so do two half octets of zeros side by side in two octets, since each
+/// EOL has one of them, wherever its 11 zeros begin (ITU-T T.4, 4.1.2). Zeros at the end are none, to which the 1 is missing.
+fn behind_last(octets: &[u8], from: usize) -> usize
+    requires { from ≤ length octets.now }
+    ensures within { (from ≤ result) × (result ≤ length octets.now) }
+    ensures none { HoldsEol (drop (8 * result) (bits_of octets.now)) → ⊥ }
+{
+    let end = before_zeros(octets, from);
+    if end == from {
+        return from;
+    }
+    let place = behind_counted(&octets[..end], from);
+    if place > from && place_of_eol(&octets[from..end]) == end - from {
+        return from;
+    }
+    place
+}
+
+/// From which octet on, at this one or behind it, all octets are 0.
+fn before_zeros(octets: &[u8], from: usize) -> usize
+    requires { from ≤ length octets.now }
+    ensures within { (from ≤ result) × (result ≤ length octets.now) }
+    ensures zeros { (i : ℕ) → result ≤ i → get_or octets.now i 0 ≡ 0 }
+    ensures some { from < result → 0 < get_or octets.now (result - 1) 0 }
+{
+    for place in (from..octets.len()).rev() {
+        if octets[place] != 0 {
+            return place + 1;
+        }
+    }
+    from
+}
+
+/// From which octet on, at this one or behind it, none counts as an EOL.
+fn behind_counted(octets: &[u8], from: usize) -> usize
+    requires from { from < length octets.now }
+    requires last { 0 < get_or octets.now (length octets.now - 1) 0 }
+    ensures within { (from ≤ result) × (result ≤ length octets.now) }
+    ensures none { HoldsEol (drop (8 * result) (bits_of octets.now)) → ⊥ }
+{
     for place in (from..behind_blocks(octets, from)).rev() {
         if counts(octets[place], octets[place + 1]) {
             return place + 1;

@@ -11,8 +11,6 @@ mod judging;
 mod mark;
 mod rows;
 mod settled;
-#[cfg(test)]
-mod tests;
 
 use crate::ends::behind_eols;
 use crate::front::drop_front;

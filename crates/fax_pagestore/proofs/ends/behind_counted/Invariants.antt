@@ -1,6 +1,6 @@
 use Rattle.std.proofs.Common.{◌<◌, ◌≤◌, drop, get_or, length}
 use Rattle.fax_pagestore.proofs.EndsLemmas.{NoEol}
-use Rattle.fax_pagestore.proofs.ends.behind_eols.Given as goal
+use Rattle.fax_pagestore.proofs.ends.behind_counted.Given as goal
 
 -- no EOL stands from here on
 abbrev pub invariant-loop-place : goal.invariant-loop-place
