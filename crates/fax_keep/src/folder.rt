@@ -6,11 +6,11 @@ ghost use Rattle.fax_spool.specs.Opened.{IsOpened};
 
 use crate::fault::FolderFault;
 use fax_spool::{Opened, open_spool};
-use sqlite_disk::{Disk, Files, Start, Unknown};
-use sqlite_std_file::{File, FileFrom, open};
+use sqlite_disk::{Disk, Files, Start};
+use sqlite_std_file::{FileFrom, open};
 
-/// A file of a spool.
-pub type KeptFile = File;
+/// A file of a spool, which held what `S` says.
+pub type KeptFile<S> = FileFrom<S>;
 
 /// Opens the spool of a folder, which has to be there: the files `pages` and `pages-wal`, made where they are missing, each locked
 /// for as long as the spool lives. `S` stands for what the files hold.
@@ -31,13 +31,23 @@ pub fn open_folder<S: Start>(
 
 /// A system that has spools in folders.
 pub trait Folders {
-    /// Opens the spool of a folder, as `open_folder`.
-    fn open_spool(&self, folder: &str) -> Result<Opened<KeptFile>, FolderFault>
+    /// Opens the spool of a folder, as `open_folder`. `S` stands for what its files hold.
+    fn open_spool<S: Start>(
+        &self,
+        folder: &str,
+        start: S,
+    ) -> Result<Opened<FileFrom<S>>, FolderFault>
+        ensures opened { IfOk result (λ opened. AreClean ⟦<FileFrom<S> as Disk>⟧.is_clean (files_of opened.spool)
+            → IsOpened ⟦<FileFrom<S> as Disk>⟧.seen ⟦<FileFrom<S> as Disk>⟧.may_leave ⟦<FileFrom<S> as Disk>⟧.is_usable S.db S.log opened) }
         ensures accepts { IfOk result (λ opened. Accepts opened.spool) };
 }
 
 impl Folders for HostRuntime {
-    fn open_spool(&self, folder: &str) -> Result<Opened<KeptFile>, FolderFault> {
-        open_folder(self, folder, Unknown)
+    fn open_spool<S: Start>(
+        &self,
+        folder: &str,
+        start: S,
+    ) -> Result<Opened<FileFrom<S>>, FolderFault> {
+        open_folder(self, folder, start)
     }
 }

@@ -6,6 +6,7 @@ use fax_command::Status;
 use fax_config::{Config, ConfigFault, Misfit, read_config};
 use fax_keep::Folders;
 use fax_serve::{ServeFault, run_serve};
+use sqlite_disk::Start;
 use std::fmt::Display;
 use std::net::Net;
 use std::rt::{Clock, Files};
@@ -15,13 +16,14 @@ use std::{fs, io};
 pub(crate) fn serve_file<
     R: Print + Eprint + Input + AllocGlobal,
     N: Net + Files + Clock + AllocGlobal + Folders,
->(rt: &R, system: &N, path: &str) -> Status {
+    S: Start,
+>(rt: &R, system: &N, path: &str, start: S) -> Status {
     let text = match fs::read_to_string(system, path) {
         Ok(text) => text,
         Err(error) => return tell(rt, path, error, Status::Stream),
     };
     match read_config(rt.alloc(), text.as_str()) {
-        Ok(config) => serve_config(rt, system, path, &config),
+        Ok(config) => serve_config(rt, system, path, &config, start),
         Err(ConfigFault::Misfit(Misfit::NoMemory)) => {
             tell(rt, path, "memory was refused", Status::NoMemory)
         }
@@ -30,18 +32,23 @@ pub(crate) fn serve_file<
 }
 
 /// Serves the lines of a configuration.
-fn serve_config<R: Print + Eprint + Input + AllocGlobal, N: Net + Files + Clock + Folders>(
+fn serve_config<
+    R: Print + Eprint + Input + AllocGlobal,
+    N: Net + Files + Clock + Folders,
+    S: Start,
+>(
     rt: &R,
     system: &N,
     path: &str,
     config: &Config,
+    start: S,
 ) -> Status {
     if config.spool.is_none()
         && let Err(error) = rt.print("pages are kept in memory alone: no spool is set\n")
     {
         return tell_unprinted(rt, error);
     }
-    match run_serve(system, rt.alloc(), config, rt.reader(), io::writer(rt)) {
+    match run_serve(system, rt.alloc(), config, rt.reader(), io::writer(rt), start) {
         Ok(()) => Status::Done,
         Err(ServeFault::NoMemory) => tell(rt, path, ServeFault::NoMemory, Status::NoMemory),
         Err(ServeFault::Spool(fault)) => { tell(rt, path, ServeFault::Spool(fault), Status::Usage) }

@@ -128,7 +128,7 @@ module _ {D K : Type 0} (seen : D → List ℕ) (may_leave : D → List ℕ → 
       }) served.run.ran
 
   -- what a run of the server was to a line
-  was_run : (line : List ℕ) (ran : ServedLine seen may_leave is_usable shelves_of spool_of line) → WasRun seen may_leave is_usable shelves_of spool_of line (run_of ran)
+  pub was_run : (line : List ℕ) (ran : ServedLine seen may_leave is_usable shelves_of spool_of line) → WasRun seen may_leave is_usable shelves_of spool_of line (run_of ran)
   was_run line ran =
       let pages : List spool.PageValue = ran.served.opened.pages.items in
       let mine : Its pages ran.config ran.number ran.served.begun (shelves_of ran.served.keeper) = its pages ran.configs ran.served.begun (shelves_of ran.served.keeper) ran.number ran.config ran.served.restored ran.at in

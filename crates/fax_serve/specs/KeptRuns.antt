@@ -9,6 +9,8 @@ use Rattle.fax_line.specs.declared.settling.PageToKeep.{PageToKeep}
 use Rattle.fax_line.specs.declared.settling.SlotEnd.{SlotEnd}
 use Rattle.fax_spool.specs.RecordOctets as spool
 use Rattle.fax_spool.specs.declared.opening.Opened.{Opened}
+use Rattle.fax_spool.specs.Opened.{IsOpened}
+use Rattle.fax_spool.specs.Spools.{AreClean, files_of}
 use Rattle.fax_spool.specs.declared.spool.Spool.{Spool}
 use Rattle.fax_shelf.specs.Shelves.{ShelfValue}
 use Rattle.fax_serve.specs.Openings.{IsRestored}
@@ -39,3 +41,9 @@ pub record ServedKept {D K : Type 0} (same : K → K → Type 0) (puts : List Pa
   pub spool_is : spool_of keeper ≡ opened.spool
   pub restored : AreRestored opened.pages.items configs begun (shelves_of keeper)
   pub run : RanKept same puts notes ends begun keeper
+
+-- A SERVER RAN OVER THESE FILES: it ran, and the spool that it opened was opened over two files that held this, where no wrong answer of
+-- either was taken as true.
+pub record ServedOver {D K : Type 0} (seen : D → List ℕ) (may_leave : D → List ℕ → Type 0) (is_usable is_clean : D → Bool) (same : K → K → Type 0) (puts : List PageToKeep → Bool → K → K → Type 0) (notes : ℕ → ℕ → K → K → Type 0) (ends : ℕ → Report → K → K → Type 0) (spool_of : K → Spool D) (shelves_of : K → List ShelfValue) (one other : List ℕ) (configs : List LineConfig) : Type 0 where
+  pub served : ServedKept same puts notes ends spool_of shelves_of configs
+  pub over : AreClean is_clean (files_of served.opened.spool) → IsOpened seen may_leave is_usable one other served.opened

@@ -7,3 +7,4 @@ pub mod Legs
 pub mod NextRuns
 pub mod Openings
 pub mod Runs
+pub mod Crossings

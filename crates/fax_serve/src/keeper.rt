@@ -4,18 +4,17 @@ ghost use Rattle.fax_shelf.specs.SpoolKeeping.{IsUnchanged};
 
 use fax_hold::{KeepFault, Keeper};
 use fax_jobs::Report;
-use fax_keep::KeptFile;
 use fax_line::{PageToKeep, RunKeeper};
 use fax_shelf::Keeping;
 use sqlite_disk::Disk;
 
 /// A spool, and what is known of the pages in it, as a run sees them.
 #[derive(Drop)]
-pub struct SpoolKeeper {
-    pub keeping: Keeping,
+pub struct SpoolKeeper<D: Disk> {
+    pub keeping: Keeping<D>,
 }
 
-impl SpoolKeeper {
+impl<D: Disk> SpoolKeeper<D> {
     /// The pages of another turn of a slot are put next.
     pub fn begin_slot(&mut self)
         ensures { IsUnchanged self.old.keeping.shelves.items self.new.keeping.shelves.items self.old.keeping.spool self.new.keeping.spool }
@@ -32,27 +31,27 @@ impl SpoolKeeper {
 }
 
 /// What it keeps are records of its spool.
-impl Keeper<PageToKeep> for SpoolKeeper {
+impl<D: Disk> Keeper<PageToKeep> for SpoolKeeper<D> {
     ghost use Rattle.fax_shelf.specs.Keeping.{KeepsPages};
     ghost use Rattle.fax_shelf.specs.SpoolKeeping.{PutsPages};
 
-    ghost keeps = { λ keeper pages. KeepsPages ⟦<KeptFile as Disk>⟧.seen ⟦<KeptFile as Disk>⟧.may_leave ⟦<KeptFile as Disk>⟧.is_usable keeper.keeping.spool pages };
+    ghost keeps = { λ keeper pages. KeepsPages D.seen D.may_leave D.is_usable keeper.keeping.spool pages };
 
-    ghost puts = { λ pages is_kept old new. PutsPages ⟦<KeptFile as Disk>⟧.seen ⟦<KeptFile as Disk>⟧.may_leave ⟦<KeptFile as Disk>⟧.is_usable pages is_kept old.keeping.shelves.items new.keeping.shelves.items old.keeping.spool new.keeping.spool };
+    ghost puts = { λ pages is_kept old new. PutsPages D.seen D.may_leave D.is_usable pages is_kept old.keeping.shelves.items new.keeping.shelves.items old.keeping.spool new.keeping.spool };
 
     fn keep_all(&mut self, pages: &[PageToKeep]) -> Result<(), KeepFault> {
         self.keeping.keep_all(pages)
     }
 }
 
-impl RunKeeper for SpoolKeeper {
+impl<D: Disk> RunKeeper for SpoolKeeper<D> {
     ghost use Rattle.fax_shelf.specs.SpoolKeeping.{EndsJobIf, IsUnchanged, NotesPage};
 
     ghost is_same = { λ old new. IsUnchanged old.keeping.shelves.items new.keeping.shelves.items old.keeping.spool new.keeping.spool };
 
     ghost notes = { λ line call old new. NotesPage line call old.keeping.shelves.items new.keeping.shelves.items old.keeping.spool new.keeping.spool };
 
-    ghost ends = { λ line report old new. EndsJobIf ⟦<KeptFile as Disk>⟧.seen ⟦<KeptFile as Disk>⟧.may_leave ⟦<KeptFile as Disk>⟧.is_usable line report old.keeping.shelves.items new.keeping.shelves.items old.keeping.spool new.keeping.spool };
+    ghost ends = { λ line report old new. EndsJobIf D.seen D.may_leave D.is_usable line report old.keeping.shelves.items new.keeping.shelves.items old.keeping.spool new.keeping.spool };
 
     fn note(&mut self, line: usize, call: u32) {
         self.keeping.note(line, call);

@@ -26,6 +26,7 @@ use fax_line::{Order, Pace, SLOTS, SlotEnd};
 use fax_repeat::RepeatingWire;
 use fax_shelf::Shelf;
 use fax_spool::WaitingPage;
+use sqlite_disk::Disk;
 use std::alloc::Global;
 use std::io::{Read, Write};
 use std::net::SocketAddr;
@@ -170,7 +171,7 @@ impl<'a, C: Clock, I: Read + Drop, O: Write + Drop> RealPace<'a, C, I, O> {
     }
 
     /// Tells what the turn that was ordered came to, of each line that was not left at rest in it.
-    fn tell_turned(&mut self, lines: &ServedLines, keeper: Option<&SpoolKeeper>) {
+    fn tell_turned<D: Disk>(&mut self, lines: &ServedLines, keeper: Option<&SpoolKeeper<D>>) {
         let Some(slot) = self.turned.take() else {
             return;
         };
@@ -187,13 +188,13 @@ impl<'a, C: Clock, I: Read + Drop, O: Write + Drop> RealPace<'a, C, I, O> {
 
     /// Tells what the turn of a line came to, where it had one. Where something may come over its legs still, and where they
     /// are to be asked, it is to be woken.
-    fn tell_line(
+    fn tell_line<D: Disk>(
         &mut self,
         i: usize,
         has_turned: bool,
         looks: bool,
         lines: &ServedLines,
-        keeper: Option<&SpoolKeeper>,
+        keeper: Option<&SpoolKeeper<D>>,
     ) {
         let Some(line) = lines.line(i) else {
             return;
@@ -212,7 +213,7 @@ impl<'a, C: Clock, I: Read + Drop, O: Write + Drop> RealPace<'a, C, I, O> {
     }
 
     /// Tells the job of a line that ended in its last turn, and the one whose call began.
-    fn tell_jobs(&mut self, i: usize, line: &ServedLine, keeper: Option<&SpoolKeeper>) {
+    fn tell_jobs<D: Disk>(&mut self, i: usize, line: &ServedLine, keeper: Option<&SpoolKeeper<D>>) {
         let turned = line.turned();
         if let Some(report) = turned.report {
             self.tell_job(i, report, keeper);
@@ -232,7 +233,7 @@ impl<'a, C: Clock, I: Read + Drop, O: Write + Drop> RealPace<'a, C, I, O> {
     }
 
     /// Tells a job of line i that ended.
-    fn tell_job(&mut self, i: usize, report: Report, keeper: Option<&SpoolKeeper>) {
+    fn tell_job<D: Disk>(&mut self, i: usize, report: Report, keeper: Option<&SpoolKeeper<D>>) {
         if let Some(card) = self.cards.get_mut(i) {
             card.end_job(is_restored(keeper, i));
         }
@@ -267,7 +268,7 @@ impl<'a, C: Clock, I: Read + Drop, O: Write + Drop> RealPace<'a, C, I, O> {
     }
 
     /// Waits for a word or for the next turn. It answers the line that is to ring, if one is.
-    fn wait(&mut self, lines: &ServedLines, keeper: Option<&SpoolKeeper>) -> Option<usize> {
+    fn wait<D: Disk>(&mut self, lines: &ServedLines, keeper: Option<&SpoolKeeper<D>>) -> Option<usize> {
         let left = self.schedule.left(self.now);
         let quiet = if left == 0 {
             0
@@ -354,12 +355,12 @@ impl<'a, C: Clock, I: Read + Drop, O: Write + Drop> RealPace<'a, C, I, O> {
     }
 
     /// Does what a word says. It answers the line that is to ring, if one is.
-    fn obey(
+    fn obey<D: Disk>(
         &mut self,
         asker: Asker,
         word: Word<'_>,
         lines: &ServedLines,
-        keeper: Option<&SpoolKeeper>,
+        keeper: Option<&SpoolKeeper<D>>,
     ) -> Option<usize> {
         match word {
             Word::Ring(name, tag) => return self.ring(asker, name, tag, lines),
@@ -481,7 +482,7 @@ impl<'a, C: Clock, I: Read + Drop, O: Write + Drop> RealPace<'a, C, I, O> {
     }
 
     /// The counts are told.
-    fn tell_metrics(&mut self, asker: Asker, lines: &ServedLines, keeper: Option<&SpoolKeeper>) {
+    fn tell_metrics<D: Disk>(&mut self, asker: Asker, lines: &ServedLines, keeper: Option<&SpoolKeeper<D>>) {
         let mut counters = counters_of(self.teller.counters(), lines);
         if let Some(keeper) = keeper {
             counters.pages_kept = keeper.keeping.kept();
@@ -545,7 +546,7 @@ fn kept_in(lines: &ServedLines, i: usize) -> Option<Kept> {
 }
 
 /// The tags of the calls in which lines of a slot confirmed pages in its last turn are noted. It answers whether one did.
-fn set_tags(keeper: &mut SpoolKeeper, cards: &[Card], slot: usize, lines: &ServedLines) -> bool
+fn set_tags<D: Disk>(keeper: &mut SpoolKeeper<D>, cards: &[Card], slot: usize, lines: &ServedLines) -> bool
     ensures { IsUnchanged keeper.old.keeping.shelves.items keeper.new.keeping.shelves.items keeper.old.keeping.spool keeper.new.keeping.spool }
 {
     let mut confirms = false;
@@ -561,7 +562,7 @@ fn set_tags(keeper: &mut SpoolKeeper, cards: &[Card], slot: usize, lines: &Serve
 }
 
 /// The tag of the call of line i is noted, where it has one.
-fn set_tag(keeper: &mut SpoolKeeper, i: usize, tag: Option<&str>)
+fn set_tag<D: Disk>(keeper: &mut SpoolKeeper<D>, i: usize, tag: Option<&str>)
     ensures { IsUnchanged keeper.old.keeping.shelves.items keeper.new.keeping.shelves.items keeper.old.keeping.spool keeper.new.keeping.spool }
 {
     if let Some(tag) = tag {
@@ -578,7 +579,7 @@ fn tag_of(cards: &[Card], i: usize, call: u32) -> Option<&str> {
 }
 
 /// Whether the job of line i that is first in turn was confirmed in an earlier life.
-fn is_restored(keeper: Option<&SpoolKeeper>, i: usize) -> bool {
+fn is_restored<D: Disk>(keeper: Option<&SpoolKeeper<D>>, i: usize) -> bool {
     match keeper {
         Some(keeper) => keeper.keeping.is_restored(i),
         None => false,
@@ -586,8 +587,8 @@ fn is_restored(keeper: Option<&SpoolKeeper>, i: usize) -> bool {
 }
 
 /// The tag of the job of line i that is first in turn, whose pages came in this call.
-fn job_tag<'a>(
-    keeper: Option<&'a SpoolKeeper>,
+fn job_tag<'a, D: Disk>(
+    keeper: Option<&'a SpoolKeeper<D>>,
     card: &'a Card,
     i: usize,
     call: u32,
@@ -634,15 +635,15 @@ fn ring_answer(answer: Option<Result<u32, RingFault>>) -> Answer {
 }
 
 /// What is asked and answered is not told of a clock and sockets.
-impl<'a, C: Clock, I: Read + Drop, O: Write + Drop> Pace<
+impl<'a, C: Clock, I: Read + Drop, O: Write + Drop, D: Disk> Pace<
     HoldingWire<RepeatingWire<UdpWire>>,
-    SpoolKeeper,
+    SpoolKeeper<D>,
 > for RealPace<'a, C, I, O> {
     ghost use Rattle.std.specs.Prelude.{None};
 
     ghost words = { λ _. None };
 
-    fn next(&mut self, lines: &ServedLines, keeper: Option<&SpoolKeeper>) -> Option<Order> {
+    fn next(&mut self, lines: &ServedLines, keeper: Option<&SpoolKeeper<D>>) -> Option<Order> {
         if self.has_looked {
             return Some(self.turn_or_wake(lines));
         }
@@ -667,7 +668,7 @@ impl<'a, C: Clock, I: Read + Drop, O: Write + Drop> Pace<
         Some(self.turn_or_wake(lines))
     }
 
-    fn before_put(&mut self, lines: &ServedLines, keeper: &mut SpoolKeeper) {
+    fn before_put(&mut self, lines: &ServedLines, keeper: &mut SpoolKeeper<D>) {
         let Some(slot) = self.turned else {
             return;
         };
@@ -687,7 +688,7 @@ impl<'a, C: Clock, I: Read + Drop, O: Write + Drop> Pace<
         }
     }
 
-    fn turned(&mut self, lines: &ServedLines, keeper: Option<&SpoolKeeper>) {
+    fn turned(&mut self, lines: &ServedLines, keeper: Option<&SpoolKeeper<D>>) {
         self.read_clock();
         self.tell_turned(lines, keeper);
     }

@@ -1,7 +1,7 @@
 //! A run of `faxgate serve`.
 ghost use Rattle.std.specs.Prelude.{◌≡◌, OnOk, true, false, is_some, length};
 ghost use Rattle.fax_line.specs.Deeds.{AreBegun, AreNew};
-ghost use Rattle.fax_serve.specs.KeptRuns.{RanKept, ServedKept};
+ghost use Rattle.fax_serve.specs.KeptRuns.{RanKept, ServedOver};
 ghost use Rattle.fax_serve.specs.Runs.{ServedAlone};
 
 use crate::card::Card;
@@ -15,10 +15,11 @@ use crate::watch::Watch;
 use fax_clients::Clients;
 use fax_config::{Config, LineConfig};
 use fax_hold::Keeper;
-use fax_keep::Folders;
+use fax_keep::{Folders, KeptFile};
 use fax_line::{PageToKeep, RunKeeper, serve};
 use fax_shelf::Keeping;
 use fax_spool::Opened;
+use sqlite_disk::{Disk, Start};
 use std::alloc::Global;
 use std::fs::Files;
 use std::io::{Read, Write};
@@ -30,81 +31,85 @@ const SECOND_MS: u64 = 1_000;
 
 /// Serves the lines of a configuration until it is told to stop. Words come on the control socket where the configuration
 /// has one, and else on the input, whose answers and events go to the output. An `Err` tells why nothing was served.
-pub fn run_serve<N: Net + Files + Clock + Folders, I: Read + Drop, O: Write + Drop>(
+pub fn run_serve<N: Net + Files + Clock + Folders, I: Read + Drop, O: Write + Drop, S: Start>(
     system: &N,
     alloc: Global,
     config: &Config,
     input: I,
     output: O,
+    start: S,
 ) -> Result<(), ServeFault>
     ensures alone { OnOk result (ServedAlone (length config.now.lines.items) (is_some config.now.spool)) }
-    ensures kept { OnOk result (is_some config.now.spool ≡ true → ServedKept ⟦<SpoolKeeper as RunKeeper>⟧.is_same ⟦<SpoolKeeper as Keeper<PageToKeep>>⟧.puts ⟦<SpoolKeeper as RunKeeper>⟧.notes ⟦<SpoolKeeper as RunKeeper>⟧.ends (λ keeper. keeper.keeping.spool) (λ keeper. keeper.keeping.shelves.items) config.now.lines.items) }
+    ensures kept { OnOk result (is_some config.now.spool ≡ true → ServedOver ⟦<KeptFile<S> as Disk>⟧.seen ⟦<KeptFile<S> as Disk>⟧.may_leave ⟦<KeptFile<S> as Disk>⟧.is_usable ⟦<KeptFile<S> as Disk>⟧.is_clean ⟦<SpoolKeeper<KeptFile<S>> as RunKeeper>⟧.is_same ⟦<SpoolKeeper<KeptFile<S>> as Keeper<PageToKeep>>⟧.puts ⟦<SpoolKeeper<KeptFile<S>> as RunKeeper>⟧.notes ⟦<SpoolKeeper<KeptFile<S>> as RunKeeper>⟧.ends (λ keeper. keeper.keeping.spool) (λ keeper. keeper.keeping.shelves.items) S.db S.log config.now.lines.items) }
 {
     match &config.control {
         Some(path) => {
             let path = path.as_str();
             let listener = open_control(system, path)?;
             let clients: Clients<I, O> = Clients::of_socket(alloc, listener)?;
-            let served = serve_clients(system, alloc, config, clients);
+            let served = serve_clients(system, alloc, config, clients, start);
             close_control(system, path);
             served
         }
         None => {
             let clients = Clients::standard(alloc, input, output)?;
-            serve_clients(system, alloc, config, clients)
+            serve_clients(system, alloc, config, clients, start)
         }
     }
 }
 
 /// Serves the lines of a configuration until one of these clients says `stop`.
-pub fn serve_clients<N: Net + Clock + Folders, I: Read + Drop, O: Write + Drop>(
+pub fn serve_clients<N: Net + Clock + Folders, I: Read + Drop, O: Write + Drop, S: Start>(
     system: &N,
     alloc: Global,
     config: &Config,
     clients: Clients<I, O>,
+    start: S,
 ) -> Result<(), ServeFault>
     ensures alone { OnOk result (ServedAlone (length config.now.lines.items) (is_some config.now.spool)) }
-    ensures kept { OnOk result (is_some config.now.spool ≡ true → ServedKept ⟦<SpoolKeeper as RunKeeper>⟧.is_same ⟦<SpoolKeeper as Keeper<PageToKeep>>⟧.puts ⟦<SpoolKeeper as RunKeeper>⟧.notes ⟦<SpoolKeeper as RunKeeper>⟧.ends (λ keeper. keeper.keeping.spool) (λ keeper. keeper.keeping.shelves.items) config.now.lines.items) }
+    ensures kept { OnOk result (is_some config.now.spool ≡ true → ServedOver ⟦<KeptFile<S> as Disk>⟧.seen ⟦<KeptFile<S> as Disk>⟧.may_leave ⟦<KeptFile<S> as Disk>⟧.is_usable ⟦<KeptFile<S> as Disk>⟧.is_clean ⟦<SpoolKeeper<KeptFile<S>> as RunKeeper>⟧.is_same ⟦<SpoolKeeper<KeptFile<S>> as Keeper<PageToKeep>>⟧.puts ⟦<SpoolKeeper<KeptFile<S>> as RunKeeper>⟧.notes ⟦<SpoolKeeper<KeptFile<S>> as RunKeeper>⟧.ends (λ keeper. keeper.keeping.spool) (λ keeper. keeper.keeping.shelves.items) S.db S.log config.now.lines.items) }
 {
     match &config.spool {
-        None => serve_in_memory(system, alloc, config, clients),
-        Some(folder) => serve_spooled(system, alloc, config, clients, folder.as_str()),
+        None => serve_in_memory(system, alloc, config, clients, start),
+        Some(folder) => serve_spooled(system, alloc, config, clients, folder.as_str(), start),
     }
 }
 
 /// The same where pages are kept in memory alone.
-fn serve_in_memory<N: Net + Clock, I: Read + Drop, O: Write + Drop>(
+fn serve_in_memory<N: Net + Clock, I: Read + Drop, O: Write + Drop, S: Start>(
     system: &N,
     alloc: Global,
     config: &Config,
     clients: Clients<I, O>,
+    _start: S,
 ) -> Result<(), ServeFault>
     ensures { OnOk result (ServedAlone (length config.now.lines.items) false) }
 {
     let lines = open_lines(system, alloc, config.lines.as_slice())?;
     let mut pace = pace_of(system, alloc, config, clients, &lines)?;
-    serve_new(lines, &mut pace);
+    serve_new::<N, I, O, S>(lines, &mut pace);
     pace.finish();
     Ok(())
 }
 
 /// The same where pages are kept in the spool of this folder: each line begins with those of its own that wait there.
-fn serve_spooled<N: Net + Clock + Folders, I: Read + Drop, O: Write + Drop>(
+fn serve_spooled<N: Net + Clock + Folders, I: Read + Drop, O: Write + Drop, S: Start>(
     system: &N,
     alloc: Global,
     config: &Config,
     clients: Clients<I, O>,
     folder: &str,
+    start: S,
 ) -> Result<(), ServeFault>
     ensures alone { OnOk result (ServedAlone (length config.now.lines.items) true) }
-    ensures kept { OnOk result (ServedKept ⟦<SpoolKeeper as RunKeeper>⟧.is_same ⟦<SpoolKeeper as Keeper<PageToKeep>>⟧.puts ⟦<SpoolKeeper as RunKeeper>⟧.notes ⟦<SpoolKeeper as RunKeeper>⟧.ends (λ keeper. keeper.keeping.spool) (λ keeper. keeper.keeping.shelves.items) config.now.lines.items) }
+    ensures kept { OnOk result (ServedOver ⟦<KeptFile<S> as Disk>⟧.seen ⟦<KeptFile<S> as Disk>⟧.may_leave ⟦<KeptFile<S> as Disk>⟧.is_usable ⟦<KeptFile<S> as Disk>⟧.is_clean ⟦<SpoolKeeper<KeptFile<S>> as RunKeeper>⟧.is_same ⟦<SpoolKeeper<KeptFile<S>> as Keeper<PageToKeep>>⟧.puts ⟦<SpoolKeeper<KeptFile<S>> as RunKeeper>⟧.notes ⟦<SpoolKeeper<KeptFile<S>> as RunKeeper>⟧.ends (λ keeper. keeper.keeping.spool) (λ keeper. keeper.keeping.shelves.items) S.db S.log config.now.lines.items) }
 {
     let Opened {
         spool,
         pages,
         older_damaged,
         newer_damaged,
-    } = system.open_spool(folder)?;
+    } = system.open_spool(folder, start)?;
     let mut shelves = Vec::new(alloc);
     let lines = open_restored_lines(
         system,
@@ -146,27 +151,27 @@ fn pace_of<'a, N: Net + Clock, I: Read + Drop, O: Write + Drop>(
 }
 
 /// Serves lines that are new.
-fn serve_new<C: Clock, I: Read + Drop, O: Write + Drop>(
+fn serve_new<C: Clock, I: Read + Drop, O: Write + Drop, S: Start>(
     mut lines: ServedLines,
     pace: &mut RealPace<'_, C, I, O>,
 )
     requires { AreNew lines.lines }
     ensures { ServedAlone (length lines.lines) false }
 {
-    let mut keeper: Option<SpoolKeeper> = None;
+    let mut keeper: Option<SpoolKeeper<KeptFile<S>>> = None;
     serve(&mut lines, &mut keeper, pace);
 }
 
 /// Serves lines that begin with the pages that wait.
-fn serve_restored<C: Clock, I: Read + Drop, O: Write + Drop>(
+fn serve_restored<C: Clock, I: Read + Drop, O: Write + Drop, S: Start>(
     mut lines: ServedLines,
-    keeper: SpoolKeeper,
+    keeper: SpoolKeeper<KeptFile<S>>,
     pace: &mut RealPace<'_, C, I, O>,
 )
     requires begun { AreBegun lines.lines }
     requires first { lines.slot ≡ 0 }
     ensures alone { ServedAlone (length lines.lines) true }
-    ensures kept { RanKept ⟦<SpoolKeeper as RunKeeper>⟧.is_same ⟦<SpoolKeeper as Keeper<PageToKeep>>⟧.puts ⟦<SpoolKeeper as RunKeeper>⟧.notes ⟦<SpoolKeeper as RunKeeper>⟧.ends lines.lines keeper }
+    ensures kept { RanKept ⟦<SpoolKeeper<KeptFile<S>> as RunKeeper>⟧.is_same ⟦<SpoolKeeper<KeptFile<S>> as Keeper<PageToKeep>>⟧.puts ⟦<SpoolKeeper<KeptFile<S>> as RunKeeper>⟧.notes ⟦<SpoolKeeper<KeptFile<S>> as RunKeeper>⟧.ends lines.lines keeper }
 {
     let mut keeper = Some(keeper);
     serve(&mut lines, &mut keeper, pace);

@@ -14,7 +14,6 @@ use crate::putting::{CallTag, Names, put_pages};
 use crate::shelf::{Ended, Shelf, Waiting};
 use fax_hold::{KeepFault, Keeper};
 use fax_jobs::Report;
-use fax_keep::KeptFile;
 use fax_line::PageToKeep;
 use fax_spool::laws::files_share_what_waits;
 use fax_spool::{EndedRecord, Spool};
@@ -32,9 +31,9 @@ const RECORD_OCTETS: usize = 64;
 
 /// A spool, and what is known of the pages in it.
 #[derive(Drop)]
-pub struct Keeping {
+pub struct Keeping<D: Disk> {
     alloc: Global,
-    spool: Spool<KeptFile>,
+    spool: Spool<D>,
     /// The number of this life.
     life: u32,
     /// Of each line, in the order of the configuration.
@@ -47,9 +46,9 @@ pub struct Keeping {
     kept: u64,
 }
 
-impl Keeping {
+impl<D: Disk> Keeping<D> {
     /// A life begins over this spool, in which these pages wait.
-    pub fn new(alloc: Global, spool: Spool<KeptFile>, shelves: Vec<Shelf>) -> Self
+    pub fn new(alloc: Global, spool: Spool<D>, shelves: Vec<Shelf>) -> Self
         ensures spool { result.spool ≡ spool }
         ensures life { result.life ≡ epoch_now spool }
         ensures shelves { result.shelves.items ≡ shelves.items }
@@ -212,10 +211,10 @@ impl Keeping {
     /// the disk; or it could not be, so that they are restored at the next start, and sent again, and no later end of the line is
     /// noted in this life; or the disk failed, so that it is noted or not, and the spool refuses everything from then on.
     pub fn end(&mut self, i: usize, report: Report) -> Result<(), KeepFault>
-        ensures agree { OnOk result (HaveOwnNames self.old.shelves.items → Agree ⟦<KeptFile as Disk>⟧.seen ⟦<KeptFile as Disk>⟧.may_leave ⟦<KeptFile as Disk>⟧.is_usable self.old.spool self.old.shelves.items → Agree ⟦<KeptFile as Disk>⟧.seen ⟦<KeptFile as Disk>⟧.may_leave ⟦<KeptFile as Disk>⟧.is_usable self.new.spool self.new.shelves.items) }
-        ensures ends { OnOk result (EndsJobAt ⟦<KeptFile as Disk>⟧.seen ⟦<KeptFile as Disk>⟧.may_leave ⟦<KeptFile as Disk>⟧.is_usable report.pages i self.old.shelves.items self.new.shelves.items self.old.spool self.new.spool) }
+        ensures agree { OnOk result (HaveOwnNames self.old.shelves.items → Agree D.seen D.may_leave D.is_usable self.old.spool self.old.shelves.items → Agree D.seen D.may_leave D.is_usable self.new.spool self.new.shelves.items) }
+        ensures ends { OnOk result (EndsJobAt D.seen D.may_leave D.is_usable report.pages i self.old.shelves.items self.new.shelves.items self.old.spool self.new.spool) }
         ensures sure { OnOk result ((shelf : ShelfValue) → slice_get self.old.shelves.items i ≡ Some shelf → notes_of self.old.spool shelf ≡ true) }
-        ensures deed { OnErr result (i < length self.old.shelves.items → EndsSomehowAt ⟦<KeptFile as Disk>⟧.seen ⟦<KeptFile as Disk>⟧.may_leave ⟦<KeptFile as Disk>⟧.is_usable report.pages i self.old.shelves.items self.new.shelves.items self.old.spool self.new.spool) }
+        ensures deed { OnErr result (i < length self.old.shelves.items → EndsSomehowAt D.seen D.may_leave D.is_usable report.pages i self.old.shelves.items self.new.shelves.items self.old.spool self.new.spool) }
         ensures refuses { Refuses self.old.spool → IsErr result × (self.new.spool ≡ self.old.spool) }
     {
         if i >= self.shelves.len() {
@@ -230,15 +229,15 @@ impl Keeping {
 
 /// The job of so many pages that is first in turn on a shelf ended: puts its record into a spool. It answers how many of its pages
 /// were on the disk; where none was, there is no record, and an `Err`.
-fn put_end(
+fn put_end<D: Disk>(
     alloc: Global,
-    spool: &mut Spool<KeptFile>,
+    spool: &mut Spool<D>,
     shelf: &mut Shelf,
     report: Report,
 ) -> Result<u64, KeepFault>
-    ensures ends { OnOk result (EndsJob ⟦<KeptFile as Disk>⟧.seen ⟦<KeptFile as Disk>⟧.may_leave ⟦<KeptFile as Disk>⟧.is_usable report.pages shelf.old shelf.new spool.old spool.new) }
+    ensures ends { OnOk result (EndsJob D.seen D.may_leave D.is_usable report.pages shelf.old shelf.new spool.old spool.new) }
     ensures sure { OnOk result (notes_of spool.old shelf.old ≡ true) }
-    ensures deed { OnErr result (EndsSomehow ⟦<KeptFile as Disk>⟧.seen ⟦<KeptFile as Disk>⟧.may_leave ⟦<KeptFile as Disk>⟧.is_usable report.pages shelf.old shelf.new spool.old spool.new) }
+    ensures deed { OnErr result (EndsSomehow D.seen D.may_leave D.is_usable report.pages shelf.old shelf.new spool.old spool.new) }
     ensures refuses { Refuses spool.old → IsErr result × (spool.new ≡ spool.old) }
 {
     let Some(ended) = shelf.end(report.pages) else {
@@ -261,15 +260,15 @@ fn put_end(
 }
 
 /// Puts the record of the end of these pages into a spool.
-fn put_ended(
+fn put_ended<D: Disk>(
     alloc: Global,
-    spool: &mut Spool<KeptFile>,
+    spool: &mut Spool<D>,
     line: &str,
     ended: &Ended,
     report: Report,
 ) -> Result<(), KeepFault>
     requires { length line.now < 256 }
-    ensures { PutsEnd ⟦<KeptFile as Disk>⟧.seen ⟦<KeptFile as Disk>⟧.may_leave ⟦<KeptFile as Disk>⟧.is_usable ended.now line.now (is_ok result) spool.old spool.new }
+    ensures { PutsEnd D.seen D.may_leave D.is_usable ended.now line.now (is_ok result) spool.old spool.new }
 {
     let record = EndedRecord {
         life: ended.life,
@@ -289,15 +288,15 @@ fn put_ended(
 
 /// The older file is cleared where nothing in it waits; and where so many octets were put into the newer one that they are enough,
 /// the other is taken into use. It answers how many count from then on.
-fn change_files(
+fn change_files<D: Disk>(
     alloc: Global,
-    spool: &mut Spool<KeptFile>,
+    spool: &mut Spool<D>,
     octets: usize,
 ) -> Result<usize, KeepFault>
-    ensures stays { OnOk result ((waits : List SpoolPage) → PagesWait ⟦<KeptFile as Disk>⟧.seen ⟦<KeptFile as Disk>⟧.may_leave ⟦<KeptFile as Disk>⟧.is_usable spool.old waits
-        → PagesWait ⟦<KeptFile as Disk>⟧.seen ⟦<KeptFile as Disk>⟧.may_leave ⟦<KeptFile as Disk>⟧.is_usable spool.new waits) }
-    ensures told { OnErr result ((waits : List SpoolPage) → PagesWait ⟦<KeptFile as Disk>⟧.seen ⟦<KeptFile as Disk>⟧.may_leave ⟦<KeptFile as Disk>⟧.is_usable spool.old waits
-        → WaitSo ⟦<KeptFile as Disk>⟧.seen ⟦<KeptFile as Disk>⟧.may_leave ⟦<KeptFile as Disk>⟧.is_usable spool.new (λ told. told ≡ waits)) }
+    ensures stays { OnOk result ((waits : List SpoolPage) → PagesWait D.seen D.may_leave D.is_usable spool.old waits
+        → PagesWait D.seen D.may_leave D.is_usable spool.new waits) }
+    ensures told { OnErr result ((waits : List SpoolPage) → PagesWait D.seen D.may_leave D.is_usable spool.old waits
+        → WaitSo D.seen D.may_leave D.is_usable spool.new (λ told. told ≡ waits)) }
 {
     clear_older(spool)?;
     if octets < MOST_OCTETS {
@@ -308,11 +307,11 @@ fn change_files(
 }
 
 /// The older file is cleared where nothing in it waits.
-fn clear_older(spool: &mut Spool<KeptFile>) -> Result<bool, KeepFault>
-    ensures stays { OnOk result ((waits : List SpoolPage) → PagesWait ⟦<KeptFile as Disk>⟧.seen ⟦<KeptFile as Disk>⟧.may_leave ⟦<KeptFile as Disk>⟧.is_usable spool.old waits
-        → PagesWait ⟦<KeptFile as Disk>⟧.seen ⟦<KeptFile as Disk>⟧.may_leave ⟦<KeptFile as Disk>⟧.is_usable spool.new waits) }
-    ensures told { OnErr result ((waits : List SpoolPage) → PagesWait ⟦<KeptFile as Disk>⟧.seen ⟦<KeptFile as Disk>⟧.may_leave ⟦<KeptFile as Disk>⟧.is_usable spool.old waits
-        → WaitSo ⟦<KeptFile as Disk>⟧.seen ⟦<KeptFile as Disk>⟧.may_leave ⟦<KeptFile as Disk>⟧.is_usable spool.new (λ told. told ≡ waits)) }
+fn clear_older<D: Disk>(spool: &mut Spool<D>) -> Result<bool, KeepFault>
+    ensures stays { OnOk result ((waits : List SpoolPage) → PagesWait D.seen D.may_leave D.is_usable spool.old waits
+        → PagesWait D.seen D.may_leave D.is_usable spool.new waits) }
+    ensures told { OnErr result ((waits : List SpoolPage) → PagesWait D.seen D.may_leave D.is_usable spool.old waits
+        → WaitSo D.seen D.may_leave D.is_usable spool.new (λ told. told ≡ waits)) }
 {
     files_share_what_waits();
     match spool.clear() {
@@ -322,11 +321,11 @@ fn clear_older(spool: &mut Spool<KeptFile>) -> Result<bool, KeepFault>
 }
 
 /// The other file is taken into use where it is empty.
-fn change(alloc: Global, spool: &mut Spool<KeptFile>) -> Result<bool, KeepFault>
-    ensures stays { OnOk result ((waits : List SpoolPage) → PagesWait ⟦<KeptFile as Disk>⟧.seen ⟦<KeptFile as Disk>⟧.may_leave ⟦<KeptFile as Disk>⟧.is_usable spool.old waits
-        → PagesWait ⟦<KeptFile as Disk>⟧.seen ⟦<KeptFile as Disk>⟧.may_leave ⟦<KeptFile as Disk>⟧.is_usable spool.new waits) }
-    ensures told { OnErr result ((waits : List SpoolPage) → PagesWait ⟦<KeptFile as Disk>⟧.seen ⟦<KeptFile as Disk>⟧.may_leave ⟦<KeptFile as Disk>⟧.is_usable spool.old waits
-        → WaitSo ⟦<KeptFile as Disk>⟧.seen ⟦<KeptFile as Disk>⟧.may_leave ⟦<KeptFile as Disk>⟧.is_usable spool.new (λ told. told ≡ waits)) }
+fn change<D: Disk>(alloc: Global, spool: &mut Spool<D>) -> Result<bool, KeepFault>
+    ensures stays { OnOk result ((waits : List SpoolPage) → PagesWait D.seen D.may_leave D.is_usable spool.old waits
+        → PagesWait D.seen D.may_leave D.is_usable spool.new waits) }
+    ensures told { OnErr result ((waits : List SpoolPage) → PagesWait D.seen D.may_leave D.is_usable spool.old waits
+        → WaitSo D.seen D.may_leave D.is_usable spool.new (λ told. told ≡ waits)) }
 {
     match spool.change(alloc) {
         Ok(was) => Ok(was),
@@ -335,18 +334,18 @@ fn change(alloc: Global, spool: &mut Spool<KeptFile>) -> Result<bool, KeepFault>
 }
 
 /// What it keeps are records of its spool.
-impl Keeper<PageToKeep> for Keeping {
+impl<D: Disk> Keeper<PageToKeep> for Keeping<D> {
     ghost use Rattle.fax_shelf.specs.Keeping.{KeepsPages};
 
-    ghost keeps = { λ keeping pages. KeepsPages ⟦<KeptFile as Disk>⟧.seen ⟦<KeptFile as Disk>⟧.may_leave ⟦<KeptFile as Disk>⟧.is_usable keeping.spool pages };
+    ghost keeps = { λ keeping pages. KeepsPages D.seen D.may_leave D.is_usable keeping.spool pages };
 
     fn keep_all(&mut self, pages: &[PageToKeep]) -> Result<(), KeepFault>
-        ensures kept { OnOk result ((before : List ToKeep) → KeepsPages ⟦<KeptFile as Disk>⟧.seen ⟦<KeptFile as Disk>⟧.may_leave ⟦<KeptFile as Disk>⟧.is_usable self.old.spool before
-            → KeepsPages ⟦<KeptFile as Disk>⟧.seen ⟦<KeptFile as Disk>⟧.may_leave ⟦<KeptFile as Disk>⟧.is_usable self.new.spool (before ++ pages.now)) }
-        ensures put { OnOk result (ArePut ⟦<KeptFile as Disk>⟧.seen ⟦<KeptFile as Disk>⟧.may_leave ⟦<KeptFile as Disk>⟧.is_usable pages.now self.old.shelves.items self.new.shelves.items self.old.spool self.new.spool) }
-        ensures agree { OnOk result (Agree ⟦<KeptFile as Disk>⟧.seen ⟦<KeptFile as Disk>⟧.may_leave ⟦<KeptFile as Disk>⟧.is_usable self.old.spool self.old.shelves.items → Agree ⟦<KeptFile as Disk>⟧.seen ⟦<KeptFile as Disk>⟧.may_leave ⟦<KeptFile as Disk>⟧.is_usable self.new.spool self.new.shelves.items) }
+        ensures kept { OnOk result ((before : List ToKeep) → KeepsPages D.seen D.may_leave D.is_usable self.old.spool before
+            → KeepsPages D.seen D.may_leave D.is_usable self.new.spool (before ++ pages.now)) }
+        ensures put { OnOk result (ArePut D.seen D.may_leave D.is_usable pages.now self.old.shelves.items self.new.shelves.items self.old.spool self.new.spool) }
+        ensures agree { OnOk result (Agree D.seen D.may_leave D.is_usable self.old.spool self.old.shelves.items → Agree D.seen D.may_leave D.is_usable self.new.spool self.new.shelves.items) }
         ensures names { OnErr result ((names : List PageName) → AllAreAmong self.old.shelves.items names → AllAreAmong self.new.shelves.items names) }
-        ensures refused { OnErr result (All (λ page. page.line < length self.old.shelves.items) pages.now → AreRefused ⟦<KeptFile as Disk>⟧.seen ⟦<KeptFile as Disk>⟧.may_leave ⟦<KeptFile as Disk>⟧.is_usable pages.now self.old.shelves.items self.new.shelves.items self.old.spool self.new.spool) }
+        ensures refused { OnErr result (All (λ page. page.line < length self.old.shelves.items) pages.now → AreRefused D.seen D.may_leave D.is_usable pages.now self.old.shelves.items self.new.shelves.items self.old.spool self.new.spool) }
         ensures refuses { Refuses self.old.spool → IsErr result × (self.new.spool ≡ self.old.spool) }
     {
         let numbers = self.numbers_of(pages);

@@ -7,7 +7,6 @@ ghost use Rattle.fax_shelf.specs.Shelves.{lines_of};
 
 use crate::shelf::Shelf;
 use fax_hold::KeepFault;
-use fax_keep::KeptFile;
 use fax_line::PageToKeep;
 use fax_spool::{PageRecord, Spool};
 use sqlite_disk::Disk;
@@ -34,14 +33,14 @@ pub(crate) struct Names<'a> {
 }
 
 /// Puts the records of pages into a spool, with one write and its syncs.
-pub(crate) fn put_pages(
+pub(crate) fn put_pages<D: Disk>(
     alloc: Global,
-    spool: &mut Spool<KeptFile>,
+    spool: &mut Spool<D>,
     pages: &[PageToKeep],
     names: &Names<'_>,
 ) -> Result<(), KeepFault>
-    ensures puts { OnOk result (PutsRecords ⟦<KeptFile as Disk>⟧.seen ⟦<KeptFile as Disk>⟧.may_leave ⟦<KeptFile as Disk>⟧.is_usable names.now.life (lines_of names.now.shelves.now) pages.now names.now.numbers.now spool.old spool.new) }
-    ensures failed { OnErr result ((spool.new ≡ spool.old) ⊎ MayHavePut ⟦<KeptFile as Disk>⟧.seen ⟦<KeptFile as Disk>⟧.may_leave ⟦<KeptFile as Disk>⟧.is_usable names.now.life (lines_of names.now.shelves.now) pages.now names.now.numbers.now spool.old spool.new) }
+    ensures puts { OnOk result (PutsRecords D.seen D.may_leave D.is_usable names.now.life (lines_of names.now.shelves.now) pages.now names.now.numbers.now spool.old spool.new) }
+    ensures failed { OnErr result ((spool.new ≡ spool.old) ⊎ MayHavePut D.seen D.may_leave D.is_usable names.now.life (lines_of names.now.shelves.now) pages.now names.now.numbers.now spool.old spool.new) }
     ensures refuses { Refuses spool.old → IsErr result × (spool.new ≡ spool.old) }
 {
     let records = match records_of(alloc, pages, names) {

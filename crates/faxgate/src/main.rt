@@ -5,8 +5,9 @@
 #![tactic(auto)]
 
 use fax_program::run_words;
+use sqlite_disk::Unknown;
 use std::process::ExitCode;
 
 fn main(rt: HostRuntime) -> ExitCode {
-    ExitCode::from(run_words(&rt, &rt))
+    ExitCode::from(run_words(&rt, &rt, Unknown))
 }

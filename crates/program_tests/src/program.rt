@@ -7,6 +7,7 @@ use fax_jobs::Outcome;
 use fax_keep::Folders;
 use fax_loop::Ending;
 use fax_program::{run_words, tell_loop};
+use sqlite_disk::Unknown;
 use std::alloc::Global;
 use std::io::Input;
 use std::net::Net;
@@ -531,6 +532,6 @@ fn a_page_is_a_picture(rt: HostRuntime) {
 
 /// Runs the program over a desk.
 fn run<N: Net + Files + Clock + AllocGlobal + Folders>(system: &N, desk: Desk<'_>) -> Ran {
-    let status = run_words(&desk, system);
+    let status = run_words(&desk, system, Unknown);
     desk.into_ran(status)
 }

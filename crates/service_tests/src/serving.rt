@@ -3,6 +3,7 @@ use fax_clients::Clients;
 use fax_config::read_config;
 use fax_gateway::{Side, Wire};
 use fax_serve::{LegSocket, Schedule, ServedLines, UdpWire, Watch, open_lines, serve_clients};
+use sqlite_disk::Unknown;
 use std::fs;
 use std::io::{Read, Write};
 use std::net::UdpSocket;
@@ -190,7 +191,7 @@ pub(crate) fn told(
     fs::remove_file(rt, path)?;
     client.write_all(words.as_bytes())?;
     let clients: Clients<&[u8], Vec<u8>> = Clients::of_socket(rt.alloc(), listener)?;
-    serve_clients(rt, rt.alloc(), &config, clients)?;
+    serve_clients(rt, rt.alloc(), &config, clients, Unknown)?;
     let mut told = String::new(rt.alloc());
     client.read_to_string(&mut told)?;
     Ok(told)

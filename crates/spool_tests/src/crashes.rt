@@ -45,7 +45,7 @@ fn is_right(alloc: Global, page: &WaitingPage) -> Result<bool, AllocError> {
 
 /// The page of a number is put.
 fn put(
-    spool: &mut Spool<KeptFile>,
+    spool: &mut Spool<KeptFile<Unknown>>,
     alloc: Global,
     life: u32,
     number: u32,
@@ -65,7 +65,7 @@ fn put(
 }
 
 /// The job of the page of a number ended; the files take turns.
-fn end(spool: &mut Spool<KeptFile>, alloc: Global, life: u32, number: u32) -> io::Result<()> {
+fn end(spool: &mut Spool<KeptFile<Unknown>>, alloc: Global, life: u32, number: u32) -> io::Result<()> {
     let ended = EndedRecord {
         life,
         call: 0,

@@ -7,7 +7,6 @@ ghost use Rattle.fax_shelf.specs.declared.keeping.Keeping.{Keeping as KeepingSho
 use crate::laws::book::turns_tell_both;
 use crate::laws::what_is_owed_is_restored;
 use fax_gateway::laws::{confirms_the_newest, jobs_are_of_their_calls};
-use fax_keep::KeptFile;
 use fax_pagestore::laws::{pages_are_unique, pages_are_written, written_pages_mean};
 use fax_spool::laws::{
     crashes_leave_what_waits, new_spools_tell_none, openings_find_what_crashes_leave,
@@ -18,8 +17,8 @@ use sqlite_disk::Disk;
 /// Each run of lines whose pages are kept leaves of each of them deeds that are those of the lives of its gateway, with one life more:
 /// whatever came over the wires, whatever was ordered, whichever puts failed, and wherever it stops. What a line's wire let out on the
 /// calling leg is what the ticks of that life gave, but where a page was not put with an `Ok`, and then nothing until the next call.
-pub fn runs_make_history()
-    ensures { RunsMakeHistory ⟦<KeptFile as Disk>⟧.seen ⟦<KeptFile as Disk>⟧.may_leave ⟦<KeptFile as Disk>⟧.is_usable (λ (keeping : KeepingShown). keeping.shelves.items) (λ (keeping : KeepingShown). keeping.spool) }
+pub fn runs_make_history<D: Disk>()
+    ensures { RunsMakeHistory D.seen D.may_leave D.is_usable (λ (keeping : KeepingShown D). keeping.shelves.items) (λ (keeping : KeepingShown D). keeping.spool) }
 {
     turns_tell_both();
     confirms_the_newest();
@@ -64,10 +63,10 @@ pub fn next_runs_begin<D: Disk>()
 
 /// Over any number of runs and crashes: each run is one life more of the line's gateway, the pages that all of them put are those of its
 /// past, and the next run begins there.
-pub fn runs_go_on()
-    ensures { RunsGoOn ⟦<KeptFile as Disk>⟧.seen ⟦<KeptFile as Disk>⟧.may_leave ⟦<KeptFile as Disk>⟧.is_usable (λ (keeping : KeepingShown). keeping.shelves.items) (λ (keeping : KeepingShown). keeping.spool) }
+pub fn runs_go_on<D: Disk>()
+    ensures { RunsGoOn D.seen D.may_leave D.is_usable (λ (keeping : KeepingShown D). keeping.shelves.items) (λ (keeping : KeepingShown D). keeping.spool) }
 {
-    runs_make_history();
-    first_runs_begin::<KeptFile>();
-    next_runs_begin::<KeptFile>();
+    runs_make_history::<D>();
+    first_runs_begin::<D>();
+    next_runs_begin::<D>();
 }

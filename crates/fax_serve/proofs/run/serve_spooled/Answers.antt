@@ -11,6 +11,7 @@ returns-clause-kept g c =
     let lines = c.in_ok-lines.lines.lines in
     let shelves = c.open_restored_lines.new.shelves.items in
     record {
+      served = record {
       opened = c.in_ok-spool.field-0;
       begun = lines;
       keeper = record { keeping = c.new.result };
@@ -19,4 +20,6 @@ returns-clause-kept g c =
           (subst (λ (l : List LineConfig). AreRestored pages l lines shelves) c.as_slice.ensures.value
           (subst (λ (l : List PageValue). AreRestored l c.as_slice.result.now lines shelves) c.as_slice-2.ensures.value (c.in_ok-lines.ensures.restored c.new-shelves.ensures.items)));
       run = c.serve_restored.ensures.kept;
+      };
+      over = c.in_ok-spool.ensures.opened;
     }

@@ -4,7 +4,7 @@ use Rattle.fax_shelf.proofs.Waits.{wait_changed}
 use Rattle.fax_shelf.proofs.keeping.change.Goals as goal
 
 pub returns-in-Ok-clause-stays : goal.returns-in-Ok-clause-stays
-returns-in-Ok-clause-stays c = wait_changed c.args.spool.now c.change.new.self c.in-Ok.was (epoch_now c.change.new.self) c.in-Ok.ensures.changed
+returns-in-Ok-clause-stays g c = wait_changed c.args.spool.now c.change.new.self c.in-Ok.was (epoch_now c.change.new.self) c.in-Ok.ensures.changed
 
 pub returns-in-Err-clause-told : goal.returns-in-Err-clause-told
-returns-in-Err-clause-told c = not_turned _ _ _ c.args.spool.now c.change.new.self c.in-Err.ensures.does
+returns-in-Err-clause-told g c = not_turned _ _ _ c.args.spool.now c.change.new.self c.in-Err.ensures.does

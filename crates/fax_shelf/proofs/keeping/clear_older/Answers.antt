@@ -3,7 +3,7 @@ use Rattle.fax_shelf.proofs.Waits.{wait_cleared}
 use Rattle.fax_shelf.proofs.keeping.clear_older.Goals as goal
 
 pub returns-in-Ok-clause-stays : goal.returns-in-Ok-clause-stays
-returns-in-Ok-clause-stays c = wait_cleared c.args.spool.now c.clear.new.self c.in-Ok.was c.files_share_what_waits.ensures c.in-Ok.ensures.cleared
+returns-in-Ok-clause-stays g c = wait_cleared c.args.spool.now c.clear.new.self c.in-Ok.was c.files_share_what_waits.ensures c.in-Ok.ensures.cleared
 
 pub returns-in-Err-clause-told : goal.returns-in-Err-clause-told
-returns-in-Err-clause-told c = not_turned _ _ _ c.args.spool.now c.clear.new.self c.in-Err.ensures.does
+returns-in-Err-clause-told g c = not_turned _ _ _ c.args.spool.now c.clear.new.self c.in-Err.ensures.does

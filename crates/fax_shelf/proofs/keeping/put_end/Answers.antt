@@ -4,22 +4,22 @@ use Rattle.fax_shelf.proofs.Refusing.{ends_none_there, ends_tried, ends_unknown,
 use Rattle.fax_shelf.proofs.keeping.put_end.Goals as goal
 
 pub returns-in-Ok-clause-ends : goal.returns-in-Ok-clause-ends
-returns-in-Ok-clause-ends c =
+returns-in-Ok-clause-ends g c =
     job_is_ended _ _ _ c.args.report.pages c.args.shelf.now c.end.new.self c.args.spool.now c.put_ended.new.spool c.in-Some.ended c.line-2.result.now
     (c.line-2.ensures ∙ c.in-Some.ensures.line) c.in-Some.ensures.line c.in-Some.ensures.names c.in-Some.ensures.left c.in-Ok.ensures
 
 pub returns-in-Ok-clause-sure : goal.returns-in-Ok-clause-sure
-returns-in-Ok-clause-sure c = job_is_sure _ _ _ c.args.shelf.now c.args.spool.now c.put_ended.new.spool c.in-Some.ended c.line-2.result.now c.in-Some.ensures.sure c.in-Ok.ensures
+returns-in-Ok-clause-sure g c = job_is_sure _ _ _ c.args.shelf.now c.args.spool.now c.put_ended.new.spool c.in-Some.ended c.line-2.result.now c.in-Some.ensures.sure c.in-Ok.ensures
 
 pub returns-in_default-clause-deed : goal.returns-in_default-clause-deed
-returns-in_default-clause-deed c = ends_unknown _ _ _ c.args.report.pages c.args.shelf.now c.end.new.self c.args.spool.now c.in_default.ensures.line (c.in_default.ensures.unsure refl).1
+returns-in_default-clause-deed g c = ends_unknown _ _ _ c.args.report.pages c.args.shelf.now c.end.new.self c.args.spool.now c.in_default.ensures.line (c.in_default.ensures.unsure refl).1
 
 pub returns-then-ended-eq0-clause-deed : goal.returns-then-ended-eq0-clause-deed
-returns-then-ended-eq0-clause-deed c =
+returns-then-ended-eq0-clause-deed g c =
     ends_none_there _ _ _ c.args.report.pages c.args.shelf.now c.end.new.self c.args.spool.now c.in-Some.ensures.line c.in-Some.ensures.sure (omega (arith, c.if-ended-eq0.true, c.in-Some.ensures.names.kept)) c.in-Some.ensures.left
 
 pub returns-in-Err-clause-deed : goal.returns-in-Err-clause-deed
-returns-in-Err-clause-deed c =
+returns-in-Err-clause-deed g c =
     ends_tried _ _ _ c.args.report.pages c.args.shelf.now c.doubt-in-Err.new.self c.args.spool.now c.put_ended.new.spool c.in-Some.ended c.line-2.result.now
     (c.line-2.ensures ∙ c.in-Some.ensures.line) (ap (λ (s : ShelfValue). s.line) c.doubt-in-Err.ensures ∙ c.in-Some.ensures.line) c.in-Some.ensures.sure
     (ap (λ (s : ShelfValue). s.is_whole) c.doubt-in-Err.ensures) c.in-Some.ensures.names c.in-Err.ensures

@@ -5,7 +5,7 @@ use Rattle.fax_shelf.specs.Shelves.{lines_of}
 use Rattle.fax_shelf.proofs.putting.put_pages.Goals as goal
 
 pub returns-in-Ok-put_all-clause-puts : goal.returns-in-Ok-put_all-clause-puts
-returns-in-Ok-put_all-clause-puts c =
+returns-in-Ok-put_all-clause-puts g c =
     let names = c.args.names.now in
     record {
       values = c.as_slice.result.now;
@@ -14,7 +14,7 @@ returns-in-Ok-put_all-clause-puts c =
     }
 
 pub returns-clause-failed : goal.returns-clause-failed
-returns-clause-failed c =
+returns-clause-failed g c =
     let names = c.args.names.now in
     inr (record {
       values = c.as_slice.result.now;

@@ -9,7 +9,7 @@ use Rattle.fax_shelf.proofs.keeping.Keeping.add_all.Goals as goal
 use Rattle.fax_shelf.proofs.keeping.Keeping.add_all.Goals.{in-Some, in-None}
 
 pub loop-k-preserved : goal.loop-k-preserved
-loop-k-preserved c =
+loop-k-preserved g c =
     let numbers = c.args.numbers.now in
     let is = c.loop-k.invariant in
     let page = c.index-pages-k.result in

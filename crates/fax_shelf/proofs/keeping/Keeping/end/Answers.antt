@@ -5,7 +5,7 @@ use Rattle.fax_shelf.proofs.Waits.{job_stays}
 use Rattle.fax_shelf.proofs.keeping.Keeping.end.Goals as goal
 
 pub returns-clause-ends : goal.returns-clause-ends
-returns-clause-ends c =
+returns-clause-ends g c =
     let olds = c.args.self.now.shelves.items in
     let old = c.index_mut.result.now in
     let new = c.put_end.new.shelf in
@@ -19,10 +19,10 @@ returns-clause-ends c =
     }
 
 pub returns-clause-agree : goal.returns-clause-agree
-returns-clause-agree c = end_agrees _ _ _ _ _ _ _ _ _ (returns-clause-ends c)
+returns-clause-agree g c = end_agrees _ _ _ _ _ _ _ _ _ (returns-clause-ends g c)
 
 pub returns-in_err-self-clause-deed : goal.returns-in_err-self-clause-deed
-returns-in_err-self-clause-deed c =
+returns-in_err-self-clause-deed g c =
     let olds = c.args.self.now.shelves.items in
     let old = c.index_mut.result.now in
     let new = c.put_end.new.shelf in

@@ -6,13 +6,13 @@ use Rattle.fax_shelf.proofs.Shelving.{agrees_on, err_so, names_on, ok_so, put_th
 use Rattle.fax_shelf.proofs.keeping.KeepingKeeperPageToKeep.keep_all.Goals as goal
 
 pub returns-clause-kept : goal.returns-clause-kept
-returns-clause-kept c =
+returns-clause-kept g c =
     let begun = c.numbers_of-numbers in
     keeps_on _ _ _ c.put_pages-answer.result c.args.self.now.spool begun.new.self.spool c.put_pages-answer.new.spool c.add_all.new.self.spool c.args.pages.now begun.ensures.spool c.add_all.ensures.spool
     (keeps_put _ _ _ c.put_pages-answer.result begun.new.self.life (lines_of c.as_slice-2.result.now) c.args.pages.now c.as_slice.result.now begun.new.self.spool c.put_pages-answer.new.spool c.put_pages-answer.ensures.puts)
 
 pub returns-clause-put : goal.returns-clause-put
-returns-clause-put c =
+returns-clause-put g c =
     let begun = c.numbers_of-numbers in
     put_through _ _ _ c.put_pages-answer.result begun.new.self.life c.args.pages.now begun.result.items c.as_slice.result.now c.as_slice-4.result.now c.is_ok.result
     c.args.self.now.shelves.items c.as_slice-2.result.now begun.new.self.shelves.items c.add_all.new.self.shelves.items
@@ -21,16 +21,16 @@ returns-clause-put c =
     (ok_so c.put_pages-answer.result c.is_ok.result c.is_ok.ensures.value) c.put_pages-answer.ensures.puts c.add_all.ensures.shelves
 
 pub returns-clause-agree : goal.returns-clause-agree
-returns-clause-agree c = agrees_on _ _ _ c.put_pages-answer.result c.args.pages.now c.args.self.now.shelves.items c.add_all.new.self.shelves.items c.args.self.now.spool c.add_all.new.self.spool (returns-clause-put c)
+returns-clause-agree g c = agrees_on _ _ _ c.put_pages-answer.result c.args.pages.now c.args.self.now.shelves.items c.add_all.new.self.shelves.items c.args.self.now.spool c.add_all.new.self.spool (returns-clause-put g c)
 
 pub returns-clause-names : goal.returns-clause-names
-returns-clause-names c =
+returns-clause-names g c =
     let begun = c.numbers_of-numbers in
     names_on c.put_pages-answer.result begun.new.self.life c.is_ok.result c.args.pages.now c.as_slice-4.result.now c.args.self.now.shelves.items begun.new.self.shelves.items c.add_all.new.self.shelves.items
     begun.ensures.shelves (err_so c.put_pages-answer.result c.is_ok.result c.is_ok.ensures.value) c.add_all.ensures.shelves
 
 pub returns-clause-refused : goal.returns-clause-refused
-returns-clause-refused c =
+returns-clause-refused g c =
     let begun = c.numbers_of-numbers in
     refuse_through _ _ _ c.put_pages-answer.result begun.new.self.life c.args.pages.now begun.result.items c.as_slice.result.now c.as_slice-4.result.now c.is_ok.result
     c.args.self.now.shelves.items c.as_slice-2.result.now begun.new.self.shelves.items c.add_all.new.self.shelves.items
