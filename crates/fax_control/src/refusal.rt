@@ -29,6 +29,10 @@ pub enum Refusal {
     NoRoute,
     /// 11: no call is on on this leg.
     NoCall,
+    /// 12: the configuration gives the called leg its peer, and no word changes that.
+    Fixed,
+    /// 15: nobody hears events, so that nobody would say where the pages of the call go.
+    Unheard,
 }
 
 impl Refusal {
@@ -48,6 +52,8 @@ impl Refusal {
             Refusal::TooLong => 9,
             Refusal::NoRoute => 10,
             Refusal::NoCall => 11,
+            Refusal::Fixed => 12,
+            Refusal::Unheard => 15,
         }
     }
 
@@ -67,6 +73,8 @@ impl Refusal {
             Refusal::TooLong => "TooLong",
             Refusal::NoRoute => "NoRoute",
             Refusal::NoCall => "NoCall",
+            Refusal::Fixed => "Fixed",
+            Refusal::Unheard => "Unheard",
         }
     }
 }

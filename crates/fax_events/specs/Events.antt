@@ -18,7 +18,7 @@ use Rattle.fax_events.specs.declared.event.Direction.TheVariants.{Receives, Send
 use Rattle.fax_events.specs.declared.event.Ending.{Ending}
 use Rattle.fax_events.specs.declared.event.Ending.TheVariants.{Done, HungUp, GivenUp, NotKept}
 use Rattle.fax_events.specs.declared.event.What.{What}
-use Rattle.fax_events.specs.declared.event.What.TheVariants.{Rung, Page, RefusedPage, Ended, Dial, Job, Wire, Late, SetAside}
+use Rattle.fax_events.specs.declared.event.What.TheVariants.{Rung, Page, RefusedPage, Ended, Dial, Connected, Job, Wire, Late, SetAside}
 use Rattle.fax_events.specs.declared.event.What.TheVariants as what
 use Rattle.fax_events.specs.declared.event.Event.{Event}
 
@@ -54,6 +54,7 @@ event_name (Page kept) = codes "page"
 event_name (RefusedPage call tag why) = codes "refused_page"
 event_name (Ended call how) = codes "ended"
 event_name (Dial call tag) = codes "dial"
+event_name (Connected call tag) = codes "connected"
 event_name (Job report tag) = codes "job"
 event_name (Wire leg direction count) = codes "wire"
 event_name (Late span) = codes "late"
@@ -104,6 +105,7 @@ what_members (Page kept) =
 what_members (RefusedPage call tag why) = number_member (codes "call") call ++ (tag_member (option_map (λ text. text.now) tag) ++ refusal_members why)
 what_members (Ended call how) = number_member (codes "call") call ++ text_member (codes "how") (ending_name how)
 what_members (Dial call tag) = number_member (codes "call") call ++ tag_member (option_map (λ text. text.now) tag)
+what_members (Connected call tag) = number_member (codes "call") call ++ tag_member (option_map (λ text. text.now) tag)
 what_members (Job report tag) =
     number_member (codes "call") report.call ++ (tag_member (option_map (λ text. text.now) tag) ++ (format_members report.format
     ++ (number_member (codes "pages") report.pages ++ (number_member (codes "delivered") report.delivered ++ text_member (codes "outcome") (outcome_name report.outcome)))))

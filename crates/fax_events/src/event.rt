@@ -78,6 +78,9 @@ pub enum What<'a> {
     Ended(u32, Ending),
     /// The call of a job begins: the number of the call that its pages came in, and the tag of that.
     Dial(u32, Option<&'a str>),
+    /// The call of a job is on, and its called leg has a peer: the number of the call that its pages came in, and the tag of that.
+    /// It is told to a client that wants events from now on.
+    Connected(u32, Option<&'a str>),
     /// A job ended: its report, and the tag of the call that its pages came in.
     Job(Report, Option<&'a str>),
     /// A leg's receives or sends fail: so many did since the line began.
@@ -103,6 +106,7 @@ impl<'a> What<'a> {
             What::RefusedPage(_, _, _) => "refused_page",
             What::Ended(_, _) => "ended",
             What::Dial(_, _) => "dial",
+            What::Connected(_, _) => "connected",
             What::Job(_, _) => "job",
             What::Wire(_, _, _) => "wire",
             What::Late(_) => "late",

@@ -189,7 +189,10 @@ fn put_what(writer: &mut Writer, what: &What<'_>) -> Result<(), AllocError>
     ensures { OnOk result (Adds writer.old writer.new (what_members what.now)) }
 {
     match *what {
-        What::Rung(call, tag) | What::Dial(call, tag) | What::NotKept(call, tag) => {
+        What::Rung(call, tag)
+        | What::Dial(call, tag)
+        | What::Connected(call, tag)
+        | What::NotKept(call, tag) => {
             put_number(writer, "call", u64::from(call))?;
             put_tag(writer, tag)
         }

@@ -8,11 +8,9 @@ ghost use Rattle.fax_serve.specs.declared.keeper.SpoolKeeper.{SpoolKeeper as Kee
 use fax_gateway::laws::{confirms_the_newest, jobs_are_of_their_calls};
 use fax_pagestore::laws::{pages_are_unique, pages_are_written, written_pages_mean};
 use fax_shelf::laws::book::turns_tell_both;
-use fax_shelf::laws::histories::{
-    first_runs_begin, next_runs_begin, openings_find_what_waits,
-};
-use fax_spool::laws::crashes_leave_what_waits;
+use fax_shelf::laws::histories::{first_runs_begin, next_runs_begin, openings_find_what_waits};
 use fax_shelf::laws::what_is_owed_is_restored;
+use fax_spool::laws::crashes_leave_what_waits;
 use sqlite_disk::Disk;
 
 /// Whatever datagrams came in a call, a goodbye has the number that its receiver expects.

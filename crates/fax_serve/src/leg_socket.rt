@@ -1,7 +1,7 @@
 //! The socket of a leg.
 ghost use Rattle.std.specs.Prelude.{◌≡◌, ◌+◌, ◌-◌, ◌^◌, ◌≤◌, length, min, Ok, None, Some, IfOk, IfSome, OnErr, OnOk};
 ghost use Rattle.fax_serve.specs.HangUps.{HandsOut};
-ghost use Rattle.fax_serve.specs.Counts.{no_counts};
+ghost use Rattle.fax_serve.specs.Counts.{IsSent, no_counts};
 ghost use Rattle.fax_serve.specs.declared.hang_up.Peer.TheVariants as peers;
 
 use crate::hang_up::{GOODBYE_OCTETS, PeerCall};
@@ -24,6 +24,8 @@ pub struct LegCounts {
     pub sent: u64,
     pub receive_failures: u64,
     pub send_failures: u64,
+    /// Datagrams that were dropped, since no peer was known.
+    pub unsent: u64,
 }
 
 /// The socket of a leg. It is connected to its peer once that is known, and does not wait.
@@ -31,6 +33,8 @@ pub struct LegCounts {
 pub struct LegSocket {
     socket: UdpSocket,
     has_peer: Cell<bool>,
+    /// Whether the configuration gave its peer.
+    is_fixed: bool,
     /// Whether the system tells when a datagram comes.
     is_watched: Cell<bool>,
     /// Whether a datagram may have come that was not received. Where the leg is not watched one always may.
@@ -58,6 +62,7 @@ impl LegSocket {
         Ok(LegSocket {
             socket,
             has_peer: Cell::new(false),
+            is_fixed: false,
             is_watched: Cell::new(false),
             may_have_come: Cell::new(true),
             call: Cell::new(PeerCall::new()),
@@ -73,6 +78,28 @@ impl LegSocket {
         self.has_peer.set(true);
         self.wake();
         Ok(())
+    }
+
+    /// The same of the peer that the configuration gives: it is not cut.
+    pub(crate) fn fix_peer(&mut self, peer: SocketAddr) -> io::Result<()>
+        ensures { self.new ≡ self.old }
+    {
+        self.set_peer(peer)?;
+        self.is_fixed = true;
+        Ok(())
+    }
+
+    /// Whether the configuration gave its peer.
+    pub(crate) fn is_fixed(&self) -> bool {
+        self.is_fixed
+    }
+
+    /// From now on it has no peer, but where the configuration gave it: what it is to send is dropped, and nothing that comes is
+    /// heard.
+    pub(crate) fn cut(&self) {
+        if !self.is_fixed {
+            self.has_peer.set(false);
+        }
     }
 
     /// Drops what came and was not received.
@@ -198,11 +225,15 @@ impl LegSocket {
         }
     }
 
-    /// Sends a datagram. It is counted, or that it could not be sent.
+    /// Sends a datagram. It is counted, or that it could not be sent. While no peer is known it is dropped, and that is counted.
     pub(crate) fn send(&mut self, octets: &[u8]) -> io::Result<()>
-        ensures sent { OnOk result (self.new ≡ record self.old { sent = min (self.old.sent + 1) (2 ^ 64 - 1) }) }
+        ensures sent { OnOk result (IsSent self.old self.new) }
         ensures failed { OnErr result (self.new ≡ record self.old { send_failures = min (self.old.send_failures + 1) (2 ^ 64 - 1) }) }
     {
+        if !self.has_peer.get() {
+            self.counts.unsent = self.counts.unsent.saturating_add(1);
+            return Ok(());
+        }
         match self.socket.send(octets) {
             Ok(_) => {
                 self.counts.sent = self.counts.sent.saturating_add(1);

@@ -28,8 +28,12 @@ fn is_on(line: &ServedLine, leg: Leg) -> bool {
     }
 }
 
-/// A leg of a line gets another peer, unless its call is on and has heard from its peer.
+/// A leg of a line gets another peer, unless its call is on and has heard from its peer. A called leg has one only while the call
+/// of a job is on, which is the job that a client was asked about; the peer that the configuration gives it stays.
 pub(crate) fn peer_answer(card: &Card, line: &ServedLine, leg: Leg, peer: SocketAddr) -> Answer {
+    if let Err(refusal) = takes_peer(line, leg) {
+        return Answer::Refused(refusal);
+    }
     let received = counts_of(line, side_of(leg)).received;
     if is_on(line, leg) && card.has_heard(leg, received) {
         return Answer::Refused(Refusal::InCall);
@@ -37,6 +41,16 @@ pub(crate) fn peer_answer(card: &Card, line: &ServedLine, leg: Leg, peer: Socket
     match socket_of(line, leg).set_peer(peer) {
         Ok(()) => Answer::Done,
         Err(_) => Answer::Refused(Refusal::NoRoute),
+    }
+}
+
+/// Whether a word may say the peer of a leg.
+fn takes_peer(line: &ServedLine, leg: Leg) -> Result<(), Refusal> {
+    match leg {
+        Leg::Calling => Ok(()),
+        Leg::Called if socket_of(line, leg).is_fixed() => Err(Refusal::Fixed),
+        Leg::Called if is_on(line, leg) => Ok(()),
+        Leg::Called => Err(Refusal::NoCall),
     }
 }
 
@@ -50,8 +64,11 @@ pub(crate) fn hang_up_answer(line: &ServedLine, leg: Leg) -> Answer {
 }
 
 /// Behind a turn: where a call goes on, a peer whose call is gone says so once more; where none does, all is forgotten that was
-/// known of the peer's.
+/// known of the peer's. Behind the end of a job its called leg has no peer any more.
 pub(crate) fn settle_legs(line: &ServedLine) {
+    if line.turned().report.is_some() {
+        socket_of(line, Leg::Called).cut();
+    }
     settle(line, Leg::Calling, false);
     settle(line, Leg::Called, line.turned().dialled.is_some());
 }

@@ -2,6 +2,7 @@
 #![tactic(auto)]
 
 mod answers;
+mod asking;
 mod card;
 mod clock;
 mod control;
@@ -16,7 +17,9 @@ mod pace;
 mod run;
 mod schedule;
 mod sockets;
+mod state;
 mod stop;
+mod tags;
 mod telling;
 mod udp_wire;
 mod watch;

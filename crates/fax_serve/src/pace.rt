@@ -5,13 +5,16 @@ ghost use Rattle.fax_shelf.specs.SpoolKeeping.{IsUnchanged};
 use crate::answers::{
     answer_text, counters_of, counts_of, is_idle, leg_of, report_text, status_text,
 };
+use crate::asking::{begins_to_ask, is_asked_about, no_call_is_on};
 use crate::card::Card;
 use crate::clock::Stopwatch;
 use crate::keeper::SpoolKeeper;
 use crate::legs::{hang_up_answer, peer_answer, settle_legs};
 use crate::schedule::Schedule;
 use crate::sockets::{ServedLine, ServedLines};
+use crate::state::state_text;
 use crate::stop::Stop;
+use crate::tags::{is_restored, job_tag};
 use crate::telling::Teller;
 use crate::udp_wire::UdpWire;
 use crate::watch::{Watch, asks, wake_legs};
@@ -51,6 +54,9 @@ const TURNS_A_LOOK: u64 = 25;
 /// other: each of them less than a round late.
 const MOST_QUIET_MS: u64 = 9;
 
+/// While turns are held, it is looked each so many milliseconds whether the run ends.
+const HOLDING_MS: u64 = 100;
+
 /// The most words and wake-ups between two turns.
 const MOST_WAKES: u32 = 100_000;
 
@@ -70,6 +76,8 @@ pub struct RealPace<'a, C: Clock, I: Read + Drop, O: Write + Drop> {
     late_from: u64,
     stop: Stop,
     stop_ms: u64,
+    /// Whether clients are asked about the calls of jobs of some line.
+    asks: bool,
     /// Who asked for the ring that was ordered, and its tag.
     ringing: Option<Ringing>,
     cards: Vec<Card>,
@@ -94,13 +102,14 @@ struct Ringing {
 }
 
 impl<'a, C: Clock, I: Read + Drop, O: Write + Drop> RealPace<'a, C, I, O> {
-    /// The time begins now. A stop takes so many milliseconds at most.
+    /// The time begins now. A stop takes so many milliseconds at most. Clients are asked about the calls of jobs, or not.
     pub(crate) fn new(
         alloc: Global,
         clock: Stopwatch<'a, C>,
         clients: Clients<I, O>,
         cards: Vec<Card>,
         stop_ms: u64,
+        asks: bool,
         watch: Option<Watch>,
     ) -> Self {
         let count = cards.len();
@@ -114,6 +123,7 @@ impl<'a, C: Clock, I: Read + Drop, O: Write + Drop> RealPace<'a, C, I, O> {
             late_from: 0,
             stop: Stop::No,
             stop_ms,
+            asks,
             ringing: None,
             cards,
             teller: Teller::new(alloc, clients, count),
@@ -267,16 +277,38 @@ impl<'a, C: Clock, I: Read + Drop, O: Write + Drop> RealPace<'a, C, I, O> {
         self.schedule.left(self.now) > 0 || self.turns % TURNS_A_WORD == 0
     }
 
-    /// Waits for a word or for the next turn. It answers the line that is to ring, if one is.
-    fn wait<D: Disk>(&mut self, lines: &ServedLines, keeper: Option<&SpoolKeeper<D>>) -> Option<usize> {
+    /// Whether turns are held: the next one would begin the call of a job that a client is to be asked about, nobody hears events,
+    /// and no call is on that would be cut.
+    fn holds(&self, lines: &ServedLines) -> bool {
+        self.asks
+            && !self.teller.clients.tell_events()
+            && begins_to_ask(lines.slot(), lines)
+            && no_call_is_on(lines)
+    }
+
+    /// For how many milliseconds words are waited for: until the next turn, and while turns are held for a while.
+    fn most_waited(&mut self, is_held: bool, lines: &ServedLines) -> u64 {
+        if is_held {
+            self.schedule.hold(self.now);
+            return HOLDING_MS;
+        }
         let left = self.schedule.left(self.now);
         let quiet = if left == 0 {
             0
         } else {
             self.quiet_ms(left, lines)
         };
-        let most = left.saturating_add(quiet).min(1_000);
-        self.teller.clients.wait(most as i32);
+        left.saturating_add(quiet).min(1_000)
+    }
+
+    /// Waits for a word, for so many milliseconds at most. It answers the line that is to ring, if one is.
+    fn wait<D: Disk>(
+        &mut self,
+        most: u64,
+        lines: &ServedLines,
+        keeper: Option<&SpoolKeeper<D>>,
+    ) -> Option<usize> {
+        self.teller.clients.wait(most.min(1_000) as i32);
         self.read_clock();
         let (asker, heard) = self.teller.clients.hear()?;
         match heard {
@@ -378,7 +410,7 @@ impl<'a, C: Clock, I: Read + Drop, O: Write + Drop> RealPace<'a, C, I, O> {
                 self.put(asker, text);
             }
             Word::Metrics => self.tell_metrics(asker, lines, keeper),
-            Word::Events => self.want_events(asker),
+            Word::Events => self.want_events(asker, lines, keeper),
             Word::Stop => {
                 self.stop = self.stop.asked(self.now, self.stop_ms);
                 self.answer(asker, Answer::Done);
@@ -426,6 +458,9 @@ impl<'a, C: Clock, I: Read + Drop, O: Write + Drop> RealPace<'a, C, I, O> {
         };
         if !leg_of(line, Side::Calling).has_peer() {
             return Err(Refusal::NoPeer);
+        }
+        if is_asked_about(line) && !self.teller.clients.tell_events() {
+            return Err(Refusal::Unheard);
         }
         let tag = match tag {
             None => None,
@@ -482,7 +517,12 @@ impl<'a, C: Clock, I: Read + Drop, O: Write + Drop> RealPace<'a, C, I, O> {
     }
 
     /// The counts are told.
-    fn tell_metrics<D: Disk>(&mut self, asker: Asker, lines: &ServedLines, keeper: Option<&SpoolKeeper<D>>) {
+    fn tell_metrics<D: Disk>(
+        &mut self,
+        asker: Asker,
+        lines: &ServedLines,
+        keeper: Option<&SpoolKeeper<D>>,
+    ) {
         let mut counters = counters_of(self.teller.counters(), lines);
         if let Some(keeper) = keeper {
             counters.pages_kept = keeper.keeping.kept();
@@ -494,13 +534,18 @@ impl<'a, C: Clock, I: Read + Drop, O: Write + Drop> RealPace<'a, C, I, O> {
         self.put(asker, text);
     }
 
-    /// From now on a client is told events.
-    fn want_events(&mut self, asker: Asker) {
-        let answer = match self.teller.clients.want_events(asker) {
-            Ok(()) => Answer::Done,
-            Err(NoMemory) => Answer::Refused(Refusal::NoMemory),
+    /// From now on a client is told events, behind how the lines are.
+    fn want_events<D: Disk>(
+        &mut self,
+        asker: Asker,
+        lines: &ServedLines,
+        keeper: Option<&SpoolKeeper<D>>,
+    ) {
+        let text = match self.teller.clients.want_events(asker) {
+            Ok(()) => state_text(self.alloc, self.cards.as_slice(), lines, keeper, self.now),
+            Err(NoMemory) => Err(NoMemory),
         };
-        self.answer(asker, answer);
+        self.put(asker, text);
     }
 
     /// A client is answered by a line. Without memory for it there is no answer.
@@ -546,7 +591,12 @@ fn kept_in(lines: &ServedLines, i: usize) -> Option<Kept> {
 }
 
 /// The tags of the calls in which lines of a slot confirmed pages in its last turn are noted. It answers whether one did.
-fn set_tags<D: Disk>(keeper: &mut SpoolKeeper<D>, cards: &[Card], slot: usize, lines: &ServedLines) -> bool
+fn set_tags<D: Disk>(
+    keeper: &mut SpoolKeeper<D>,
+    cards: &[Card],
+    slot: usize,
+    lines: &ServedLines,
+) -> bool
     ensures { IsUnchanged keeper.old.keeping.shelves.items keeper.new.keeping.shelves.items keeper.old.keeping.spool keeper.new.keeping.spool }
 {
     let mut confirms = false;
@@ -575,27 +625,6 @@ fn tag_of(cards: &[Card], i: usize, call: u32) -> Option<&str> {
     match cards.get(i) {
         Some(card) => card.tag(call),
         None => None,
-    }
-}
-
-/// Whether the job of line i that is first in turn was confirmed in an earlier life.
-fn is_restored<D: Disk>(keeper: Option<&SpoolKeeper<D>>, i: usize) -> bool {
-    match keeper {
-        Some(keeper) => keeper.keeping.is_restored(i),
-        None => false,
-    }
-}
-
-/// The tag of the job of line i that is first in turn, whose pages came in this call.
-fn job_tag<'a, D: Disk>(
-    keeper: Option<&'a SpoolKeeper<D>>,
-    card: &'a Card,
-    i: usize,
-    call: u32,
-) -> Option<&'a str> {
-    match keeper {
-        Some(keeper) if keeper.keeping.is_restored(i) => keeper.keeping.restored_tag(i),
-        Some(_) | None => card.tag(call),
     }
 }
 
@@ -652,17 +681,22 @@ impl<'a, C: Clock, I: Read + Drop, O: Write + Drop, D: Disk> Pace<
             if self.is_over(lines) {
                 return None;
             }
-            if self.asks_clients()
-                && let Some(line) = self.wait(lines, keeper)
+            let is_held = self.holds(lines);
+            let most = self.most_waited(is_held, lines);
+            if (is_held || self.asks_clients())
+                && let Some(line) = self.wait(most, lines, keeper)
             {
                 return Some(Order::Ring {
                     line,
                     now: self.now,
                 });
             }
-            if self.schedule.left(self.now) == 0 {
+            if self.schedule.left(self.now) == 0 && !self.holds(lines) {
                 break;
             }
+        }
+        if self.holds(lines) {
+            return Some(Order::Wake { line: 0 });
         }
         self.look(lines);
         Some(self.turn_or_wake(lines))

@@ -147,7 +147,8 @@ fn pace_of<'a, N: Net + Clock, I: Read + Drop, O: Write + Drop>(
     };
     let stop_ms = u64::from(config.stop_seconds).saturating_mul(SECOND_MS);
     let watch = Watch::new(system, alloc, lines).ok();
-    Ok(RealPace::new(alloc, clock, clients, cards, stop_ms, watch))
+    let asks = asks_clients(config.lines.as_slice());
+    Ok(RealPace::new(alloc, clock, clients, cards, stop_ms, asks, watch))
 }
 
 /// Serves lines that are new.
@@ -175,6 +176,11 @@ fn serve_restored<C: Clock, I: Read + Drop, O: Write + Drop, S: Start>(
 {
     let mut keeper = Some(keeper);
     serve(&mut lines, &mut keeper, pace);
+}
+
+/// Whether some called leg has no peer of the configuration, so that clients are asked about the calls of its jobs.
+fn asks_clients(configs: &[LineConfig]) -> bool {
+    configs.iter().any(|config| config.called.peer.is_none())
 }
 
 /// What is kept of the lines.

@@ -136,9 +136,9 @@ fn leg_fault(alloc: Global, config: &LineConfig, leg: Leg, error: io::Error) -> 
 
 /// Opens the socket of a leg, and connects it where its peer is known.
 fn open_leg<N: Net>(net: &N, config: &LegConfig) -> io::Result<LegSocket> {
-    let leg = LegSocket::new(net.bind_udp(config.local)?)?;
+    let mut leg = LegSocket::new(net.bind_udp(config.local)?)?;
     if let Some(peer) = config.peer {
-        leg.set_peer(peer)?;
+        leg.fix_peer(peer)?;
     }
     Ok(leg)
 }

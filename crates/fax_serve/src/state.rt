@@ -1,0 +1,79 @@
+//! How the lines are, for a client that wants events from now on.
+use crate::answers::leg_of;
+use crate::card::Card;
+use crate::keeper::SpoolKeeper;
+use crate::sockets::{ServedLine, ServedLines};
+use crate::tags::job_tag;
+use fax_bits::NoMemory;
+use fax_events::{Event, What, write_event};
+use fax_gateway::Side;
+use sqlite_disk::Disk;
+use std::alloc::Global;
+
+/// Each call that is on, each job whose call is on, and whether its called leg has a peer, as events of this moment, and `ok`.
+pub(crate) fn state_text<D: Disk>(
+    alloc: Global,
+    cards: &[Card],
+    lines: &ServedLines,
+    keeper: Option<&SpoolKeeper<D>>,
+    at: u64,
+) -> Result<Vec<u8>, NoMemory> {
+    let mut text = Vec::new(alloc);
+    for (i, card) in cards.iter().enumerate() {
+        if let Some(line) = lines.line(i) {
+            let rung = rung_of(card, line);
+            put_event(alloc, card, at, rung, &mut text)?;
+            let job = job_of(i, card, line, keeper);
+            put_event(alloc, card, at, job, &mut text)?;
+        }
+    }
+    text.extend_from_slice(b"ok\n")?;
+    Ok(text)
+}
+
+/// The call that is on on the calling leg of a line.
+fn rung_of<'a>(card: &'a Card, line: &ServedLine) -> Option<What<'a>> {
+    match line.call() {
+        Some(call) => Some(What::Rung(call, card.tag(call))),
+        None => None,
+    }
+}
+
+/// The job of line i whose call is on: it waits for a peer, or has one.
+fn job_of<'a, D: Disk>(
+    i: usize,
+    card: &'a Card,
+    line: &ServedLine,
+    keeper: Option<&'a SpoolKeeper<D>>,
+) -> Option<What<'a>> {
+    let Some(job) = line.sending() else {
+        return None;
+    };
+    let call = job.call();
+    let tag = job_tag(keeper, card, i, call);
+    if leg_of(line, Side::Called).has_peer() {
+        Some(What::Connected(call, tag))
+    } else {
+        Some(What::Dial(call, tag))
+    }
+}
+
+/// Adds the line of what happens on a line, where something does.
+fn put_event(
+    alloc: Global,
+    card: &Card,
+    at: u64,
+    what: Option<What<'_>>,
+    text: &mut Vec<u8>,
+) -> Result<(), NoMemory> {
+    if let Some(what) = what {
+        let event = Event {
+            line: card.name(),
+            at,
+            what,
+        };
+        let told = write_event(alloc, &event)?;
+        text.extend_from_slice(told.as_slice())?;
+    }
+    Ok(())
+}
