@@ -5,7 +5,6 @@ ghost use Rattle.fax_pagestore.specs.Ends.{HoldsEol, BeginNoEol, CountsNot};
 
 use crate::reading::EOL_ZEROS;
 
-
 /// Four zeros are the low half of an octet that this divides, and the high half of one below this.
 const HALF: u8 = 16;
 

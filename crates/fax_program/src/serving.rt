@@ -36,19 +36,20 @@ fn serve_config<
     R: Print + Eprint + Input + AllocGlobal,
     N: Net + Files + Clock + Folders,
     S: Start,
->(
-    rt: &R,
-    system: &N,
-    path: &str,
-    config: &Config,
-    start: S,
-) -> Status {
+>(rt: &R, system: &N, path: &str, config: &Config, start: S) -> Status {
     if config.spool.is_none()
         && let Err(error) = rt.print("pages are kept in memory alone: no spool is set\n")
     {
         return tell_unprinted(rt, error);
     }
-    match run_serve(system, rt.alloc(), config, rt.reader(), io::writer(rt), start) {
+    match run_serve(
+        system,
+        rt.alloc(),
+        config,
+        rt.reader(),
+        io::writer(rt),
+        start,
+    ) {
         Ok(()) => Status::Done,
         Err(ServeFault::NoMemory) => tell(rt, path, ServeFault::NoMemory, Status::NoMemory),
         Err(ServeFault::Spool(fault)) => { tell(rt, path, ServeFault::Spool(fault), Status::Usage) }
