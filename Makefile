@@ -4,10 +4,9 @@ PROGRAM = crates/faxgate/out/faxgate
 
 .PHONY: all demo test wrong-bodies format memory crash bench load interop serve-interop tables check-docs
 
-# Proves and builds the program, and says where it lies.
+# Proves and builds the program, its crates side by side, and says where it lies. What was proved is kept in the user's cache.
 all:
-	cd crates/faxgate && $(RT) run -- --help > /dev/null
-	@echo "the proved program lies at $(PROGRAM)"
+	RT=$(RT) tools/prove-program
 
 # A page through the gateway in real time, on this host, in half a minute.
 demo: all

@@ -542,7 +542,14 @@ impl<'a, C: Clock, I: Read + Drop, O: Write + Drop> RealPace<'a, C, I, O> {
         keeper: Option<&SpoolKeeper<D>>,
     ) {
         let text = match self.teller.clients.want_events(asker) {
-            Ok(()) => state_text(self.alloc, self.cards.as_slice(), lines, keeper, self.now),
+            Ok(()) => state_text(
+                self.alloc,
+                self.teller.aside(),
+                self.cards.as_slice(),
+                lines,
+                keeper,
+                self.now,
+            ),
             Err(NoMemory) => Err(NoMemory),
         };
         self.put(asker, text);

@@ -10,15 +10,20 @@ use fax_gateway::Side;
 use sqlite_disk::Disk;
 use std::alloc::Global;
 
-/// Each call that is on, each job whose call is on, and whether its called leg has a peer, as events of this moment, and `ok`.
+/// The pages that are not sent, of which these lines of events tell, each call that is on, each job whose call is on, and whether its
+/// called leg has a peer, as events of this moment, and `ok`.
 pub(crate) fn state_text<D: Disk>(
     alloc: Global,
+    aside: &[Vec<u8>],
     cards: &[Card],
     lines: &ServedLines,
     keeper: Option<&SpoolKeeper<D>>,
     at: u64,
 ) -> Result<Vec<u8>, NoMemory> {
     let mut text = Vec::new(alloc);
+    for told in aside {
+        text.extend_from_slice(told.as_slice())?;
+    }
     for (i, card) in cards.iter().enumerate() {
         if let Some(line) = lines.line(i) {
             let rung = rung_of(card, line);

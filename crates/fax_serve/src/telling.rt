@@ -20,6 +20,8 @@ pub(crate) struct Teller<I: Read + Drop, O: Write + Drop> {
     pub counters: Counters,
     /// Events that were lost for want of memory.
     lost: u64,
+    /// The pages that are not sent, as lines of events: for those who come later.
+    aside: Vec<Vec<u8>>,
 }
 
 impl<I: Read + Drop, O: Write + Drop> Teller<I, O> {
@@ -33,6 +35,7 @@ impl<I: Read + Drop, O: Write + Drop> Teller<I, O> {
                 ..Counters::default()
             },
             lost: 0,
+            aside: Vec::new(alloc),
         }
     }
 
@@ -113,7 +116,16 @@ impl<I: Read + Drop, O: Write + Drop> Teller<I, O> {
     /// Tells a page of an earlier life that is not sent: its call there, and its number in the call.
     pub(crate) fn tell_aside(&mut self, line: &str, call: u32, number: u32) {
         self.counters.pages_set_aside = self.counters.pages_set_aside.saturating_add(1);
-        self.tell(line, 0, What::SetAside(call, number));
+        let what = What::SetAside(call, number);
+        self.tell(line, 0, what);
+        if let Ok(text) = write_event(self.alloc, &Event { line, at: 0, what }) {
+            let _ = self.aside.push(text);
+        }
+    }
+
+    /// The lines of the events that told pages that are not sent.
+    pub(crate) fn aside(&self) -> &[Vec<u8>] {
+        self.aside.as_slice()
     }
 
     /// Tells a page that was confirmed.
