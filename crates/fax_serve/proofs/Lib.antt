@@ -1,3 +1,2 @@
-mod Goodbyes
 mod Restoring
 mod Histories

@@ -1,12 +1,12 @@
 //! The texts that control words are answered with.
 use crate::card::Card;
 use crate::failures::Failures;
-use crate::leg_socket::{LegCounts, LegSocket};
 use crate::sockets::{ServedLine, ServedLines};
 use fax_bits::NoMemory;
 use fax_control::Answer;
 use fax_events::{Counters, Event, What, write_event};
 use fax_gateway::Side;
+use fax_legs::{LegCounts, LegSocket};
 use std::alloc::{AllocError, Global};
 
 /// The most reports of a line that are told.

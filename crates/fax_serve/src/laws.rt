@@ -1,6 +1,5 @@
 //! Laws of the definitions: functions that do nothing, each of whose contracts is a theorem.
 ghost use Rattle.fax_serve.specs.Crossings.{ServersCross};
-ghost use Rattle.fax_serve.specs.HangUps.{GoodbyesAreExpected};
 ghost use Rattle.fax_serve.specs.Histories.{ServersMakeHistory};
 ghost use Rattle.fax_serve.specs.NextRuns.{ServersRunOn};
 ghost use Rattle.fax_serve.specs.declared.keeper.SpoolKeeper.{SpoolKeeper as KeeperShown};
@@ -12,11 +11,6 @@ use fax_shelf::laws::histories::{first_runs_begin, next_runs_begin, openings_fin
 use fax_shelf::laws::what_is_owed_is_restored;
 use fax_spool::laws::crashes_leave_what_waits;
 use sqlite_disk::Disk;
-
-/// Whatever datagrams came in a call, a goodbye has the number that its receiver expects.
-pub fn goodbyes_are_expected()
-    ensures { GoodbyesAreExpected }
-{}
 
 /// What `run_serve` promises of a run with a spool leaves of each line a past with one life more, whatever crash follows: deeds, which
 /// are those of the lives of its gateway.

@@ -1,10 +1,10 @@
 //! What words do with the legs of a line.
 use crate::answers::{counts_of, leg_of};
 use crate::card::Card;
-use crate::leg_socket::LegSocket;
 use crate::sockets::ServedLine;
 use fax_control::{Answer, Leg, Refusal};
 use fax_gateway::Side;
+use fax_legs::LegSocket;
 use std::net::SocketAddr;
 
 /// The side of a line that a leg is.

@@ -9,12 +9,11 @@ ghost use Rattle.fax_serve.specs.KeptRuns.{AreRestored};
 ghost use Rattle.fax_serve.specs.Openings.{AddsRestored};
 
 use crate::fault::ServeFault;
-use crate::leg_socket::LegSocket;
-use crate::udp_wire::UdpWire;
 use fax_config::{LegConfig, LineConfig, Repeat};
 use fax_control::Leg;
 use fax_gateway::{RestoredCall, Settings};
 use fax_hold::HoldingWire;
+use fax_legs::{LegSocket, UdpWire};
 use fax_line::{Line, Lines};
 use fax_pagestore::PackedRows;
 use fax_repeat::{RepeatPolicy, RepeatingWire};

@@ -1,8 +1,8 @@
 //! Which legs have datagrams, as the system tells it.
 use crate::answers::leg_of;
-use crate::leg_socket::LegSocket;
 use crate::sockets::{ServedLine, ServedLines};
 use fax_gateway::Side;
+use fax_legs::LegSocket;
 use mio::unix::SourceFd;
 use mio::{Events, Interest, Poll, Token};
 use std::alloc::Global;

@@ -4,7 +4,7 @@ use Rattle.fax_udptl.specs.Datagrams.{DatagramValue}
 use Rattle.fax_udptl.specs.Slots.{IsNearest, greatest, nearest}
 use Rattle.fax_udptl.specs.Taking.{IsAfter}
 use Rattle.fax_udptl.proofs.SlotLemmas.{is_nearest}
-use Rattle.fax_serve.specs.HangUps.{HaveNumbers, is_late, newer_of, newest_of, number_behind}
+use Rattle.fax_legs.specs.HangUps.{HaveNumbers, is_late, newer_of, newest_of, number_behind}
 
 late_so : (m n : ℕ) → nat_lt m n ≡ true → m < n
 late_so m n h = grind (arith)

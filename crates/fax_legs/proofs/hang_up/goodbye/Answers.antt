@@ -1,8 +1,8 @@
 use Rattle.std.proofs.Common.{refl}
 use Rattle.fax_ifp.specs.WrittenPackets.{written_behind}
 use Rattle.fax_udptl.specs.Datagrams.{written_datagram, written_length, written_packet}
-use Rattle.fax_serve.specs.HangUps.{goodbye}
-use Rattle.fax_serve.proofs.hang_up.goodbye.Goals as goal
+use Rattle.fax_legs.specs.HangUps.{goodbye}
+use Rattle.fax_legs.proofs.hang_up.goodbye.Goals as goal
 
 pub returns : goal.returns
 unfolding goodbye written_behind written_datagram written_length written_packet

@@ -1,8 +1,8 @@
 //! The socket of a leg.
 ghost use Rattle.std.specs.Prelude.{◌≡◌, ◌+◌, ◌-◌, ◌^◌, ◌≤◌, length, min, Ok, None, Some, IfOk, IfSome, OnErr, OnOk};
-ghost use Rattle.fax_serve.specs.HangUps.{HandsOut};
-ghost use Rattle.fax_serve.specs.Counts.{IsSent, no_counts};
-ghost use Rattle.fax_serve.specs.declared.hang_up.Peer.TheVariants as peers;
+ghost use Rattle.fax_legs.specs.HangUps.{HandsOut};
+ghost use Rattle.fax_legs.specs.Counts.{IsSent, no_counts};
+ghost use Rattle.fax_legs.specs.declared.hang_up.Peer.TheVariants as peers;
 
 use crate::hang_up::{GOODBYE_OCTETS, PeerCall};
 use std::cell::Cell;
@@ -46,7 +46,7 @@ pub struct LegSocket {
 
 /// Contracts see its counts.
 impl Model for LegSocket {
-    ghost use Rattle.fax_serve.specs.declared.leg_socket.LegCounts.{LegCounts as Counts};
+    ghost use Rattle.fax_legs.specs.declared.leg_socket.LegCounts.{LegCounts as Counts};
 
     ghost Value = { Counts };
 
@@ -81,7 +81,7 @@ impl LegSocket {
     }
 
     /// The same of the peer that the configuration gives: it is not cut.
-    pub(crate) fn fix_peer(&mut self, peer: SocketAddr) -> io::Result<()>
+    pub fn fix_peer(&mut self, peer: SocketAddr) -> io::Result<()>
         ensures { self.new ≡ self.old }
     {
         self.set_peer(peer)?;
@@ -90,13 +90,13 @@ impl LegSocket {
     }
 
     /// Whether the configuration gave its peer.
-    pub(crate) fn is_fixed(&self) -> bool {
+    pub fn is_fixed(&self) -> bool {
         self.is_fixed
     }
 
     /// From now on it has no peer, but where the configuration gave it: what it is to send is dropped, and nothing that comes is
     /// heard.
-    pub(crate) fn cut(&self) {
+    pub fn cut(&self) {
         if !self.is_fixed {
             self.has_peer.set(false);
         }
@@ -119,23 +119,23 @@ impl LegSocket {
     }
 
     /// The descriptor of the socket.
-    pub(crate) fn descriptor(&self) -> RawFd {
+    pub fn descriptor(&self) -> RawFd {
         self.socket.as_raw_fd()
     }
 
     /// From now on the system tells when a datagram comes, or no more: where it does the leg is woken then.
-    pub(crate) fn set_watched(&self, is_watched: bool) {
+    pub fn set_watched(&self, is_watched: bool) {
         self.is_watched.set(is_watched);
         self.wake();
     }
 
     /// A datagram may have come.
-    pub(crate) fn wake(&self) {
+    pub fn wake(&self) {
         self.may_have_come.set(true);
     }
 
     /// Whether a receive may bring something: one that has come, or a DCN where the peer's call is gone.
-    pub(crate) fn asks(&self) -> bool {
+    pub fn asks(&self) -> bool {
         self.is_hung_up() || (self.has_peer.get() && self.may_have_come.get())
     }
 
@@ -148,19 +148,19 @@ impl LegSocket {
     }
 
     /// Whether the peer's call was said to be gone.
-    pub(crate) fn is_hung_up(&self) -> bool {
+    pub fn is_hung_up(&self) -> bool {
         self.call.get().is_gone()
     }
 
     /// A turn is over, and the call of the leg is on.
-    pub(crate) fn go_on(&self) {
+    pub fn go_on(&self) {
         let mut call = self.call.get();
         call.go_on();
         self.call.set(call);
     }
 
     /// No call of the leg is on, or one begins.
-    pub(crate) fn begin_anew(&self) {
+    pub fn begin_anew(&self) {
         self.call.set(PeerCall::new());
     }
 
@@ -174,7 +174,7 @@ impl LegSocket {
     /// Receives a datagram into the front of the buffer, and says how many octets it has: the one with a DCN where the peer's
     /// call is gone and none was received in this turn, and else one that has come. `None`: none has. While no peer is known
     /// none comes.
-    pub(crate) fn receive(&mut self, buffer: &mut [u8]) -> io::Result<Option<usize>>
+    pub fn receive(&mut self, buffer: &mut [u8]) -> io::Result<Option<usize>>
         ensures { IfOk result (λ came. IfSome came (λ count. count ≤ length buffer.new)) }
     {
         let mut call = self.call.get();
@@ -226,7 +226,7 @@ impl LegSocket {
     }
 
     /// Sends a datagram. It is counted, or that it could not be sent. While no peer is known it is dropped, and that is counted.
-    pub(crate) fn send(&mut self, octets: &[u8]) -> io::Result<()>
+    pub fn send(&mut self, octets: &[u8]) -> io::Result<()>
         ensures sent { OnOk result (IsSent self.old self.new) }
         ensures failed { OnErr result (self.new ≡ record self.old { send_failures = min (self.old.send_failures + 1) (2 ^ 64 - 1) }) }
     {

@@ -1,8 +1,8 @@
 use Rattle.std.proofs.Common.{ℕ, List, Some, ◌++◌, ◌∙◌, ap, drop}
-use Rattle.fax_serve.specs.declared.hang_up.Peer.TheVariants as peers
-use Rattle.fax_serve.specs.declared.hang_up.PeerCall.{PeerCall}
-use Rattle.fax_serve.specs.HangUps.{goodbye}
-use Rattle.fax_serve.proofs.hang_up.PeerCall.hand_out.Goals as goal
+use Rattle.fax_legs.specs.declared.hang_up.Peer.TheVariants as peers
+use Rattle.fax_legs.specs.declared.hang_up.PeerCall.{PeerCall}
+use Rattle.fax_legs.specs.HangUps.{goodbye}
+use Rattle.fax_legs.proofs.hang_up.PeerCall.hand_out.Goals as goal
 
 -- the call in which a goodbye of this number was handed out
 abbrev called : ℕ → PeerCall

@@ -1,7 +1,7 @@
 //! A wire of a line over UDP.
 ghost use Rattle.std.specs.Prelude.{◌≡◌, ◌+◌, min};
 ghost use Rattle.fax_gateway.specs.Wires.{greatest_count};
-ghost use Rattle.fax_serve.specs.Legs.{leg_on};
+ghost use Rattle.fax_legs.specs.Legs.{leg_on};
 
 use crate::leg_socket::LegSocket;
 use fax_gateway::{Side, Wire, WireFault};
@@ -18,7 +18,7 @@ pub struct UdpWire {
 
 /// Contracts see what is counted.
 impl Model for UdpWire {
-    ghost use Rattle.fax_serve.specs.Legs.{UdpValue};
+    ghost use Rattle.fax_legs.specs.Legs.{UdpValue};
 
     ghost Value = { UdpValue };
 
@@ -56,11 +56,16 @@ impl UdpWire {
     }
 }
 
-/// What came and what was sent is not told of sockets.
+/// What came and what was sent is not told of sockets. A receive or a send on a leg leaves the other leg's socket as it was.
 impl Wire for UdpWire {
-    ghost use Rattle.std.specs.Prelude.{None};
+    ghost use Rattle.std.specs.Prelude.{◌≡◌, None};
+    ghost use Rattle.fax_legs.specs.Legs.{other_leg};
 
     ghost known = { λ wire. record { failures = wire.failures; received = None; sent = None } };
+
+    ghost receives = { λ side old new. other_leg side new ≡ other_leg side old };
+
+    ghost sends = { λ side octets is_sent old new. other_leg side new ≡ other_leg side old };
 
     fn receive(&mut self, side: Side, buffer: &mut [u8]) -> Result<Option<usize>, WireFault> {
         let came = match side {

@@ -1,6 +1,6 @@
 -- What is counted of a leg (this project's profile).
 use Rattle.std.specs.Prelude.{◌≡◌, ◌⊎◌, ◌+◌, ◌-◌, ◌^◌, min}
-use Rattle.fax_serve.specs.declared.leg_socket.LegCounts.{LegCounts}
+use Rattle.fax_legs.specs.declared.leg_socket.LegCounts.{LegCounts}
 
 abbrev pub no_counts : LegCounts
 no_counts = record { received = 0; sent = 0; receive_failures = 0; send_failures = 0; unsent = 0 }

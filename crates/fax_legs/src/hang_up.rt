@@ -1,6 +1,6 @@
 //! How the end of a peer's call is brought in where a word says it: a datagram with a DCN is handed out, as if it had come.
 ghost use Rattle.std.specs.Prelude.{◌≡◌, ◌≤◌, ◌↔◌, true, false, length, IsTrue};
-ghost use Rattle.fax_serve.specs.HangUps.{HandsOut, due_again, goodbye, newest_behind, number_behind, is_late};
+ghost use Rattle.fax_legs.specs.HangUps.{HandsOut, due_again, goodbye, newest_behind, number_behind, is_late};
 
 /// How many octets a datagram with a DCN has.
 pub(crate) const GOODBYE_OCTETS: usize = 14;

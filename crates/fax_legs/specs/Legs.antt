@@ -2,7 +2,7 @@
 use Rattle.std.specs.Prelude.{ℕ}
 use Rattle.fax_gateway.specs.declared.side.Side.{Side}
 use Rattle.fax_gateway.specs.declared.side.Side.TheVariants as side
-use Rattle.fax_serve.specs.declared.leg_socket.LegCounts.{LegCounts}
+use Rattle.fax_legs.specs.declared.leg_socket.LegCounts.{LegCounts}
 
 -- what went over each leg, and how many receives and sends failed
 pub record UdpValue : Type 0 where
@@ -13,3 +13,8 @@ pub record UdpValue : Type 0 where
 abbrev pub leg_on : Side → UdpValue → LegCounts
 leg_on side.Calling wire = wire.calling
 leg_on side.Called wire = wire.called
+
+-- the leg of the other side
+abbrev pub other_leg : Side → UdpValue → LegCounts
+other_leg side.Calling wire = wire.called
+other_leg side.Called wire = wire.calling

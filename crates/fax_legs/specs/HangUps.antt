@@ -6,9 +6,9 @@ use Rattle.fax_ifp.specs.Packets.{FieldText}
 use Rattle.fax_ifp.specs.WrittenPackets.{frame_fields, written_message}
 use Rattle.fax_udptl.specs.Datagrams.{DatagramValue, written_datagram}
 use Rattle.fax_udptl.specs.Taking.{IsAfter}
-use Rattle.fax_serve.specs.declared.hang_up.Peer.{Peer}
-use Rattle.fax_serve.specs.declared.hang_up.Peer.TheVariants as peers
-use Rattle.fax_serve.specs.declared.hang_up.PeerCall.{PeerCall}
+use Rattle.fax_legs.specs.declared.hang_up.Peer.{Peer}
+use Rattle.fax_legs.specs.declared.hang_up.Peer.TheVariants as peers
+use Rattle.fax_legs.specs.declared.hang_up.PeerCall.{PeerCall}
 
 -- What the peer would say last: a frame that it has begun is none, and a DCN follows. (ITU-T T.38: V.21 data, hdlc-sig-end,
 -- and a frame; T.30, 5.3.6.1.6.)

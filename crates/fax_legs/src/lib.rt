@@ -1,0 +1,10 @@
+//! The sockets of a line's legs, as a wire of its gateway: each is connected to its peer, and does not wait.
+#![tactic(auto)]
+
+mod hang_up;
+pub mod laws;
+mod leg_socket;
+mod udp_wire;
+
+pub use leg_socket::{LegCounts, LegSocket};
+pub use udp_wire::UdpWire;

@@ -1,5 +1,0 @@
-use Rattle.fax_serve.proofs.Goodbyes.{expected_is}
-use Rattle.fax_serve.proofs.laws.goodbyes_are_expected.Goals as goal
-
-pub returns : goal.returns
-returns c = expected_is
