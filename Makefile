@@ -2,7 +2,7 @@
 RT ?= rt
 PROGRAM = crates/faxgate/out/faxgate
 
-.PHONY: all demo test wrong-bodies format memory crash bench load interop serve-interop tables check-docs
+.PHONY: all demo test play wrong-bodies format memory crash bench load interop serve-interop tables check-docs
 
 # Proves and builds the program, its crates side by side, and says where it lies. What was proved is kept in the user's cache.
 all:
@@ -15,6 +15,11 @@ demo: all
 # The merge gate: every proof from nothing, the wrong bodies, the tests, the stored run.
 test:
 	$(RT) ci
+
+# Plays the cases of tests/cases and the modules of tests/play on the program that stands there; it builds and proves nothing.
+# It wants Python 3.11, and no `rt`.
+play:
+	tools/play $(PROGRAM)
 
 # Tries every wrong body, those that the gate passes over too, many in one check, and tells which clause refuses each. With
 # CRATES="fax_bits fax_udptl" those of these crates alone. It wants Python 3.
