@@ -1,4 +1,5 @@
-//! Tests of what the commands answer, over streams in memory and over sockets.
+//! Tests of what cannot be played on the program: streams that fail in their middle, want of memory, and lines that tell what goes
+//! over them.
 #![tactic(auto)]
 
 #[cfg(test)]

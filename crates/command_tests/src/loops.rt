@@ -1,94 +1,13 @@
-//! Calls and a wire over sockets of the loopback interface.
-ghost use Rattle.std.specs.Prelude.{◌≤◌};
-
+//! A wire over sockets of the loopback interface, and a page of text for lines over such sockets.
 use fax_command::{Output, PageOptions, StdSink, StdSource, run_page};
-use fax_gateway::{Settings, Side, Wire, WireFault};
-use fax_jobs::Outcome;
-use fax_loop::{Ending, UdpWire, play_loop, run_loop};
+use fax_gateway::{Side, Wire, WireFault};
+use fax_loop::UdpWire;
 use fax_pagestore::{Coding, Format};
 use fax_runcodes::Width;
 use std::alloc::{AllocError, Global};
 use std::io;
-use std::net::{IpAddr, Ipv4Addr, Net, SocketAddr, TcpListener, TcpStream, UdpSocket};
-use std::process::Abort;
+use std::net::{IpAddr, Ipv4Addr, Net, SocketAddr, UdpSocket};
 use std::test::Fail;
-
-/// What a run of this redundancy answers to an input: its exit status and its text.
-fn run_over<R: Net>(net: &R, alloc: Global, input: &[u8], redundancy: u8) -> (u8, Vec<u8>)
-    requires { redundancy ≤ 8 }
-{
-    let mut text = Vec::new(alloc);
-    let mut source = StdSource::new(input);
-    let mut sink = StdSink::new(&mut text);
-    let settings = Settings {
-        redundancy,
-        preamble_ms: 40,
-    };
-    let status = run_loop(net, alloc, &mut source, &mut sink, settings);
-    (status, text)
-}
-
-#[test]
-fn texts_are_answered(rt: HostRuntime) {
-    for (input, status, wanted) in [
-        (
-            "0014d9a8 008008008008008008\n",
-            0,
-            "job 0 1728 standard 1 1 Delivered\n1728\n",
-        ),
-        ("0014d9a", 1, "fault hex\n"),
-        ("0014d9a8", 1, "fault 3 NoRtc\n"),
-        ("", 1, "fault 1 NoEol\n"),
-    ] {
-        for redundancy in [0, 3, 8] {
-            assert!(rt; redundancy <= 8);
-            let (found, text) = run_over(&rt, rt.alloc(), input.as_bytes(), redundancy);
-            let is_answer = found == status && text.as_slice() == wanted.as_bytes();
-            assert!(rt; is_answer, "at {input:?}");
-        }
-    }
-}
-
-/// A system without a network.
-struct NoNetwork;
-
-impl Net for NoNetwork {
-    type Stream = TcpStream;
-
-    type Listener = TcpListener;
-
-    fn bind(&self, _addr: SocketAddr) -> io::Result<TcpListener> {
-        Err(io::Error::from(io::ErrorKind::Unsupported))
-    }
-
-    fn connect(&self, _addr: SocketAddr) -> io::Result<TcpStream> {
-        Err(io::Error::from(io::ErrorKind::Unsupported))
-    }
-}
-
-/// How a run over an input ends, and its text.
-fn play_over<R: Net>(net: &R, alloc: Global, input: &[u8]) -> (Ending, Vec<u8>) {
-    let mut text = Vec::new(alloc);
-    let mut source = StdSource::new(input);
-    let mut sink = StdSink::new(&mut text);
-    let ending = play_loop(net, alloc, &mut source, &mut sink, Settings::default());
-    (ending, text)
-}
-
-#[test]
-fn runs_tell_how_they_ended(rt: HostRuntime) {
-    let page = b"0014d9a8008008008008008008";
-    let (ending, text) = play_over(&rt, rt.alloc(), page);
-    assert!(rt; matches!(ending, Ending::Reported(Outcome::Delivered)));
-    assert!(rt; text.starts_with(b"job 0 1728 "));
-    let (ending, text) = play_over(&NoNetwork, rt.alloc(), page);
-    assert!(rt;
-        matches!(ending, Ending::Socket(error) if error.kind() == io::ErrorKind::Unsupported)
-    );
-    assert!(rt; text.is_empty());
-    let (ending, _) = play_over(&NoNetwork, rt.alloc(), b"0014d9a");
-    assert!(rt; matches!(ending, Ending::Fault));
-}
 
 /// Strokes of black on white, over 100 picture elements.
 const STROKES: &str = " 3 17 5 15 2 18 4 16 6 14";
@@ -128,25 +47,6 @@ pub(crate) fn page_of(alloc: Global, lines: &[u8]) -> (u8, Vec<u8>) {
     let mut sink = StdSink::new(&mut page);
     let status = run_page(alloc, &mut source, &mut sink, options);
     (status, page)
-}
-
-/// Whether a text tells one page that was delivered, and then just these lines.
-fn delivers(text: &[u8], lines: &[u8]) -> bool {
-    match text.strip_prefix(b"job 0 1728 standard 1 1 Delivered\n") {
-        Some(rows) => rows == lines,
-        None => false,
-    }
-}
-
-/// A page of a thousand rows comes as it was sent.
-#[test]
-fn a_page_of_text(rt: HostRuntime) -> Result<(), Fail> {
-    let lines = lines_of_text(rt.alloc(), 500)?;
-    let (written, page) = page_of(rt.alloc(), lines.as_slice());
-    let (status, text) = run_over(&rt, rt.alloc(), page.as_slice(), 3);
-    let delivers = delivers(text.as_slice(), lines.as_slice());
-    assert!(rt; written == 0 && status == 0 && delivers);
-    Ok(())
 }
 
 /// A socket of the loopback interface that does not wait.
