@@ -1,13 +1,24 @@
-//! A wire over sockets of the loopback interface, and a page of text for lines over such sockets.
+//! A page and a wire over sockets of the loopback interface, and a page of text for lines over such sockets.
 use fax_command::{Output, PageOptions, StdSink, StdSource, run_page};
-use fax_gateway::{Side, Wire, WireFault};
-use fax_loop::UdpWire;
+use fax_gateway::{Settings, Side, Wire, WireFault};
+use fax_loop::{UdpWire, run_loop};
 use fax_pagestore::{Coding, Format};
 use fax_runcodes::Width;
 use std::alloc::{AllocError, Global};
 use std::io;
 use std::net::{IpAddr, Ipv4Addr, Net, SocketAddr, UdpSocket};
 use std::test::Fail;
+
+#[test]
+fn a_page_over_sockets(rt: HostRuntime) {
+    let page: &[u8] = b"0014d9a8008008008008008008";
+    let mut text = Vec::new(rt.alloc());
+    let mut source = StdSource::new(page);
+    let mut sink = StdSink::new(&mut text);
+    let status = run_loop(&rt, rt.alloc(), &mut source, &mut sink, Settings::default());
+    let wanted = b"job 0 1728 standard 1 1 Delivered\n1728\n".as_slice();
+    assert!(rt; status == 0 && text.as_slice() == wanted);
+}
 
 /// Strokes of black on white, over 100 picture elements.
 const STROKES: &str = " 3 17 5 15 2 18 4 16 6 14";
