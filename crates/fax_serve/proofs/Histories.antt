@@ -13,9 +13,9 @@ use Rattle.fax_shelf.specs.Jobs.{PagesWait}
 use Rattle.fax_shelf.specs.Restorations.{Restores}
 use Rattle.fax_shelf.specs.Shelves.{ShelfValue}
 use Rattle.fax_shelf.specs.Histories.{RunsMakeHistory}
-use Rattle.fax_shelf.specs.NextRuns.{RunsGoOn, WasRun, WereRun}
+use Rattle.fax_restarts.specs.Runs.{WasRun}
+use Rattle.fax_serve.specs.Crossings.{ServedLine, run_of}
 use Rattle.fax_serve.specs.Histories.{ServersMakeHistory}
-use Rattle.fax_serve.specs.NextRuns.{FollowOn, ServedLine, ServersRunOn, run_of}
 use Rattle.fax_serve.specs.KeptRuns.{AreRestored}
 use Rattle.fax_serve.specs.Openings.{IsRestored}
 
@@ -151,11 +151,3 @@ module _ {D K : Type 0} (seen : D → List ℕ) (may_leave : D → List ℕ → 
             apart ran.configs ran.unlike ran.number other line shelf its_name.0 (its_name.1 []) name.0 (name.1 [] ∙ ran.named) differs same_name;
         ran = ran.served.run.ran;
       }
-
-  were_run : (line : List ℕ) (runs : List (ServedLine seen may_leave is_usable shelves_of spool_of line)) → FollowOn seen may_leave is_usable shelves_of spool_of line runs
-      → WereRun seen may_leave is_usable shelves_of spool_of line (map run_of runs)
-  were_run line [] follow = tt
-  were_run line (ran ∷ earlier) follow = (was_run line ran, follow.0, were_run line earlier follow.1)
-
-  pub servers_run_on : RunsGoOn seen may_leave is_usable shelves_of spool_of → ServersRunOn seen may_leave is_usable shelves_of spool_of
-  servers_run_on go_on writes line runs writing follow = go_on writes line (map run_of runs) writing (were_run line runs follow)

@@ -1,2 +1,3 @@
 mod Restoring
 mod Histories
+mod Crossings

@@ -1,7 +1,6 @@
 pub mod Endings
 pub mod Histories
 pub mod KeptRuns
-pub mod NextRuns
 pub mod Openings
 pub mod Runs
 pub mod Crossings

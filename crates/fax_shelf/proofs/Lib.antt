@@ -12,8 +12,8 @@ mod Packing
 mod PastEnds
 mod PastLegs
 mod PastPuts
-pub mod PastRuns
-pub mod NextRuns
+mod PastRuns
+mod Openings
 mod Pasts
 mod Records
 mod Shelving

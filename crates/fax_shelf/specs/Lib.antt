@@ -3,7 +3,6 @@ pub mod Histories
 pub mod Jobs
 pub mod Keeping
 pub mod Lives
-pub mod NextRuns
 pub mod OnLeg
 pub mod Refusals
 pub mod Restorations

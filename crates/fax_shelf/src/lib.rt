@@ -2,12 +2,14 @@
 //! line is restored with behind a crash.
 #![tactic(auto)]
 
+mod keeper;
 mod keeping;
 pub mod laws;
 mod putting;
 mod restored;
 mod shelf;
 
+pub use keeper::SpoolKeeper;
 pub use keeping::Keeping;
 pub use restored::{Restored, restore_line};
 pub use shelf::{Ended, Shelf, Waiting};

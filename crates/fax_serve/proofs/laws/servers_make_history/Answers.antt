@@ -1,8 +1,5 @@
-use Rattle.fax_shelf.proofs.PastRuns.{runs_make_history}
 use Rattle.fax_serve.proofs.Histories.{servers_make_history}
 use Rattle.fax_serve.proofs.laws.servers_make_history.Goals as goal
 
 pub returns : goal.returns
-returns g c =
-    servers_make_history _ _ _ (λ k. k.keeping.shelves.items) (λ k. k.keeping.spool)
-    (runs_make_history _ _ _ (λ k. k.keeping.shelves.items) (λ k. k.keeping.spool) c.turns_tell_both.ensures c.confirms_the_newest.ensures c.jobs_are_of_their_calls.ensures c.pages_are_written.ensures c.written_pages_mean.ensures c.pages_are_unique.ensures c.what_is_owed_is_restored.ensures)
+returns g c = servers_make_history _ _ _ (λ k. k.keeping.shelves.items) (λ k. k.keeping.spool) c.runs_make_history.ensures

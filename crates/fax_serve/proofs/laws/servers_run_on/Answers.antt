@@ -1,11 +1,8 @@
-use Rattle.fax_shelf.proofs.NextRuns.{runs_go_on}
-use Rattle.fax_shelf.proofs.PastRuns.{runs_make_history}
-use Rattle.fax_serve.proofs.Histories.{servers_run_on}
+use Rattle.fax_serve.proofs.Crossings.{servers_lead, servers_run_on}
 use Rattle.fax_serve.proofs.laws.servers_run_on.Goals as goal
 
-pub returns : goal.returns
-returns g c =
-    servers_run_on _ _ _ (λ k. k.keeping.shelves.items) (λ k. k.keeping.spool)
-    (runs_go_on _ _ _ (λ k. k.keeping.shelves.items) (λ k. k.keeping.spool)
-    (runs_make_history _ _ _ (λ k. k.keeping.shelves.items) (λ k. k.keeping.spool) c.turns_tell_both.ensures c.confirms_the_newest.ensures c.jobs_are_of_their_calls.ensures c.pages_are_written.ensures c.written_pages_mean.ensures c.pages_are_unique.ensures c.what_is_owed_is_restored.ensures)
-    c.first_runs_begin.ensures c.next_runs_begin.ensures)
+pub returns-clause-leads : goal.returns-clause-leads
+returns-clause-leads g c = servers_lead _ _ _ _ (λ k. k.keeping.shelves.items) (λ k. k.keeping.spool) c.servers_cross.ensures
+
+pub returns-clause-goes_on : goal.returns-clause-goes_on
+returns-clause-goes_on g c = servers_run_on _ _ _ _ (λ k. k.keeping.shelves.items) (λ k. k.keeping.spool) c.runs_join.ensures c.servers_cross.ensures

@@ -1,4 +1,4 @@
-use Rattle.fax_shelf.proofs.NextRuns.{openings_find_what_waits}
+use Rattle.fax_shelf.proofs.Openings.{openings_find_what_waits}
 use Rattle.fax_shelf.proofs.laws.histories.openings_find_what_waits.Goals as goal
 
 pub returns : goal.returns

@@ -1,0 +1,3 @@
+pub mod Crossings
+pub mod Files
+pub mod Runs

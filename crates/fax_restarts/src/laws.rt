@@ -1,0 +1,57 @@
+//! Laws of the definitions: functions that do nothing, each of whose contracts is a theorem.
+ghost use Rattle.fax_restarts.specs.Crossings.{NewFilesHaveNoPast, RunsCross, RunsGoOn, RunsJoin, RunsLead, StoppedOpeningsLeaveThePast};
+ghost use Rattle.fax_restarts.specs.Files.{PastsHaveFiles};
+ghost use Rattle.fax_shelf.specs.declared.keeper.SpoolKeeper.{SpoolKeeper as KeeperShown};
+
+use fax_shelf::laws::histories::{openings_find_what_waits, runs_make_history};
+use fax_spool::laws::{
+    crashes_leave_what_waits, new_spools_tell_none, stopped_openings_leave_what_waits,
+};
+use sqlite_disk::Disk;
+
+/// Over two files that tell nothing a line has a past in which nothing was done.
+pub fn new_files_have_no_past()
+    ensures { NewFilesHaveNoPast }
+{
+    new_spools_tell_none();
+}
+
+/// Openings that stop leave the past, however many of them.
+pub fn stopped_openings_leave_the_past()
+    ensures { StoppedOpeningsLeaveThePast }
+{
+    stopped_openings_leave_what_waits();
+}
+
+/// A run leads from what its files held to whatever a crash leaves of them: the line has one life more, which is that run.
+pub fn runs_cross<D: Disk>()
+    ensures { RunsCross D.seen D.may_leave D.is_usable (λ (keeper : KeeperShown D). keeper.keeping.shelves.items) (λ (keeper : KeeperShown D). keeper.keeping.spool) }
+{
+    openings_find_what_waits::<D>();
+    runs_make_history::<D>();
+    crashes_leave_what_waits::<D>();
+}
+
+/// Any number of runs, each over files of a type of its own, from new files on, whatever crashes came between them, and however many
+/// openings stopped: the line has a past with one life for each of them.
+pub fn runs_join()
+    ensures { RunsJoin }
+{
+    new_spools_tell_none();
+    stopped_openings_leave_what_waits();
+}
+
+/// A run may be any of these, by what its files held and what a crash left of them; and behind any number of them it is one life more,
+/// whatever a crash leaves.
+pub fn runs_go_on<D: Disk>()
+    ensures leads { RunsLead D.seen D.may_leave D.is_usable (λ (keeper : KeeperShown D). keeper.keeping.shelves.items) (λ (keeper : KeeperShown D). keeper.keeping.spool) }
+    ensures goes_on { RunsGoOn D.seen D.may_leave D.is_usable (λ (keeper : KeeperShown D). keeper.keeping.shelves.items) (λ (keeper : KeeperShown D). keeper.keeping.spool) }
+{
+    runs_join();
+    runs_cross::<D>();
+}
+
+/// Each past of a line can be had over files that are not empty.
+pub fn pasts_have_files()
+    ensures { PastsHaveFiles }
+{}
