@@ -1,5 +1,6 @@
 //! Whole lives of a spool over disks of memory.
 use fax_jobs::Outcome;
+use fax_restarts::{open_again, open_over};
 use fax_runcodes::{Format, Width};
 use fax_spool::{EndedRecord, Opened, PageRecord, RecordFile, Spool, WaitingPage, open_spool};
 use sqlite_disk::{Disk, Fuse, Memory};
@@ -21,18 +22,7 @@ fn fresh(alloc: Global) -> io::Result<Opened<Memory>> {
 /// The process is gone, and another one opens the files, in the other order.
 fn reopened(alloc: Global, spool: Spool<Memory>) -> io::Result<Opened<Memory>> {
     let (older, newer) = spool.into_files();
-    over(alloc, newer.disk.bytes(), older.disk.bytes())
-}
-
-/// A spool over two files of these octets.
-fn over(alloc: Global, one: &[u8], other: &[u8]) -> io::Result<Opened<Memory>> {
-    let mut first = Memory::new(alloc);
-    first.write_at(0, one)?;
-    first.sync()?;
-    let mut second = Memory::new(alloc);
-    second.write_at(0, other)?;
-    second.sync()?;
-    open_spool(alloc, first, second)
+    open_over(alloc, newer.disk.bytes(), older.disk.bytes())
 }
 
 /// A page of a line is put, in this life.
@@ -165,7 +155,7 @@ fn damaged_at(alloc: Global, at: usize) -> io::Result<(Vec<Told>, usize)> {
     if let Some(octet) = octets.as_mut_slice().get_mut(at) {
         *octet ^= 1;
     }
-    let opened = over(alloc, older.disk.bytes(), octets.as_slice())?;
+    let opened = open_over(alloc, older.disk.bytes(), octets.as_slice())?;
     let waits = told(alloc, opened.pages.as_slice())?;
     Ok((waits, opened.newer_damaged))
 }
@@ -201,7 +191,7 @@ fn full_disk(alloc: Global, calls: u64, together: bool) -> io::Result<(u32, bool
     };
     let refused = put(&mut spool, alloc, b"a1", 0, 4, true).is_err();
     let (older, newer) = spool.into_files();
-    let opened = over(
+    let opened = open_over(
         alloc,
         older.disk.inner().bytes(),
         newer.disk.inner().bytes(),
@@ -256,5 +246,25 @@ fn a_full_disk_claims_nothing(rt: HostRuntime) -> Result<(), Fail> {
         assert!(rt; done == if calls < 8 { 0 } else { 3 });
         assert!(rt; waits == 0 || waits == 3);
     }
+    Ok(())
+}
+
+/// What `open_again` promises of an `Ok` is not empty: it answers one, and tells the page, which closes its job as its process is gone.
+#[test]
+fn a_page_is_told_again(rt: HostRuntime) -> Result<(), Fail> {
+    let page = PageRecord {
+        life: 1,
+        call: 0,
+        number: 1,
+        format: FORMAT,
+        closes: false,
+        line: b"a1",
+        tag: b"t",
+        text: b"text",
+    };
+    let opened = open_again(rt.alloc(), &page)?;
+    let wanted: &[Told] = &[(b'1', 1, 0, 1, true)];
+    assert!(rt; told(rt.alloc(), opened.pages.as_slice())?.as_slice() == wanted);
+    assert!(rt; opened.spool.epoch() == 2);
     Ok(())
 }
