@@ -38,7 +38,10 @@ none : Ends []
 none r rest is_short e = cc e
 
 epoch_short : IsShort (kept_epoch 1)
-epoch_short = let seal = length-append (sha256 (epoch_octets 1)) (epoch_octets 1) in omega (arith, seal, length-sha256 (epoch_octets 1))
+epoch_short =
+    let number : length (epoch_octets 1) ≡ 5 = refl in
+    let seal : length (kept_epoch 1) ≡ 37 = length-append (sha256 (epoch_octets 1)) (epoch_octets 1) ∙ omega (arith, length-sha256 (epoch_octets 1), number) in
+    omega (arith, seal)
 
 pub pasts_have_files : PastsHaveFiles
 pasts_have_files writes line lives puts pages past all = (
