@@ -56,8 +56,20 @@ def install(program, steps):
             sys.exit(f"no filter of calls: {os.strerror(ctypes.get_errno())}")
 
 
-@unittest.skipUnless(platform.machine() in AUDITS and sys.platform == "linux", "calls are refused on Linux, x86-64 or AArch64")
+def are_refusable():
+    """Whether this system lets a process refuse itself calls: Linux, on a machine whose numbers are known, where that is allowed."""
+    if sys.platform != "linux" or platform.machine() not in AUDITS:
+        return False
+    nothing = [sys.executable, __file__, "socket", sys.executable, "-c", ""]
+    return subprocess.run(nothing, stderr=subprocess.DEVNULL, timeout=60).returncode == 0
+
+
 class RefusedCalls(unittest.TestCase):
+    @classmethod
+    def setUpClass(cls):
+        if not are_refusable():
+            raise unittest.SkipTest("no filter of calls on this system")
+
     def expect(self, refused, page, status, output, errors):
         words = [sys.executable, __file__, refused, os.environ["FAXGATE"], "loop"]
         ran = subprocess.run(words, input=page, capture_output=True, text=True, timeout=60)
