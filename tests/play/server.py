@@ -4,12 +4,10 @@ The program's path is in the environment variable FAXGATE. Everything has a limi
 once it ends, however it ends.
 """
 import contextlib
-import ctypes
 import json
 import os
 import select
 import shutil
-import signal
 import socket
 import subprocess
 import tempfile
@@ -19,8 +17,6 @@ import time
 LONGEST = 30
 HOST = "127.0.0.1"
 NO_SPOOL = "pages are kept in memory alone: no spool is set"
-# prctl(2): the signal that a process gets where the one that started it is gone.
-PR_SET_PDEATHSIG = 1
 # What begins the last line of an answer.
 LAST_LINES = ("ok", "refused ", "# EOF")
 
@@ -223,10 +219,6 @@ class Client:
             raise AssertionError(f"an event that was not to come: {found}")
 
 
-def _die_with_the_play():
-    ctypes.CDLL(None).prctl(PR_SET_PDEATHSIG, signal.SIGKILL)
-
-
 class Server:
     """`faxgate serve` over a configuration, in a folder of its own. As a context manager it is there and answers within, and its
     processes, its folder and its ports are gone behind.
@@ -281,7 +273,7 @@ class Server:
         return self
 
     def _begin(self, words, **streams):
-        process = subprocess.Popen([program()] + words, cwd=self.folder, preexec_fn=_die_with_the_play, **streams)
+        process = subprocess.Popen([program()] + words, cwd=self.folder, **streams)
         self._runs.append(process)
         return process
 
