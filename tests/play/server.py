@@ -12,6 +12,7 @@ import socket
 import subprocess
 import tempfile
 import time
+import unittest
 
 # How long anything is waited for that is to come, in seconds: far longer than it takes, so that a busy machine fails no play.
 LONGEST = 30
@@ -224,16 +225,17 @@ class Server:
     processes, its folder and its ports are gone behind.
 
     `config` is the text of the configuration without `control` and `spool`, or lines (`Line`). `spool`: pages are kept in a folder.
-    `control`: words come on a socket; else on standard input. `head`: further keys above the lines.
+    `control`: words come on a socket (a text: of this name, which the configuration says itself); else on standard input.
+    `head`: further keys above the lines.
     """
 
     def __init__(self, config, spool=False, control=True, head=""):
         self.folder = tempfile.mkdtemp(prefix="faxgate-play-")
-        self.control = self.path("control") if control else None
+        self.control = self.path("control" if control is True else control) if control else None
         self.spool = self.path("spool") if spool else None
         self.process, self._clients, self._runs = None, [], []
         text = config if isinstance(config, str) else "".join(line.text() for line in config)
-        if control:
+        if control is True:
             head += f"\ncontrol = '{self.control}'\n"
         if spool:
             head += f"\nspool = '{self.spool}'\n"
@@ -364,3 +366,30 @@ def finish(process, within=LONGEST):
     """The status of a run, and what it said on both streams."""
     output, errors = process.communicate(timeout=within)
     return process.returncode, output, errors
+
+
+class Play(unittest.TestCase):
+    """A play, whose servers, peers and ports are gone once it ends."""
+
+    def setUp(self):
+        self.ports = Ports()
+        self.addCleanup(self.ports.close)
+
+    def line(self, name="a1", **settings):
+        """A line of this name, with peers and settings."""
+        return Line(self.ports, name, **settings)
+
+    def serve(self, *lines, **options):
+        """A server of these lines, that answers."""
+        return self.enterContext(Server(lines, **options))
+
+    def peer(self, line, leg):
+        """The peer of a leg of a line."""
+        peer = Peer(getattr(line, leg + "_peer"), getattr(line, leg))
+        self.addCleanup(peer.close)
+        return peer
+
+
+def event_line(event):
+    """The line of an event, its moment masked."""
+    return json.dumps({**event, "at": "N"}, separators=(",", ":")).replace('"at":"N"', '"at":N')

@@ -1,0 +1,115 @@
+"""What clients of the control socket say, and what they are answered."""
+import contextlib
+import os
+import pathlib
+import socket
+
+from server import NO_SPOOL, Client, Play, Server, address, finish
+
+SAMPLE = pathlib.Path(__file__).parents[2] / "samples" / "serve.toml"
+
+IDLE = ["line a1 calling idle called idle calls 0 pages 0 waiting 0 failures 0", "ok"]
+# Lines, and what each is answered. A line has at most 256 octets.
+SAID = b"status\n\nring a2\0\n" + 256 * b"x" + b"\n" + 257 * b"y" + b"\nhangup a2 calling\nnever ended"
+ANSWERED = IDLE + ["refused 8 NoWord", "refused 7 NoLine", "refused 8 NoWord", "refused 9 TooLong", "refused 7 NoLine"]
+
+
+class Words(Play):
+    def test_lines_come_whole(self):
+        """What is heard does not depend on how the octets are cut into pieces."""
+        server = self.serve(self.line())
+        for size in (1, 3, 7, 255, 256, 257, 1000):
+            with self.subTest(size=size), contextlib.closing(Client.connect(server.control)) as client:
+                for at in range(0, len(SAID), size):
+                    client.send(SAID[at : at + size])
+                self.assertEqual([client.line() for _ in ANSWERED], ANSWERED)
+                self.assertIsNone(client.line(within=0.05))
+
+    def test_words_are_answered_in_their_order(self):
+        """A word is heard once it is whole; the next one is answered behind it."""
+        client = self.serve(self.line()).client()
+        client.send(b"sta")
+        self.assertIsNone(client.line(within=0.3))
+        client.send(b"tus\nreport a2\nreport a1\n")
+        self.assertEqual([client.answer() for _ in range(3)], [IDLE, ["refused 7 NoLine"], ["ok"]])
+
+    def test_the_last_word_is_answered(self):
+        """A client that says no more is answered still, and then let go."""
+        client = self.serve(self.line()).client()
+        client.send(b"status\n")
+        client.stream.shutdown(socket.SHUT_WR)
+        self.assertEqual(client.answer(), IDLE)
+        client.stream.settimeout(30)
+        self.assertEqual(client.stream.recv(1), b"")
+
+    def test_each_client_has_its_own_answer(self):
+        server = self.serve(self.line())
+        first, second = server.client(), server.client()
+        self.assertEqual(second.say("report a2"), ["refused 7 NoLine"])
+        self.assertEqual(first.say("status"), IDLE)
+        first.send(b"report a1\n")
+        second.send(b"hangup a1 calling\n")
+        self.assertEqual((first.answer(), second.answer()), (["ok"], ["refused 11 NoCall"]))
+        self.assertIsNone(first.line(within=0.1))
+        self.assertIsNone(second.line(within=0.1))
+
+    def test_one_more_client_waits_until_one_goes(self):
+        """At most 64 clients are heard at one time."""
+        server = self.serve(self.line())
+        clients = [server.client() for _ in range(64)]
+        for client in clients:
+            self.assertEqual(client.say("report a1"), ["ok"])
+        more = server.client()
+        more.send(b"status\n")
+        self.assertIsNone(more.line(within=0.5))
+        clients.pop().close()
+        self.assertEqual(more.answer(), IDLE)
+
+    def test_a_client_that_does_not_read_holds_up_itself_alone(self):
+        server = self.serve(*(self.line(f"a{i}") for i in range(100)))
+        mute = server.client()
+        mute.stream.setblocking(False)
+        with contextlib.suppress(BlockingIOError):
+            for _ in range(100_000):
+                mute.stream.send(b"status\n")
+        for _ in range(20):
+            self.assertEqual(len(server.say("status")), 101)
+
+
+class Sockets(Play):
+    def test_a_control_socket_has_one_server(self):
+        """One on which a process serves is not taken; one that a dead process has left is, and it is gone behind a stop."""
+        line = self.line()
+        server = self.serve(line)
+        status, _, errors = finish(server.run("serve", "--config", "lines.toml"))
+        self.assertEqual((status, errors.count("\n")), (4, 1))
+        self.assertEqual(server.say("status"), IDLE)
+        server.kill()
+        self.assertTrue(os.path.exists(server.control))
+        server.start()
+        self.assertEqual(server.say("stop"), ["ok"])
+        self.assertEqual(server.ends(), 0)
+        self.assertFalse(os.path.exists(server.control))
+
+    def test_a_port_that_is_taken_is_told(self):
+        line = self.line()
+        server = self.serve(line)
+        with open(server.path("more.toml"), "w", encoding="utf-8") as file:
+            file.write(line.text().replace("a1", "a2"))
+        status, output, errors = finish(server.run("serve", "--config", "more.toml"))
+        self.assertEqual((status, errors.count("\n")), (4, 1))
+        self.assertIn('"a2"', errors)
+
+    def test_the_first_line_says_that_pages_are_in_memory_alone(self):
+        server = self.serve(self.line())
+        self.assertEqual(server.output(), NO_SPOOL + "\n")
+        server = self.serve(self.line("a2"), spool=True)
+        self.assertEqual(server.output(), "")
+
+    def test_the_sample_is_served(self):
+        """samples/serve.toml, with other ports: two lines, of which the second waits for 1 s behind a preamble."""
+        text = SAMPLE.read_text(encoding="utf-8")
+        for port in (40000, 40002, 40004, 40006, 6000, 6002, 6004, 6006):
+            text = text.replace(address(port), address(self.ports.take()))
+        server = self.enterContext(Server(text, control="faxgate.sock"))
+        self.assertEqual(server.say("status"), [IDLE[0], IDLE[0].replace("a1", "a2"), "ok"])
