@@ -70,6 +70,11 @@ class Machine:
         # each datagram that came, once, and when, in seconds
         self.came = []
 
+    def begin_anew(self):
+        """Another call begins, whose datagrams are counted from 0 again."""
+        self.sent, self.newest = 0, -1
+        self.came.clear()
+
     def send(self, *packets):
         """Sends packets, a datagram each."""
         for packet in packets:
@@ -107,6 +112,10 @@ class Caller(Machine):
     def train(self):
         """Waits until it may send a page."""
         self.wait_for(GATEWAY_DIS)
+        self.check()
+
+    def check(self):
+        """Says how it sends, and has its training check confirmed."""
         self.send(CALLER_DCS, TRAINING, CHECK)
         self.wait_for(CFR)
 

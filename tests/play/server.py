@@ -190,10 +190,9 @@ class Client:
 
     def say(self, word, within=LONGEST):
         """The lines that a word is answered with."""
-        self.send(word.encode() + b"\n")
-        lines = self.answer(within)
         self._tells_events = self._tells_events or word == "events"
-        return lines
+        self.send(word.encode() + b"\n")
+        return self.answer(within)
 
     def event(self, kind, within=LONGEST, **members):
         """The first event of this kind with these members that came and was not taken; waits for it."""

@@ -1,0 +1,207 @@
+"""Events: who is told them, and what each says."""
+import fcntl
+import os
+import resource
+import signal
+import struct
+import termios
+import time
+from concurrent.futures import ThreadPoolExecutor
+
+from calls import CALLER_DCN, CALLER_EOP, MCF, PAGE, PREAMBLE, RTN, TRAINING, Called, Caller, image
+from server import Play, event_line, until
+
+# The most lines that wait for a client, beside the one that is being written.
+MOST_WAITING = 1024
+
+
+class Told(Play):
+    def test_events_are_told_to_who_wants_them(self):
+        server = self.serve(self.line())
+        wants, other = server.events(), server.client()
+        self.assertEqual(other.say("ring a1 tag"), ["ok 0"])
+        self.assertEqual(
+            event_line(wants.event("rung")), '{"event":"rung","line":"a1","at":N,"call":0,"tag":"tag"}'
+        )
+        self.assertEqual(other.say("hangup a1 calling"), ["ok"])
+        wants.event("ended")
+        self.assertIsNone(other.line(within=0.2))
+        self.assertEqual(other.say("events"), ["ok"])
+        server.say("ring a1")
+        for client in (wants, other):
+            self.assertEqual(
+                event_line(client.event("rung")), '{"event":"rung","line":"a1","at":N,"call":1,"tag":null}'
+            )
+
+    def test_moments_are_milliseconds_since_the_begin(self):
+        server = self.serve(self.line())
+        events, begun = server.events(), time.monotonic()
+        server.say("ring a1")
+        first = events.event("rung")["at"]
+        server.say("hangup a1 calling")
+        events.event("ended")
+        time.sleep(1)
+        server.say("ring a1")
+        second = events.event("rung")["at"]
+        spent = (time.monotonic() - begun) * 1000
+        self.assertTrue(1000 <= second - first <= spent, (first, second, spent))
+
+    def test_a_slow_reader_is_told_what_it_lost(self):
+        """It loses whole lines, behind those that wait; it is told at their place how many, and they are counted."""
+        lines = [self.line(f"a{i}") for i in range(60)]
+        for line in lines:
+            line.calling_peer = lines[0].calling_peer
+        self.peer(lines[0], "calling")
+        server = self.serve(*lines)
+        slow, fast, says = server.events(), server.events(), server.client()
+        all_told = self.rings(says, fast, lines, 12)
+        waiting = struct.unpack("i", fcntl.ioctl(slow.stream, termios.FIONREAD, b"\0" * 4))[0]
+        taken = self.lines_of(slow, waiting)
+        told = list(taken)
+        while not (line := slow.line()).startswith('{"event":"lost"'):
+            told.append(line)
+        lost = len(all_told) - len(told)
+        self.assertEqual(line, '{"event":"lost","lines":%d}' % lost)
+        self.assertEqual(told, all_told[: len(told)])
+        self.assertIn(len(told) - len(taken), (MOST_WAITING, MOST_WAITING + 1))
+        self.assertIsNone(slow.line(within=0.2))
+        self.assertEqual(server.metrics()["faxgate_events_lost_total"], lost)
+        says.say("ring a0")
+        self.assertTrue(slow.line().startswith('{"event":"rung","line":"a0"'))
+
+    def rings(self, says, reads, lines, rounds):
+        """All events of so many calls of each line, which are hung up."""
+        told = []
+        for _ in range(rounds):
+            for word in ("ring %s", "hangup %s calling"):
+                for line in lines:
+                    self.assertEqual(says.say(word % line.name)[0][:2], "ok")
+                count = len(told) + len(lines)
+                while len(told) < count:
+                    told.append(reads.line())
+        return told
+
+    def lines_of(self, client, octets):
+        """The lines of so many octets that wait for a client."""
+        lines = []
+        while octets > 0:
+            lines.append(client.line())
+            octets -= len(lines[-1]) + 1
+        self.assertEqual(octets, 0)
+        return lines
+
+
+# Texts that mean no page, and what is told of each.
+FAULTS = [
+    ("ff", '"fault":"NoEol","fault_number":1'),
+    ("00143f", '"fault":"BadLine","fault_number":2,"row":0'),
+    ("0014d9a80080080080080080", '"fault":"NoRtc","fault_number":3'),
+    ("001001001001001001", '"fault":"Empty","fault_number":4'),
+]
+
+
+class Kinds(Play):
+    """What each event says, octet for octet but for its moment."""
+
+    def begin(self, tag="x"):
+        """A line whose call was rung, its caller, and a client that is told events."""
+        line = self.line()
+        self.server = self.serve(line)
+        self.caller = Caller(self.peer(line, "calling"))
+        self.called = Called(self.peer(line, "called"))
+        self.events = self.server.events()
+        self.ring(0, tag)
+
+    def ring(self, call, tag):
+        self.assertEqual(self.server.say(f"ring a1 {tag}"), [f"ok {call}"])
+        self.events.event("rung", call=call)
+
+    def assert_told(self, kind, members, **wanted):
+        """The next event of a kind says this."""
+        line = event_line(self.events.event(kind, **wanted))
+        self.assertEqual(line, '{"event":"%s","line":"a1","at":N,%s}' % (kind, members))
+
+    def test_a_call_and_its_job(self):
+        self.begin('order"7"')
+        self.assertEqual(self.caller.call(), MCF)
+        self.assert_told("page", '"call":0,"number":1,"width":1728,"resolution":"standard","rows":1')
+        self.assert_told("ended", '"call":0,"how":"Done"')
+        self.assert_told("dial", '"call":0,"tag":"order\\"7\\""')
+        self.called.take_page()
+        self.assert_told(
+            "job",
+            '"call":0,"tag":"order\\"7\\"","width":1728,"resolution":"standard","pages":1,"delivered":1,"outcome":"Delivered"',
+        )
+        self.assertEqual(self.events.events, [])
+
+    def test_pages_that_are_refused(self):
+        """An RTN tells why: the text means no page, or something is missing in it, or there is none."""
+        self.begin()
+        self.caller.train()
+        for text, told in FAULTS:
+            self.assertEqual(self.caller.send_page(text), RTN)
+            self.assert_told("refused_page", f'"call":0,"tag":"x",{told}')
+            self.caller.check()
+        self.caller.send(TRAINING)
+        self.caller.sent += 1
+        self.caller.send(image(PAGE), PREAMBLE, CALLER_EOP)
+        self.caller.wait_for(RTN)
+        self.assert_told("refused_page", '"call":0,"tag":"x","fault":"NotWhole"')
+        self.assertEqual(self.server.metrics()["faxgate_pages_refused_total"], 5)
+        self.caller.send(PREAMBLE, CALLER_DCN)
+        self.assert_told("ended", '"call":0,"how":"Done"')
+
+    def test_ends_of_calls(self):
+        """A caller says DCN, is gone, or says nothing for 6 s where a training was begun."""
+        self.begin()
+        self.caller.train()
+        self.caller.send(PREAMBLE, CALLER_DCN)
+        self.assert_told("ended", '"call":0,"how":"Done"')
+        self.ring(1, "y")
+        self.server.say("hangup a1 calling")
+        self.assert_told("ended", '"call":1,"how":"HungUp"')
+        self.ring(2, "z")
+        self.caller.begin_anew()
+        self.caller.train()
+        begun = time.monotonic()
+        self.assert_told("ended", '"call":2,"how":"GivenUp"')
+        self.assertGreater(time.monotonic() - begun, 5)
+        self.assertEqual(self.events.events, [])
+
+    def test_a_machine_that_is_gone(self):
+        """Its job ends, with no page delivered, and its call's tag is told."""
+        self.begin()
+        self.assertEqual(self.caller.call(), MCF)
+        self.events.event("dial")
+        self.assertEqual(self.server.say("hangup a1 called"), ["ok"])
+        self.assert_told(
+            "job",
+            '"call":0,"tag":"x","width":1728,"resolution":"standard","pages":1,"delivered":0,"outcome":"HungUp"',
+        )
+
+    def test_a_port_that_is_closed(self):
+        """Receives or sends that fail are told, and counted."""
+        self.begin()
+        self.caller.peer.close()
+        event = self.events.event("wire", line="a1", leg="calling")
+        self.assertEqual(list(event), ["event", "line", "at", "leg", "direction", "failures"])
+        self.assertIn(event["direction"], ("receives", "sends"))
+        counts = self.server.metrics()
+        failures = counts["faxgate_receive_failures_total"] + counts["faxgate_send_failures_total"]
+        self.assertGreaterEqual(failures, 1)
+
+    def test_turns_that_are_late(self):
+        """Behind a rest of the process of less than 1 s turns are made at once; behind a longer one time is skipped."""
+        self.begin()
+        os.kill(self.server.process.pid, signal.SIGSTOP)
+        time.sleep(0.4)
+        os.kill(self.server.process.pid, signal.SIGCONT)
+        event = self.events.event("late", line="a1")
+        self.assertEqual(list(event), ["event", "line", "at", "ms"])
+        self.assertTrue(100 < event["ms"] <= event["at"], event)
+        until(lambda: self.server.metrics()["faxgate_turns_late_total"] > 200)
+        self.assertEqual(self.server.metrics()["faxgate_skipped_milliseconds_total"], 0)
+        os.kill(self.server.process.pid, signal.SIGSTOP)
+        time.sleep(1.5)
+        os.kill(self.server.process.pid, signal.SIGCONT)
+        until(lambda: self.server.metrics()["faxgate_skipped_milliseconds_total"] >= 1400)
