@@ -178,7 +178,8 @@ class Heard(NamedTuple):
 
 
 class Ear:
-    """Reads datagrams in their order, and tells what they say."""
+    """Reads the datagrams of a call in their order, and tells what they say. The call begins with the first packet of all: what is left
+    of the call before says nothing."""
 
     def __init__(self):
         self._wanted = None
@@ -188,7 +189,9 @@ class Ear:
         """What a datagram says that was not heard yet."""
         number, packets = read_datagram(octets)
         if self._wanted is None:
-            self._wanted = number - len(packets) + 1
+            if number != len(packets) - 1:
+                return []
+            self._wanted = 0
         ahead = (number - self._wanted + 32768) % 65536 - 32768
         if ahead < 0:
             return []
@@ -299,8 +302,12 @@ class Leg:
             if way == "in":
                 told += self._ear.hear(octets)
             elif self.peer:
-                self.socket.sendto(octets, (HOST, self.peer))
+                self.hand(octets)
         return told
+
+    def hand(self, octets):
+        """Hands a datagram to the system."""
+        self.socket.sendto(octets, (HOST, self.peer))
 
     def listen(self, seconds):
         """What is heard in so many seconds; it returns at once where something is."""
@@ -325,6 +332,11 @@ class Leg:
         self.came.append((seconds + nanoseconds / 1e9, octets, sender[1]))
         for late in self._comes(number, octets):
             self._put("in", late, octets)
+
+    def drain(self):
+        """Receives what the system has, by now."""
+        while select.select([self.socket], [], [], 0)[0]:
+            self._receive()
 
     def close(self):
         self.socket.close()
@@ -416,8 +428,8 @@ class Machine(threading.Thread):
 class Calling(Machine):
     """A machine that calls and sends pages, each the text of one by T.4, with the bits of its format in a DCS.
 
-    `commands`: what stands behind each page; MPS, and EOP behind the last one, where nothing is said. `confirmed`: how many pages
-    an MCF answered. `t4`: how long it waits for an answer, in seconds. It asks three times.
+    `commands`: what stands behind each page; MPS, and EOP behind the last one, where nothing is said; None: it is gone, without a word.
+    `confirmed`: how many pages an MCF answered. `t4`: how long it waits for an answer, in seconds. It asks three times.
     """
 
     def __init__(self, leg, pages, bits=(), modem=V27_2400, commands=None, t1=T1_SECONDS, t4=T4_SECONDS, hangs_up=True, **more):
@@ -431,11 +443,14 @@ class Calling(Machine):
 
     def call(self):
         self.leg.send(indicator(CNG))
-        self.await_frame((DIS,), self._t1)
-        self.hears_dis = True
+        self.hears_dis = self.await_frame((DIS,), self._t1) is not None
+        if not self.hears_dis:
+            raise Hidden
         self.train()
         for page, command in zip(self.pages, self.commands):
             self.send(image(self.modem, page))
+            if command is None:
+                raise Hidden
             self.answers.append(self.ask(command))
             if self.answers[-1] != MCF:
                 break
@@ -502,9 +517,18 @@ class Called(Machine):
                 return
             self.leg.send(indicator(CED))
             self.pause(ANSWER_SECONDS)
-            self.say(DIS, field_of(self.bits))
+            self.identify()
             while self.hears(self.next(T1_SECONDS)):
                 pass
+
+    def identify(self):
+        """Says DIS, and again until something comes, for as long as T1."""
+        end = time.monotonic() + T1_SECONDS
+        while time.monotonic() < end and not self._waiting:
+            self.say(DIS, field_of(self.bits))
+            heard = self.next(T4_SECONDS)
+            if heard:
+                self._waiting.insert(0, heard)
 
     def hears(self, heard):
         """Answers what is heard. Whether the call goes on."""
