@@ -66,14 +66,14 @@ class Machine:
     """What both machines have: a peer's socket, the packets that came, and the number of the next datagram that is sent."""
 
     def __init__(self, peer):
-        self.peer, self.sent, self.newest = peer, 0, -1
-        # each datagram that came, once, and when, in seconds
-        self.came = []
+        self.peer = peer
+        self.begin_anew()
 
     def begin_anew(self):
-        """Another call begins, whose datagrams are counted from 0 again."""
-        self.sent, self.newest = 0, -1
-        self.came.clear()
+        """A call begins, whose datagrams are counted from 0; what is left of one before it is passed over."""
+        self.sent, self.newest = 0, None
+        # each datagram that came, once, and when, in seconds
+        self.came = []
 
     def send(self, *packets):
         """Sends packets, a datagram each."""
@@ -88,7 +88,7 @@ class Machine:
             if octets is None:
                 return None
             came = Datagram(octets)
-            if came.number > self.newest:
+            if came.number == 0 if self.newest is None else came.number > self.newest:
                 self.newest = came.number
                 self.came.append((time.monotonic(), came))
                 return came.packet
@@ -100,6 +100,10 @@ class Machine:
             if packet in packets:
                 return packet
         raise AssertionError(f"none of {packets} came, but {self.packets()}")
+
+    def next_within(self, seconds):
+        """The next packet; None where none comes in so many seconds."""
+        return self.next(time.monotonic() + seconds)
 
     def packets(self):
         """The packets that came."""

@@ -120,6 +120,11 @@ class Peer:
             self.hear(max(0, end - time.monotonic()))
         return [(moment, octets) for moment, octets, _ in self.heard[first:]]
 
+    def forget(self):
+        """What came and was not heard is dropped."""
+        while self.hear(0) is not None:
+            pass
+
     def close(self):
         self.socket.close()
 
@@ -233,14 +238,19 @@ class Server:
         self.control = self.path("control" if control is True else control) if control else None
         self.spool = self.path("spool") if spool else None
         self.process, self._clients, self._runs = None, [], []
-        text = config if isinstance(config, str) else "".join(line.text() for line in config)
         if control is True:
             head += f"\ncontrol = '{self.control}'\n"
         if spool:
             head += f"\nspool = '{self.spool}'\n"
             os.mkdir(self.spool)
+        self._head = head
+        self.configure(config)
+
+    def configure(self, config):
+        """What it is started with from now on."""
+        text = config if isinstance(config, str) else "".join(line.text() for line in config)
         with open(self.path("lines.toml"), "w", encoding="utf-8") as file:
-            file.write(head + text)
+            file.write(self._head + text)
 
     def path(self, name):
         """The path of a file in the server's folder."""
@@ -264,6 +274,8 @@ class Server:
                 stdin=subprocess.DEVNULL if self.control else subprocess.PIPE,
                 stdout=output if self.control else subprocess.PIPE,
                 stderr=errors,
+                # A write beyond a limit of the file's size fails, and ends no server.
+                restore_signals=not self.spool,
             )
         if self.control:
             until(self._answers, what="the server's answer")
