@@ -3,58 +3,15 @@ import contextlib
 import time
 import unittest
 
-import t4
 import t38
-from server import Line, Ports, Server
+from playing import OTHER_PAGE, PAGE, Playing, numbers
+from server import Line, Server
 
-# A page of two rows, of which the second begins with one black element and ends with eight; and one of another two.
-ROWS = [[1728], [0, 1, 1719, 8]]
-OTHER_ROWS = [[100, 3, 1625], [1728]]
-PAGE, OTHER_PAGE = t4.text(ROWS), t4.text(OTHER_ROWS)
 # How long behind its first send a datagram is sent again, in seconds.
 FULL, LAST, NONE = [0.02, 0.06, 0.14, 0.3, 0.62, 1.26], [0.04], []
 # By so much a moment may be another one, in seconds. A busy machine is later at times, so some lines are looked at, some times: of
 # what is tried, one has to come out right.
 EARLY, LATE, LINES, TRIES = 0.008, 0.015, 3, 4
-
-
-class Playing(unittest.TestCase):
-    """A play with ports of its own."""
-
-    def setUp(self):
-        self.ports = Ports()
-        self.addCleanup(self.ports.close)
-        self.stack = contextlib.ExitStack()
-        self.addCleanup(self.stack.close)
-
-    def serve(self, *lines, **more):
-        """A server of these lines, and a client that is told events."""
-        server = self.stack.enter_context(Server(lines, **more))
-        return server, server.events()
-
-    def calling(self, line, pages=(PAGE,), comes=t38.clear, goes=t38.clear, **more):
-        """A machine that calls on a line."""
-        leg = t38.Leg(line.calling_peer, line.calling, goes=goes, comes=comes)
-        return self.stack.enter_context(t38.Calling(leg, list(pages), **more))
-
-    def called(self, line, comes=t38.clear, goes=t38.clear, **more):
-        """A machine that is called by a line."""
-        leg = t38.Leg(line.called_peer, goes=goes, comes=comes)
-        return self.stack.enter_context(t38.Called(leg, **more))
-
-    def listens(self, port):
-        """A socket at a port, which says nothing."""
-        leg = t38.Leg(port)
-        self.addCleanup(leg.close)
-        return leg
-
-    def ring(self, server, line, tag=""):
-        self.assertEqual(server.say(f"ring {line.name} {tag}".rstrip()), ["ok 0"])
-
-
-def numbers(came):
-    """The numbers of datagrams, in the order in which they came."""
-    return [t38.read_datagram(octets)[0] for _, octets, _ in came]
 
 
 class APageGoesThrough(Playing):

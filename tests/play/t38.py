@@ -429,11 +429,12 @@ class Calling(Machine):
     """A machine that calls and sends pages, each the text of one by T.4, with the bits of its format in a DCS.
 
     `commands`: what stands behind each page; MPS, and EOP behind the last one, where nothing is said; None: it is gone, without a word.
-    `confirmed`: how many pages an MCF answered. `t4`: how long it waits for an answer, in seconds. It asks three times.
+    `confirmed`: how many pages an MCF answered. `at_mcf`: what is done as soon as one is heard. `t4`: how long it waits for an answer, in seconds. It asks three times.
     """
 
-    def __init__(self, leg, pages, bits=(), modem=V27_2400, commands=None, t1=T1_SECONDS, t4=T4_SECONDS, hangs_up=True, **more):
+    def __init__(self, leg, pages, bits=(), modem=V27_2400, commands=None, t1=T1_SECONDS, t4=T4_SECONDS, hangs_up=True, at_mcf=None, **more):
         super().__init__(leg, **more)
+        self._at_mcf = at_mcf
         self.pages, self.bits, self.modem = pages, bits, modem
         self.commands = commands or [MPS] * (len(pages) - 1) + [EOP]
         self.confirmed, self.answers, self.hears_dis = 0, [], False
@@ -490,6 +491,8 @@ class Calling(Machine):
         for _ in range(MOST_TRIES):
             self.say(command | X)
             answer = self.await_frame((MCF, RTN), self._t4)
+            if answer and answer[0] == MCF and self._at_mcf:
+                self._at_mcf()
             if answer:
                 self.pause(ANSWER_SECONDS)
                 return answer[0]

@@ -9,10 +9,12 @@ import unittest
 
 import t4
 import t38
-from server import HOST, Ports, address, finish, program, until
+from playing import PAGE, ROWS
+from server import Ports, address, finish, program, until
 
-ROWS = [[1728], [0, 1, 1719, 8]]
-PAGE = t4.text(ROWS)
+# A page of other two rows.
+OTHERS = [[100, 3, 1625], [1720, 8]]
+# How the line of a job begins.
 STANDARD = "job 0 1728 standard"
 
 
@@ -23,7 +25,7 @@ def picture_of(seed, rows=12):
     return b"P4\n1728 %d\n" % rows + bytes(octets)
 
 
-class Playing(unittest.TestCase):
+class InAFolder(unittest.TestCase):
     """A play in a folder of its own, whose runs are ended."""
 
     def setUp(self):
@@ -99,7 +101,7 @@ def is_open(port):
         return any(line.split()[1].endswith(f":{port:04X}") for line in table.readlines()[1:])
 
 
-class PagesAreDelivered(Playing):
+class PagesAreDelivered(InAFolder):
     def test_from_a_terminal_to_the_other(self):
         """Picture i is page i, with each of its octets, in the coding that both have."""
         pictures = [picture_of(seed) for seed in range(3)]
@@ -111,15 +113,14 @@ class PagesAreDelivered(Playing):
         self.assertEqual([self.read(name) for name in self.pages()], pictures)
 
 
-class PagesAreSent(Playing):
+class PagesAreSent(InAFolder):
     def test_in_one_dimension(self):
         """To a machine without the two-dimensional coding: DCS asks for none, and each page is the text that T.4 has of it."""
-        others = [[100, 3, 1625], [1720, 8]]
-        names = [self.write("one.pbm", t4.picture(ROWS)), self.write("other.pbm", t4.picture(others))]
+        names = [self.write("one.pbm", t4.picture(ROWS)), self.write("other.pbm", t4.picture(OTHERS))]
         called = self.called()
         self.assert_ended(self.send(called.leg.port, *names), 0, f"{STANDARD} 2 2 Delivered\n")
         called.end()
-        self.assertEqual(called.pages, [PAGE, t4.text(others)])
+        self.assertEqual(called.pages, [PAGE, t4.text(OTHERS)])
         self.assertEqual(called.commands, [t38.MPS, t38.EOP])
         self.assertFalse(t38.has_bit(called.formats[0], t38.TWO_D))
 
@@ -131,7 +132,7 @@ class PagesAreSent(Playing):
         self.assertTrue(t38.has_bit(called.formats[0], t38.TWO_D))
 
 
-class DatagramsAreLost(Playing):
+class DatagramsAreLost(InAFolder):
     def test_sending(self):
         """Each fifth datagram is lost in both directions; the page comes."""
         called = self.called(comes=t38.losing(5), goes=t38.losing(5))
@@ -148,7 +149,7 @@ class DatagramsAreLost(Playing):
         self.assertEqual((calling.confirmed, self.read("got-0-1.pbm")), (1, t4.picture(ROWS)))
 
 
-class NobodyAnswers(Playing):
+class NobodyAnswers(InAFolder):
     def test_t1_ends_the_call(self):
         """35 s (T.30, 5.4.3.1), and then DCN and its repeats."""
         silent = t38.Leg()
@@ -158,7 +159,7 @@ class NobodyAnswers(Playing):
         self.assertTrue(35 <= time.monotonic() - begun < 42, time.monotonic() - begun)
 
 
-class CallsThatFail(Playing):
+class CallsThatFail(InAFolder):
     def test_a_called_machine_refuses(self):
         """One that does not receive (bit 10 of its DIS)."""
         called = self.called(bits=tuple(bit for bit in t38.DIS_BITS if bit != 10))
@@ -183,21 +184,20 @@ class CallsThatFail(Playing):
         self.assertEqual(called.pages, [PAGE])
 
 
-class PagesAreReceived(Playing):
+class PagesAreReceived(InAFolder):
     def test_calls_behind_one_another(self):
         """Each page is written whole, and no file is written over: a call has the first number of which no page is there."""
         kept = b"another page"
         self.write("got-1-1.pbm", kept)
         receiving, port = self.receive(calls=2)
-        others = [[100, 3, 1625], [1720, 8]]
-        for pages in ([PAGE], [t4.text(others), PAGE]):
+        for pages in ([PAGE], [t4.text(OTHERS), PAGE]):
             calling = self.calling(port, pages)
             calling.end()
             self.assertEqual(calling.confirmed, len(pages))
         self.assert_ended(receiving, 0, "")
         self.assertEqual(self.pages(), ["got-0-1.pbm", "got-1-1.pbm", "got-2-1.pbm", "got-2-2.pbm"])
         found = [self.read(name) for name in self.pages()]
-        self.assertEqual(found, [t4.picture(ROWS), kept, t4.picture(others), t4.picture(ROWS)])
+        self.assertEqual(found, [t4.picture(ROWS), kept, t4.picture(OTHERS), t4.picture(ROWS)])
 
     def test_a_page_is_not_kept(self):
         """Where it cannot be written, it is not confirmed: the run ends with what went wrong."""
@@ -217,7 +217,7 @@ class PagesAreReceived(Playing):
         self.assertNotIn(t38.MCF, [frame[0] for frame in calling.frames])
 
 
-class PicturesAreRead(Playing):
+class PicturesAreRead(InAFolder):
     # heads of pictures (pbm(5)), how many zeros stand behind them, and what is told
     FAULTS = [
         (b"P4\n1728\n", 216, "no P4 picture"),

@@ -1,0 +1,375 @@
+"""The spool of `faxgate serve`: pages that survive a crash, what stands in its files, and disks that are full or damaged."""
+import contextlib
+import hashlib
+import os
+import resource
+import struct
+import time
+import unittest
+
+import t4
+import t38
+from playing import PAGE, Playing, numbers
+from server import Line, Server, until
+
+# A page of one row: as a machine sends it, and as its record has it, in the two-dimensional coding.
+ROW = [[0, 1, 1719, 8]]
+OTHER_ROW = [[100, 3, 1625]]
+FILES = ("pages", "pages-wal")
+# What the records of pages, of jobs that ended and of epochs begin with.
+PAGE_KIND, ENDED_KIND, EPOCH = b"\x01", b"\x02", b"\x03"
+DELIVERED, PAGE_REFUSED = 0, 7
+# How many lines there are from one to the next in the same slot.
+SLOTS = 40
+
+
+# Records (docs/ARCHITECTURE.md): a gate, the length, a SHA-256 digest, and what it is of.
+
+
+def record(octets):
+    """A record of these octets, behind its open gate."""
+    sealed = hashlib.sha256(octets).digest() + octets
+    return b"\x01" + struct.pack(">I", len(sealed)) + sealed
+
+
+def file_of(*records):
+    """A file of records, with a shut gate behind them."""
+    return b"".join(map(record, records)) + b"\x00"
+
+
+def short(text):
+    return bytes([len(text)]) + text
+
+
+def epoch(number):
+    return EPOCH + struct.pack(">I", number)
+
+
+def page(line, life, call, number, text, closes=True, tag=b"", width=0, fine=False):
+    """The record of a page; the widths are 0 to 2."""
+    head = PAGE_KIND + struct.pack(">III", life, call, number) + bytes([width, fine, closes])
+    return head + short(line) + short(tag) + text
+
+
+def ended(line, life, call, first, pages, delivered, outcome=DELIVERED, width=0, fine=False):
+    """The record of a job that ended."""
+    head = ENDED_KIND + struct.pack(">IIII", life, call, pages, delivered) + bytes([width, fine, outcome])
+    return head + struct.pack(">I", first) + short(line)
+
+
+def records_in(octets):
+    """What the records that octets begin with are of; of each the digest is right."""
+    found = []
+    while octets[:1] == b"\x01":
+        length = struct.unpack(">I", octets[1:5])[0]
+        sealed, octets = octets[5 : 5 + length], octets[5 + length :]
+        if hashlib.sha256(sealed[32:]).digest() != sealed[:32]:
+            raise AssertionError("a digest is wrong")
+        found.append(sealed[32:])
+    return found
+
+
+def kept(rows):
+    """The text of a page of one row in its record."""
+    return t4.text(rows, two_d=True)
+
+
+class Limited(Server):
+    """A server whose disk may be full: a write behind a place in a file fails, as the limit of file sizes has it (setrlimit(2))."""
+
+    def _begin(self, words, **streams):
+        # so that the signal of that limit stays ignored, as this program has it
+        return super()._begin(words, restore_signals=False, **streams)
+
+    def limit(self, octets):
+        _, most = resource.prlimit(self.process.pid, resource.RLIMIT_FSIZE)
+        resource.prlimit(self.process.pid, resource.RLIMIT_FSIZE, (octets, most))
+
+
+class Spooling(Playing):
+    def serve(self, *lines, files=None):
+        """A server of these lines with a spool, in which these files stand."""
+        server = Limited(lines, spool=True)
+        self.addCleanup(server.close)
+        for name, octets in (files or {}).items():
+            self.write(server, name, octets)
+        return server.start()
+
+    @staticmethod
+    def write(server, name, octets):
+        with open(os.path.join(server.spool, name), "wb") as file:
+            file.write(octets)
+
+    @staticmethod
+    def file(server, name):
+        with open(os.path.join(server.spool, name), "rb") as file:
+            return file.read()
+
+    def records(self, server):
+        """What stands in the file that tells records; the other one tells none."""
+        told = [records_in(self.file(server, name)) for name in FILES]
+        self.assertIn([], told)
+        return told[0] + told[1]
+
+    def silent(self, line):
+        """A called machine that answers nothing."""
+        return self.stack.enter_context(contextlib.closing(t38.Leg(line.called_peer)))
+
+    def jobs(self, events, *wanted):
+        """Awaits these jobs: line, call, tag, pages, all of which are delivered."""
+        for line, call, tag, pages in wanted:
+            events.event("job", line=line, call=call, tag=tag, pages=pages, delivered=pages, outcome="Delivered")
+
+
+class RecordsHaveTheirOctets(unittest.TestCase):
+    def test_of_this_model(self):
+        """Worked by hand."""
+        self.assertEqual(
+            page(b"a1", 2, 3, 1, b"\x00\x01", tag=b"x", fine=True),
+            b"\x01\0\0\0\x02\0\0\0\x03\0\0\0\x01\0\x01\x01\x02a1\x01x\x00\x01",
+        )
+        self.assertEqual(
+            ended(b"a1", 2, 3, 1, 2, 1, PAGE_REFUSED, width=2), b"\x02\0\0\0\x02\0\0\0\x03\0\0\0\x02\0\0\0\x01\x02\0\x07\0\0\0\x01\x02a1"
+        )
+        # FIPS 180-4's example
+        digest = "ba7816bf8f01cfea414140de5dae2223b00361a396177a9cb410ff61f20015ad"
+        self.assertEqual(record(b"abc"), b"\x01\0\0\0\x23" + bytes.fromhex(digest) + b"abc")
+
+
+class PagesSurviveACrash(Spooling):
+    def confirm(self, server, line, call, pages, tag, **more):
+        """Pages of a call are confirmed; as soon as one is, its record is on the disk."""
+        on_disk = []
+
+        def look():
+            begin = PAGE_KIND + struct.pack(">II", 1, call)
+            found = [it for it in self.records(server) if it.startswith(begin) and short(line.name.encode()) in it]
+            on_disk.append(len(found))
+
+        machine = self.calling(line, [t4.text(it) for it in pages], at_mcf=look, **more)
+        self.assertEqual(server.say(f"ring {line.name} {tag}"), [f"ok {call}"])
+        machine.end()
+        self.assertEqual(machine.confirmed, len(pages))
+        self.assertEqual(on_disk, list(range(1, len(pages) + 1)))
+
+    def test_they_are_sent_by_the_next_life(self):
+        one, other = Line(self.ports, "a1"), Line(self.ports, "a2")
+        server = self.serve(one, other)
+        silent = [self.silent(one), self.silent(other)]
+        self.confirm(server, one, 0, [ROW, OTHER_ROW], "tag-1")
+        self.confirm(server, other, 0, [OTHER_ROW], "tag-2")
+        # a call that is on when the process ends
+        self.confirm(server, other, 1, [ROW], "tag-3", commands=[t38.MPS], hangs_up=False)
+        self.assertEqual(server.metrics()["faxgate_pages_kept"], 4)
+        server.kill()
+        before = [
+            epoch(1),
+            page(b"a1", 1, 0, 1, kept(ROW), False, b"tag-1"),
+            page(b"a1", 1, 0, 2, kept(OTHER_ROW), True, b"tag-1"),
+            page(b"a2", 1, 0, 1, kept(OTHER_ROW), True, b"tag-2"),
+            page(b"a2", 1, 1, 1, kept(ROW), False, b"tag-3"),
+        ]
+        octets = [self.file(server, name).rstrip(b"\0") for name in FILES]
+        self.assertEqual(sorted(octets), [b"", file_of(*before).rstrip(b"\0")])
+        for leg in silent:
+            leg.close()
+        called = [self.called(one), self.called(other, calls=2)]
+        server.start()
+        events = server.events()
+        # a line takes a ring at once
+        self.assertEqual(server.say("ring a1"), ["ok 0"])
+        self.jobs(events, ("a1", 0, "tag-1", 2), ("a2", 0, "tag-2", 1), ("a2", 1, "tag-3", 1))
+        for machine in called:
+            machine.end()
+        self.assertEqual([it.pages for it in called], [[t4.text(ROW), t4.text(OTHER_ROW)], [t4.text(OTHER_ROW), t4.text(ROW)]])
+        self.assertEqual(called[1].commands, [t38.EOP, t38.EOP])
+        self.assertIn('"tag":null', server.say("report a1")[0])
+        until(lambda: server.metrics()["faxgate_pages_kept"] == 0, what="the end of the jobs")
+        server.kill()
+        # no page stands there any more, and of the ends of the jobs those that are not dropped with them
+        ends = [ended(b"a1", 1, 0, 1, 2, 2), ended(b"a2", 1, 0, 1, 1, 1), ended(b"a2", 1, 1, 1, 1, 1)]
+        found = [it for name in FILES for it in records_in(self.file(server, name)) if not it.startswith(EPOCH)]
+        self.assertTrue(found)
+        self.assertLessEqual(set(found), set(ends))
+        server.start()
+        self.assertEqual(server.metrics()["faxgate_jobs_waiting"], 0)
+
+
+class FilesTakeTurns(Spooling):
+    def pages_in(self, server, name):
+        """The records of pages that a file tells."""
+        return [it for it in records_in(self.file(server, name)) if it.startswith(PAGE_KIND)]
+
+    def test_a_file_is_cleared_where_nothing_in_it_waits(self):
+        """Two files of two epochs, the newer one the first by its name: the older one's page goes out first, and then that file tells no
+        page any more, while the one of the other file waits, until that was sent too."""
+        line = Line(self.ports)
+        older = file_of(epoch(1), page(b"a1", 1, 0, 1, kept(ROW)), page(b"a1", 1, 1, 1, kept(ROW)), ended(b"a1", 1, 0, 1, 1, 1))
+        waits = page(b"a1", 3, 0, 1, kept(OTHER_ROW))
+        called = self.called(line, calls=2)
+        server = self.serve(line, files={"pages": file_of(epoch(3), waits), "pages-wal": older})
+        self.assertEqual(server.metrics()["faxgate_pages_kept"], 2)
+        until(lambda: called.pages, what="a page")
+        until(lambda: not self.pages_in(server, "pages-wal"), what="that the older file is cleared")
+        self.assertEqual(self.pages_in(server, "pages"), [waits])
+        called.end()
+        self.assertEqual(called.pages, [t4.text(ROW), t4.text(OTHER_ROW)])
+        until(lambda: not self.pages_in(server, "pages"), what="that the other file is cleared")
+
+
+class DamagedRecords(Spooling):
+    # three pages of a call, each a job
+    PAGES = [page(b"a1", 1, 0, number, kept(ROW if number == 3 else OTHER_ROW), tag=b"t") for number in (1, 2, 3)]
+
+    def damaged(self, at):
+        """The file, in which an octet of what is sealed of the second page is another."""
+        octets = bytearray(file_of(epoch(1), *self.PAGES))
+        octets[len(file_of(epoch(1), self.PAGES[0])) - 1 + 5 + at] ^= 1
+        return bytes(octets)
+
+    def test_they_are_set_aside(self):
+        """Wherever the octet is, in the digest or behind it."""
+        line = Line(self.ports)
+        self.silent(line)
+        server = self.serve(line)
+        length = 32 + len(self.PAGES[1])
+        for at in [0, 31, *range(32, length, 5), length - 1]:
+            server.kill()
+            self.write(server, "pages", b"")
+            self.write(server, "pages-wal", self.damaged(at))
+            server.start()
+            counts = server.metrics()
+            told = counts["faxgate_records_damaged_total"], counts["faxgate_pages_kept"], counts["faxgate_pages_set_aside_total"]
+            self.assertEqual(told, (1, 2, 0), at)
+
+    def test_the_others_are_sent(self):
+        line = Line(self.ports)
+        called = self.called(line, calls=2)
+        server = self.serve(line, files={"pages-wal": self.damaged(40)})
+        self.jobs(server.events(), ("a1", 0, "t", 1), ("a1", 0, "t", 1))
+        called.end()
+        self.assertEqual(called.pages, [t4.text(OTHER_ROW), t4.text(ROW)])
+
+
+class AFullDisk(Spooling):
+    def refused(self, server, line, call, pages, confirmed):
+        """A call whose disk is full behind so many pages: no MCF comes for the next, and nothing at all from then on, until it ends."""
+        events = server.events()
+        machine = self.calling(line, pages, t4=1)
+        self.assertEqual(server.say("ring a1"), [f"ok {call}"])
+        events.event("not_kept", call=call)
+        mute = time.time() + 0.1
+        machine.join(30)
+        leg = machine.leg
+        leg.drain()
+        self.assertTrue(machine.hears_dis)
+        self.assertEqual((machine.confirmed, machine.answers), (confirmed, [t38.MCF] * confirmed))
+        self.assertEqual([numbers([it]) for it in leg.came if it[0] > mute], [])
+        machine.end()
+        self.assertEqual(server.say("hangup a1 calling"), ["ok"])
+        events.event("ended", call=call, how="NotKept")
+
+    def test_it_claims_nothing(self):
+        """A page fits, and then the disk is full. What was confirmed is sent by the next life, with the page behind it at most; the pages
+        that were not kept are sent on all the same, and the next life keeps pages again."""
+        line = Line(self.ports)
+        server = self.serve(line)
+        events, called = server.events(), self.called(line, calls=2)
+        pages = [t4.text(ROW), t4.text(OTHER_ROW)]
+        server.limit(len(file_of(epoch(1), page(b"a1", 1, 0, 1, kept(ROW), False))) + 20)
+        self.refused(server, line, 0, pages, 1)
+        # the leg is mute no more, and still nothing is kept
+        self.refused(server, line, 1, pages[:1], 0)
+        self.assertEqual(server.metrics()["faxgate_put_failures_total"], 2)
+        self.jobs(events, ("a1", 0, None, 2), ("a1", 1, None, 1))
+        called.end()
+        self.assertEqual(called.pages, pages + pages[:1])
+        server.kill()
+        called = self.called(line)
+        server.start()
+        events, job = server.events(), None
+        machine = self.calling(line, pages[:1])
+        self.assertEqual(server.say("ring a1"), ["ok 0"])
+        machine.end()
+        self.assertEqual(machine.confirmed, 1)
+        job = events.event("job", call=0)
+        called.end()
+        self.assertIn(called.pages, (pages[:1], pages))
+        self.assertEqual((job["delivered"], job["outcome"]), (len(called.pages), "Delivered"))
+
+
+class TwinLeg(t38.Leg):
+    """A leg that hands what it sends to another line too, at the same moment, and keeps what comes from there."""
+
+    def __init__(self, line, twin):
+        super().__init__(line.calling_peer, line.calling)
+        self.twin = t38.Leg(twin.calling_peer, twin.calling)
+
+    def hand(self, octets):
+        super().hand(octets)
+        self.twin.hand(octets)
+
+    def close(self):
+        self.twin.close()
+        super().close()
+
+
+class PagesOfASlot(Spooling):
+    def play(self, fails):
+        """The same call on two lines of a slot. It gives the counts, and whether both calling machines heard an MCF, or neither."""
+        lines = [Line(self.ports, f"a{i}") for i in range(SLOTS + 1)]
+        server = self.serve(*lines)
+        self.silent(lines[0]), self.silent(lines[SLOTS])
+        if fails:
+            server.limit(len(file_of(epoch(1))) + 10)
+        leg = TwinLeg(lines[0], lines[SLOTS])
+        machine = self.stack.enter_context(t38.Calling(leg, [PAGE], t4=1))
+        client = server.client()
+        client.send(f"ring a0\nring a{SLOTS}\n".encode())
+        self.assertEqual([client.answer(), client.answer()], [["ok 0"], ["ok 0"]])
+        machine.join(30)
+        leg.drain()
+        leg.twin.drain()
+        heard = [any(t38.frame(t38.MCF)[1] in it[1] for it in end.came) for end in (leg, leg.twin)]
+        machine.end()
+        return server.metrics(), heard
+
+    def test_they_are_kept_at_once(self):
+        """Where both commands come in one turn of the slot, there is one put. Now and then a turn lies between both, and it is tried
+        again."""
+        for _ in range(4):
+            counts, heard = self.play(fails=False)
+            self.assertEqual((counts["faxgate_pages_kept"], heard), (2, [True, True]))
+            if counts["faxgate_puts_total"] == 1:
+                return
+        self.fail(f"{counts['faxgate_puts_total']} puts")
+
+    def test_or_none_is(self):
+        counts, heard = self.play(fails=True)
+        self.assertEqual((counts["faxgate_pages_kept"], counts["faxgate_put_failures_total"], heard), (0, 2, [False, False]))
+
+
+class Folders(Spooling):
+    def refused(self, server, said):
+        """A server that cannot open its spool ends with status 2, and says why."""
+        process = server.run("serve", "--config", server.path("lines.toml"))
+        printed, errors = process.communicate(timeout=30)
+        self.assertEqual((process.returncode, printed, errors.count("\n")), (2, "", 1), errors)
+        self.assertIn(said, errors)
+
+    def test_one_process_has_it(self):
+        server = self.serve(Line(self.ports))
+        other = Limited([Line(self.ports)], spool=True)
+        self.addCleanup(other.close)
+        with open(other.path("lines.toml"), encoding="utf-8") as file:
+            text = file.read().replace(other.spool, server.spool)
+        with open(other.path("lines.toml"), "w", encoding="utf-8") as file:
+            file.write(text)
+        self.refused(other, "another process has this spool")
+        server.kill()
+        os.rename(server.spool, server.path("away"))
+        self.refused(server, "spool: ")
+
+
+if __name__ == "__main__":
+    unittest.main()
