@@ -1,5 +1,6 @@
 """What plays of lines share: pages, and a server with machines at its legs."""
 import contextlib
+import os
 import unittest
 
 import t4
@@ -10,6 +11,8 @@ from server import Ports, Server
 ROWS = [[1728], [0, 1, 1719, 8]]
 OTHER_ROWS = [[100, 3, 1625], [1728]]
 PAGE, OTHER_PAGE = t4.text(ROWS), t4.text(OTHER_ROWS)
+# How long a job is waited for, in seconds: far longer than it takes.
+PATIENCE = 90 * int(os.environ.get("FAXGATE_SLOW", "1"))
 
 
 class Playing(unittest.TestCase):
@@ -41,6 +44,10 @@ class Playing(unittest.TestCase):
         leg = t38.Leg(port)
         self.addCleanup(leg.close)
         return leg
+
+    def await_job(self, events, **members):
+        """The event of a job with these members, which was delivered."""
+        return events.event("job", PATIENCE, outcome="Delivered", **members)
 
     def ring(self, server, line, tag=""):
         self.assertEqual(server.say(f"ring {line.name} {tag}".rstrip()), ["ok 0"])

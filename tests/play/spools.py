@@ -74,26 +74,20 @@ def kept(rows):
     return t4.text(rows, two_d=True)
 
 
-class Limited(Server):
-    """A server whose disk may be full: a write behind a place in a file fails, as the limit of file sizes has it (setrlimit(2))."""
-
-    def _begin(self, words, **streams):
-        # so that the signal of that limit stays ignored, as this program has it
-        return super()._begin(words, restore_signals=False, **streams)
-
-    def limit(self, octets):
-        _, most = resource.prlimit(self.process.pid, resource.RLIMIT_FSIZE)
-        resource.prlimit(self.process.pid, resource.RLIMIT_FSIZE, (octets, most))
-
-
 class Spooling(Playing):
     def serve(self, *lines, files=None):
         """A server of these lines with a spool, in which these files stand."""
-        server = Limited(lines, spool=True)
+        server = Server(lines, spool=True)
         self.addCleanup(server.close)
         for name, octets in (files or {}).items():
             self.write(server, name, octets)
         return server.start()
+
+    @staticmethod
+    def limit(server, octets):
+        """From now on its disk is full: a write behind this place in a file fails (setrlimit(2))."""
+        _, most = resource.prlimit(server.process.pid, resource.RLIMIT_FSIZE)
+        resource.prlimit(server.process.pid, resource.RLIMIT_FSIZE, (octets, most))
 
     @staticmethod
     def write(server, name, octets):
@@ -118,7 +112,7 @@ class Spooling(Playing):
     def jobs(self, events, *wanted):
         """Awaits these jobs: line, call, tag, pages, all of which are delivered."""
         for line, call, tag, pages in wanted:
-            events.event("job", line=line, call=call, tag=tag, pages=pages, delivered=pages, outcome="Delivered")
+            self.await_job(events, line=line, call=call, tag=tag, pages=pages, delivered=pages)
 
 
 class RecordsHaveTheirOctets(unittest.TestCase):
@@ -276,7 +270,7 @@ class AFullDisk(Spooling):
         server = self.serve(line)
         events, called = server.events(), self.called(line, calls=2)
         pages = [t4.text(ROW), t4.text(OTHER_ROW)]
-        server.limit(len(file_of(epoch(1), page(b"a1", 1, 0, 1, kept(ROW), False))) + 20)
+        self.limit(server, len(file_of(epoch(1), page(b"a1", 1, 0, 1, kept(ROW), False))) + 20)
         self.refused(server, line, 0, pages, 1)
         # the leg is mute no more, and still nothing is kept
         self.refused(server, line, 1, pages[:1], 0)
@@ -287,15 +281,15 @@ class AFullDisk(Spooling):
         server.kill()
         called = self.called(line)
         server.start()
-        events, job = server.events(), None
+        events = server.events()
         machine = self.calling(line, pages[:1])
         self.assertEqual(server.say("ring a1"), ["ok 0"])
         machine.end()
         self.assertEqual(machine.confirmed, 1)
-        job = events.event("job", call=0)
+        job = self.await_job(events, call=0)
         called.end()
         self.assertIn(called.pages, (pages[:1], pages))
-        self.assertEqual((job["delivered"], job["outcome"]), (len(called.pages), "Delivered"))
+        self.assertEqual(job["delivered"], len(called.pages))
 
 
 class TwinLeg(t38.Leg):
@@ -321,7 +315,7 @@ class PagesOfASlot(Spooling):
         server = self.serve(*lines)
         self.silent(lines[0]), self.silent(lines[SLOTS])
         if fails:
-            server.limit(len(file_of(epoch(1))) + 10)
+            self.limit(server, len(file_of(epoch(1))) + 10)
         leg = TwinLeg(lines[0], lines[SLOTS])
         machine = self.stack.enter_context(t38.Calling(leg, [PAGE], t4=1))
         client = server.client()
@@ -359,7 +353,7 @@ class Folders(Spooling):
 
     def test_one_process_has_it(self):
         server = self.serve(Line(self.ports))
-        other = Limited([Line(self.ports)], spool=True)
+        other = Server([Line(self.ports)], spool=True)
         self.addCleanup(other.close)
         with open(other.path("lines.toml"), encoding="utf-8") as file:
             text = file.read().replace(other.spool, server.spool)

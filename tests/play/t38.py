@@ -242,9 +242,14 @@ def clear(number, octets):
     return [0]
 
 
-def losing(each, first=2):
+def losing(each):
     """Each so many-th is lost."""
-    return lambda number, octets: [] if number % each == first else [0]
+    return lambda number, octets: [] if number % each == each - 1 else [0]
+
+
+def mended(number, octets):
+    """Those of preambles are lost, which the next one, that of the frame, brings back."""
+    return [] if read_datagram(octets)[1][0] == indicator(PREAMBLE) else [0]
 
 
 def repeating(number, octets):

@@ -156,7 +156,7 @@ class NobodyAnswers(InAFolder):
         self.addCleanup(silent.close)
         name, begun = self.write("page.pbm", t4.picture(ROWS)), time.monotonic()
         self.assert_ended(self.send(silent.port, name), 5, f"{STANDARD} 1 0 NoAnswer\n", "0 of 1 pages")
-        self.assertTrue(35 <= time.monotonic() - begun < 42, time.monotonic() - begun)
+        self.assertTrue(35 <= time.monotonic() - begun < 45, time.monotonic() - begun)
 
 
 class CallsThatFail(InAFolder):
