@@ -75,6 +75,11 @@ class Machine:
         # each datagram that came, once, and when, in seconds
         self.came = []
 
+    def forget(self):
+        """The same before the call is rung; what came and was not heard is dropped."""
+        self.peer.forget()
+        self.begin_anew()
+
     def send(self, *packets):
         """Sends packets, a datagram each."""
         for packet in packets:

@@ -1,15 +1,14 @@
 """Events: who is told them, and what each says."""
 import fcntl
+import json
 import os
-import resource
 import signal
 import struct
 import termios
 import time
-from concurrent.futures import ThreadPoolExecutor
 
 from calls import CALLER_DCN, CALLER_EOP, MCF, PAGE, PREAMBLE, RTN, TRAINING, Called, Caller, image
-from server import Play, event_line, until
+from server import Play, event_line, on_time, until
 
 # The most lines that wait for a client, beside the one that is being written.
 MOST_WAITING = 1024
@@ -47,7 +46,7 @@ class Told(Play):
         self.assertTrue(1000 <= second - first <= spent, (first, second, spent))
 
     def test_a_slow_reader_is_told_what_it_lost(self):
-        """It loses whole lines, behind those that wait; it is told at their place how many, and they are counted."""
+        """Behind the lines that wait it loses whole ones; it is told at their place how many, and they are counted."""
         lines = [self.line(f"a{i}") for i in range(60)]
         for line in lines:
             line.calling_peer = lines[0].calling_peer
@@ -57,28 +56,34 @@ class Told(Play):
         all_told = self.rings(says, fast, lines, 12)
         waiting = struct.unpack("i", fcntl.ioctl(slow.stream, termios.FIONREAD, b"\0" * 4))[0]
         taken = self.lines_of(slow, waiting)
-        told = list(taken)
-        while not (line := slow.line()).startswith('{"event":"lost"'):
-            told.append(line)
-        lost = len(all_told) - len(told)
-        self.assertEqual(line, '{"event":"lost","lines":%d}' % lost)
-        self.assertEqual(told, all_told[: len(told)])
+        told = taken + self.lines_until(slow, '{"event":"lost"')
+        lost = json.loads(told.pop())["lines"]
+        self.assertGreater(lost, 0)
         self.assertIn(len(told) - len(taken), (MOST_WAITING, MOST_WAITING + 1))
-        self.assertIsNone(slow.line(within=0.2))
         self.assertEqual(server.metrics()["faxgate_events_lost_total"], lost)
-        says.say("ring a0")
-        self.assertTrue(slow.line().startswith('{"event":"rung","line":"a0"'))
+        self.assertEqual(says.say("ring a0 last"), ["ok 12"])
+        behind = self.lines_until(slow, '"tag":"last"}')
+        all_told += self.lines_until(fast, '"tag":"last"}')
+        self.assertEqual(told, all_told[: len(told)])
+        self.assertEqual(behind, all_told[len(told) + lost :])
+
+    def lines_until(self, client, part):
+        """The lines of a client up to the first that has this part."""
+        lines = []
+        while not lines or part not in lines[-1]:
+            lines.append(client.line())
+            self.assertIsNotNone(lines[-1])
+        return lines
 
     def rings(self, says, reads, lines, rounds):
         """All events of so many calls of each line, which are hung up."""
         told = []
         for _ in range(rounds):
-            for word in ("ring %s", "hangup %s calling"):
+            for word, kind in (("ring %s", "rung"), ("hangup %s calling", "ended")):
                 for line in lines:
                     self.assertEqual(says.say(word % line.name)[0][:2], "ok")
-                count = len(told) + len(lines)
-                while len(told) < count:
-                    told.append(reads.line())
+                for _ in lines:
+                    told += self.lines_until(reads, f'"event":"{kind}"')
         return told
 
     def lines_of(self, client, octets):
@@ -121,6 +126,10 @@ class Kinds(Play):
         line = event_line(self.events.event(kind, **wanted))
         self.assertEqual(line, '{"event":"%s","line":"a1","at":N,%s}' % (kind, members))
 
+    def assert_no_more(self):
+        """No event came that was not asked for; turns may come late."""
+        self.assertEqual([event for event in self.events.events if event["event"] != "late"], [])
+
     def test_a_call_and_its_job(self):
         self.begin('order"7"')
         self.assertEqual(self.caller.call(), MCF)
@@ -132,7 +141,7 @@ class Kinds(Play):
             "job",
             '"call":0,"tag":"order\\"7\\"","width":1728,"resolution":"standard","pages":1,"delivered":1,"outcome":"Delivered"',
         )
-        self.assertEqual(self.events.events, [])
+        self.assert_no_more()
 
     def test_pages_that_are_refused(self):
         """An RTN tells why: the text means no page, or something is missing in it, or there is none."""
@@ -160,13 +169,13 @@ class Kinds(Play):
         self.ring(1, "y")
         self.server.say("hangup a1 calling")
         self.assert_told("ended", '"call":1,"how":"HungUp"')
+        self.caller.forget()
         self.ring(2, "z")
-        self.caller.begin_anew()
         self.caller.train()
         begun = time.monotonic()
         self.assert_told("ended", '"call":2,"how":"GivenUp"')
         self.assertGreater(time.monotonic() - begun, 5)
-        self.assertEqual(self.events.events, [])
+        self.assert_no_more()
 
     def test_a_machine_that_is_gone(self):
         """Its job ends, with no page delivered, and its call's tag is told."""
@@ -190,6 +199,7 @@ class Kinds(Play):
         failures = counts["faxgate_receive_failures_total"] + counts["faxgate_send_failures_total"]
         self.assertGreaterEqual(failures, 1)
 
+    @on_time
     def test_turns_that_are_late(self):
         """Behind a rest of the process of less than 1 s turns are made at once; behind a longer one time is skipped."""
         self.begin()

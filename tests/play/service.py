@@ -4,7 +4,7 @@ import time
 from concurrent.futures import ThreadPoolExecutor
 
 from calls import CNG, GATEWAY_DIS, MCF, PAGE_SENT, Called, Caller
-from server import Peer, Play, address, event_line, until
+from server import Peer, Play, address, event_line, on_time, until
 
 IDLE = "line {} calling idle called idle calls {} pages {} waiting 0 failures 0"
 
@@ -47,6 +47,7 @@ class Legs(Play):
         until(lambda: server.metrics()["faxgate_datagrams_received_total"])
         self.assertEqual(server.say(word), ["refused 6 InCall"])
 
+    @on_time
     def test_a_datagram_wakes_a_line(self):
         """A line at rest takes a datagram in its next turn, and not when its sockets are asked the next time, once a second."""
         line = self.line()
@@ -63,12 +64,12 @@ class Legs(Play):
         """The calling leg answers from its own port to its own peer, and the called leg calls from its own."""
         line = self.line()
         server = self.serve(line)
-        calling, called = self.peer(line, "calling"), self.peer(line, "called")
-        server.say("ring a1")
-        self.assertEqual(Caller(calling).call(), MCF)
-        self.assertEqual(Called(called).take_page(), PAGE_SENT)
-        self.assertEqual({sender[1] for _, _, sender in calling.heard}, {line.calling})
-        self.assertEqual({sender[1] for _, _, sender in called.heard}, {line.called})
+        caller, called = Caller(self.peer(line, "calling")), Called(self.peer(line, "called"))
+        self.assertEqual(server.say("ring a1"), ["ok 0"])
+        self.assertEqual(caller.call(), MCF)
+        self.assertEqual(called.take_page(), PAGE_SENT)
+        self.assertEqual({sender[1] for _, _, sender in caller.peer.heard}, {line.calling})
+        self.assertEqual({sender[1] for _, _, sender in called.peer.heard}, {line.called})
 
 
 class Lines(Play):
@@ -124,8 +125,8 @@ class Lines(Play):
         self.assertEqual(caller.call(), MCF)
         called.wait_for(CNG)
         self.assertEqual(events.event("ended")["how"], "Done")
+        caller.forget()
         self.assertEqual(server.say("ring a1 second"), ["ok 1"])
-        caller.begin_anew()
         caller.wait_for(GATEWAY_DIS)
         self.assertEqual(server.say("hangup a1 called"), ["ok"])
         job = events.event("job")
@@ -148,8 +149,8 @@ class Jobs(Play):
         events = server.events()
         caller, called = Caller(self.peer(line, "calling")), Called(self.peer(line, "called"))
         for call, tag in enumerate(("first", "second", None)):
+            caller.forget()
             self.assertEqual(server.say("ring a1 " + tag if tag else "ring a1"), [f"ok {call}"])
-            caller.begin_anew()
             self.assertEqual(caller.call(), MCF)
             events.event("ended", call=call)
         self.assertTrue(server.say("status")[0].startswith("line a1 calling idle called job-0 calls 3 pages 3 waiting 2"))
@@ -201,6 +202,7 @@ class Stops(Play):
         self.assertEqual(server.say("stop"), ["ok"])
         self.assertEqual(server.ends(5), 0)
 
+    @on_time
     def test_a_stop_takes_so_many_seconds_at_most(self):
         for seconds in (0, 2):
             with self.subTest(seconds=seconds):

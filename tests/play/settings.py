@@ -3,7 +3,7 @@ import statistics
 from concurrent.futures import ThreadPoolExecutor
 
 from calls import CALLER_DCS, GATEWAY_DIS, MCF, PREAMBLE, Called, Caller, Datagram
-from server import Play
+from server import Play, on_time
 
 TURN = 0.04  # seconds from one turn of a line to the next
 # How many packets of a training check are sent on: 450 octets, twelve in each.
@@ -45,6 +45,7 @@ class Redundancy(Settings):
 
 
 class Preamble(Settings):
+    @on_time
     def test_the_packet_behind_a_preamble_waits(self):
         """On both legs, for as long as the line says, or 40 ms."""
         callers, called = self.serve_lines([{}, {"preamble_ms": 1000}, {"preamble_ms": 2000}])
@@ -71,6 +72,7 @@ class Repeats(Settings):
         "none": [0],
     }
 
+    @on_time
     def test_the_last_datagram_is_sent_again(self):
         """It is the DIS here, behind which nothing is sent for 3 s. Without a word of it repeats are `full`."""
         settings = [{}] + [{"repeat": repeat} for repeat in self.WANTED]
@@ -85,6 +87,7 @@ class Repeats(Settings):
             for (moment, _), after in zip(again, wanted[1:]):
                 self.assertLess(abs(moment - first - after), 0.4, (setting, after))
 
+    @on_time
     def test_each_datagram_is_sent_twice(self):
         """With `full` also those that a newer one follows 40 ms later; with the others those come once."""
         callers, called = self.serve_lines([{"repeat": "full"}, {"repeat": "last"}, {"repeat": "none"}])
@@ -101,6 +104,7 @@ class Repeats(Settings):
 
 
 class Pace(Settings):
+    @on_time
     def test_a_line_has_its_turn_each_40_ms(self):
         """A training check comes in packets 40 ms apart."""
         callers, called = self.serve_lines([{"repeat": "none"}])

@@ -32,9 +32,9 @@ class Spooled(Play):
 
     def call(self, name, call, tag=None):
         """A whole call on a line, whose page is confirmed, and is kept."""
-        self.assertEqual(self.server.say(f"ring {name} {tag}" if tag else f"ring {name}"), [f"ok {call}"])
         caller = self.callers[name]
-        caller.begin_anew()
+        caller.forget()
+        self.assertEqual(self.server.say(f"ring {name} {tag}" if tag else f"ring {name}"), [f"ok {call}"])
         self.assertEqual(caller.call(), MCF)
         until(lambda: any(f"line {name} calling idle" in line for line in self.server.say("status")))
 
@@ -45,8 +45,7 @@ class Spooled(Play):
             self.server.configure(lines)
         self.server.start()
         for machine in self.called.values():
-            machine.peer.forget()
-            machine.begin_anew()
+            machine.forget()
 
     def change(self, change):
         """Changes the octets of the spool's files while no server is there."""
@@ -68,11 +67,11 @@ class Lives(Spooled):
         self.call("a1", 1)
         self.begin_anew()
         events = self.server.events()
+        caller, called = self.callers["a1"], self.called["a1"]
+        caller.forget()
         self.assertEqual(self.server.say("ring a1 third"), ["ok 0"])
         counts = self.server.metrics()
         self.assertEqual((counts["faxgate_jobs_waiting"], counts["faxgate_pages_kept"]), (2, 2))
-        caller, called = self.callers["a1"], self.called["a1"]
-        caller.begin_anew()
         self.assertEqual(caller.call(), MCF)
         for call, tag in ((0, "first"), (1, None), (0, "third")):
             self.assertEqual(called.take_page(), PAGE_SENT)
@@ -123,8 +122,7 @@ class Lives(Spooled):
         self.call("a1", 0, "first")
         self.call("a1", 1, "second")
         self.change(self.turn_octet_of_first)
-        self.called["a1"].peer.forget()
-        self.called["a1"].begin_anew()
+        self.called["a1"].forget()
         self.server.start()
         events = self.server.events()
         counts = self.server.metrics()
@@ -147,8 +145,8 @@ class Disks(Spooled):
         resource.prlimit(self.server.process.pid, resource.RLIMIT_FSIZE, (0, resource.RLIM_INFINITY))
         caller = self.callers["a1"]
         for call in (1, 2):
+            caller.forget()
             self.assertEqual(self.server.say(f"ring a1 tag-{call}"), [f"ok {call}"])
-            caller.begin_anew()
             caller.train()
             heard = len(caller.came)
             caller.send(TRAINING, image(PAGE), PREAMBLE, CALLER_EOP)
