@@ -4,6 +4,8 @@ Datagrams are those of ITU-T T.38 (UDPTL with redundancy, version 0), frames tho
 """
 import time
 
+from server import LONGEST
+
 # Packets: tones, signals, and frames in V.21 data.
 CED, PREAMBLE, CNG = "04", "06", "02"
 CALLER_DCS = "c002800005ffc8c100400040"
@@ -98,7 +100,7 @@ class Machine:
                 self.came.append((time.monotonic(), came))
                 return came.packet
 
-    def wait_for(self, *packets, within=30):
+    def wait_for(self, *packets, within=LONGEST):
         """Waits until one of these packets comes, and gives it."""
         end = time.monotonic() + within
         while (packet := self.next(end)) is not None:
@@ -154,7 +156,7 @@ class Called(Machine):
         self.wait_for_image()
         self.send(PREAMBLE, CFR)
 
-    def wait_for_image(self, within=30):
+    def wait_for_image(self, within=LONGEST):
         """Waits for the end of an image, and gives its octets as hex."""
         end, octets = time.monotonic() + within, ""
         while (packet := self.next(end)) is not None:

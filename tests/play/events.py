@@ -81,7 +81,7 @@ class Told(Play):
         for _ in range(rounds):
             for word, kind in (("ring %s", "rung"), ("hangup %s calling", "ended")):
                 for line in lines:
-                    self.assertEqual(says.say(word % line.name)[0][:2], "ok")
+                    self.assertEqual(says.say(word % line.name)[0].split()[0], "ok", (word, line.name))
                 for _ in lines:
                     told += self.lines_until(reads, f'"event":"{kind}"')
         return told

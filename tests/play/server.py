@@ -15,8 +15,10 @@ import tempfile
 import time
 import unittest
 
+# How many times as long as else everything may take (`tools/play --slow`).
+SLOW = int(os.environ.get("FAXGATE_SLOW", "1"))
 # How long anything is waited for that is to come, in seconds: far longer than it takes, so that a busy machine fails no play.
-LONGEST = 30
+LONGEST = 30 * SLOW
 HOST = "127.0.0.1"
 NO_SPOOL = "pages are kept in memory alone: no spool is set"
 # What begins the last line of an answer.
@@ -53,11 +55,19 @@ class Ports:
             self._held.append(held)
             held.bind((HOST, 0))
             port = held.getsockname()[1]
-            with socket.socket(socket.AF_INET, socket.SOCK_DGRAM) as probe:
-                with contextlib.suppress(OSError):
-                    probe.bind((HOST, port))
-                    return port
+            if self.is_free(port):
+                return port
         raise AssertionError("no port is free")
+
+    @staticmethod
+    def is_free(port):
+        """Whether nobody has a port for datagrams."""
+        with socket.socket(socket.AF_INET, socket.SOCK_DGRAM) as probe:
+            try:
+                probe.bind((HOST, port))
+            except OSError:
+                return False
+        return True
 
     def close(self):
         """Lets them go."""
@@ -374,7 +384,7 @@ class Server:
         shutil.rmtree(self.folder, ignore_errors=True)
 
 
-def finish(process, within=LONGEST):
+def finish(process, within=2 * LONGEST):
     """The status of a run, and what it said on both streams."""
     output, errors = process.communicate(timeout=within)
     return process.returncode, output, errors

@@ -4,7 +4,7 @@ import time
 from concurrent.futures import ThreadPoolExecutor
 
 from calls import CNG, GATEWAY_DIS, MCF, PAGE_SENT, Called, Caller
-from server import Peer, Play, address, event_line, on_time, until
+from server import SLOW, Peer, Play, address, event_line, on_time, until
 
 IDLE = "line {} calling idle called idle calls {} pages {} waiting 0 failures 0"
 
@@ -58,7 +58,7 @@ class Legs(Play):
             peer.send(b"page")
             until(lambda: f"faxgate_datagrams_received_total {count}" in says.say("metrics"))
             time.sleep(0.05)
-        self.assertLess(time.monotonic() - begun, 3.6)
+        self.assertLess(time.monotonic() - begun, 3.6 * SLOW)
 
     def test_legs_are_not_exchanged(self):
         """The calling leg answers from its own port to its own peer, and the called leg calls from its own."""
@@ -173,7 +173,7 @@ class Stops(Play):
     def test_a_stop_ends_what_is_idle(self):
         server = self.serve(self.line())
         self.assertEqual(server.say("stop"), ["ok"])
-        self.assertEqual(server.ends(5), 0)
+        self.assertEqual(server.ends(5 * SLOW), 0)
 
     def test_a_stop_waits_for_calls_and_jobs(self):
         """No ring is taken any more; it ends once the call and its job are over."""
@@ -191,7 +191,7 @@ class Stops(Play):
         self.assertIsNone(server.process.poll())
         self.assertEqual(called.take_page(), PAGE_SENT)
         events.event("job", outcome="Delivered")
-        self.assertEqual(server.ends(5), 0)
+        self.assertEqual(server.ends(5 * SLOW), 0)
 
     def test_a_second_stop_ends_at_once(self):
         server = self.serve(self.line())
@@ -200,7 +200,7 @@ class Stops(Play):
         time.sleep(0.5)
         self.assertIsNone(server.process.poll())
         self.assertEqual(server.say("stop"), ["ok"])
-        self.assertEqual(server.ends(5), 0)
+        self.assertEqual(server.ends(5 * SLOW), 0)
 
     @on_time
     def test_a_stop_takes_so_many_seconds_at_most(self):
@@ -210,9 +210,9 @@ class Stops(Play):
                 self.assertEqual(server.say("ring a1"), ["ok 0"])
                 begun = time.monotonic()
                 self.assertEqual(server.say("stop"), ["ok"])
-                self.assertEqual(server.ends(10), 0)
+                self.assertEqual(server.ends(10 * SLOW), 0)
                 spent = time.monotonic() - begun
-                self.assertTrue(seconds - 0.1 < spent < seconds + 1.5, spent)
+                self.assertTrue(seconds - 0.1 < spent < seconds + 1.5 * SLOW, spent)
 
     def test_the_end_of_the_input_is_a_stop(self):
         server = self.serve(self.line(), control=False)

@@ -3,7 +3,7 @@ import statistics
 from concurrent.futures import ThreadPoolExecutor
 
 from calls import CALLER_DCS, GATEWAY_DIS, MCF, PREAMBLE, Called, Caller, Datagram
-from server import Play, on_time
+from server import SLOW, Play, on_time
 
 TURN = 0.04  # seconds from one turn of a line to the next
 # How many packets of a training check are sent on: 450 octets, twelve in each.
@@ -56,7 +56,7 @@ class Preamble(Settings):
             waited = [self.waited_behind_preamble(machine) for machine in machines]
             self.assertLess(waited[0], 0.6, waited)
             self.assertTrue(0.7 < waited[1] < 1.6, waited)
-            self.assertTrue(1.7 < waited[2] < 2.6, waited)
+            self.assertTrue(1.7 < waited[2] < 1.7 + 0.9 * SLOW, waited)
 
     def waited_behind_preamble(self, machine):
         """How long the packet behind the first preamble waited, in seconds."""
@@ -114,6 +114,6 @@ class Pace(Settings):
         moments = [moment for moment, came in called[0].came if came.packet.startswith("c201")]
         self.assertEqual(len(moments), CHECK_PACKETS)
         spent, wanted = moments[-1] - moments[0], (CHECK_PACKETS - 1) * TURN
-        self.assertTrue(wanted - 0.2 < spent < wanted + 0.6, spent)
+        self.assertTrue(wanted - 0.2 < spent < wanted + 0.6 * SLOW, spent)
         apart = sorted(later - earlier for earlier, later in zip(moments, moments[1:]))
         self.assertTrue(0.03 < apart[len(apart) // 2] < 0.05, apart)

@@ -213,10 +213,10 @@ class Whole(Spooled):
         self.assertGreater(counts["faxgate_datagrams_sent_total"], 10)
         self.assertGreater(counts["faxgate_put_microseconds_total"], 0)
         self.server.kill()
-        self.server.start()
-        events = self.server.events()
         receive = self.server.run("receive", "--on", address(line.called_peer), "--pages", "got", "--calls", "1")
-        job = events.event("job", within=60)
+        until(lambda: not self.ports.is_free(line.called_peer), what="the called machine")
+        self.server.start()
+        job = self.server.events().event("job")
         self.assertEqual((job["call"], job["tag"], job["pages"], job["delivered"]), (0, "tag", 2, 2))
         self.assertEqual(finish(receive)[0], 0)
         for number in (1, 2):
