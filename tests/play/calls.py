@@ -8,10 +8,10 @@ from server import LONGEST
 
 # Packets: tones, signals, and frames in V.21 data.
 CED, PREAMBLE, CNG = "04", "06", "02"
-CALLER_DCS = "c002800005ffc8c100400040"
+CALLER_DCS, FINE_DCS = "c002800005ffc8c100400040", "c002800005ffc8c100420040"
 CALLER_EOP = "c002800002ffc8f440"
 CALLER_DCN = "c002800002ffc8df40"
-CALLED_DIS = "c002800005ffc80100400040"
+CALLED_DIS, FINE_DIS = "c002800005ffc80100400040", "c002800005ffc80100420040"
 GATEWAY_DIS = "c002800005ffc80100775e40"
 CFR, MCF, RTN = "c002800002ffc82140", "c002800002ffc83140", "c002800002ffc83240"
 # V.27ter at 2400 bit/s: the signal before an image, and the training check, of 1 s of zeros, in one packet.
@@ -118,7 +118,9 @@ class Machine:
 
 
 class Caller(Machine):
-    """A machine that calls, and sends a page."""
+    """A machine that calls, and sends a page; its DCS says whether the page is fine."""
+
+    dcs = CALLER_DCS
 
     def train(self):
         """Waits until it may send a page."""
@@ -127,7 +129,7 @@ class Caller(Machine):
 
     def check(self):
         """Says how it sends, and has its training check confirmed."""
-        self.send(CALLER_DCS, TRAINING, CHECK)
+        self.send(self.dcs, TRAINING, CHECK)
         self.wait_for(CFR)
 
     def send_page(self, text=PAGE):
@@ -144,12 +146,14 @@ class Caller(Machine):
 
 
 class Called(Machine):
-    """A machine that is called, and takes a page."""
+    """A machine that is called, and takes a page; its DIS says whether the page may be fine."""
+
+    dis = CALLED_DIS
 
     def answer(self):
         """Waits until it is called, and says what it can: 2400 bit/s alone."""
         self.wait_for(CNG)
-        self.send(CED, PREAMBLE, CALLED_DIS)
+        self.send(CED, PREAMBLE, self.dis)
 
     def confirm_check(self):
         """Waits for the training check, and confirms it."""

@@ -7,7 +7,7 @@ import struct
 import termios
 import time
 
-from calls import CALLER_DCN, CALLER_EOP, MCF, PAGE, PREAMBLE, RTN, TRAINING, Called, Caller, image
+from calls import CALLER_DCN, CALLER_EOP, FINE_DCS, FINE_DIS, MCF, PAGE, PREAMBLE, RTN, TRAINING, Called, Caller, image
 from server import Play, event_line, on_time, until
 
 # The most lines that wait for a client, beside the one that is being written.
@@ -132,14 +132,15 @@ class Kinds(Play):
 
     def test_a_call_and_its_job(self):
         self.begin('order"7"')
+        self.caller.dcs, self.called.dis = FINE_DCS, FINE_DIS
         self.assertEqual(self.caller.call(), MCF)
-        self.assert_told("page", '"call":0,"number":1,"width":1728,"resolution":"standard","rows":1')
+        self.assert_told("page", '"call":0,"number":1,"width":1728,"resolution":"fine","rows":1')
         self.assert_told("ended", '"call":0,"how":"Done"')
         self.assert_told("dial", '"call":0,"tag":"order\\"7\\""')
         self.called.take_page()
         self.assert_told(
             "job",
-            '"call":0,"tag":"order\\"7\\"","width":1728,"resolution":"standard","pages":1,"delivered":1,"outcome":"Delivered"',
+            '"call":0,"tag":"order\\"7\\"","width":1728,"resolution":"fine","pages":1,"delivered":1,"outcome":"Delivered"',
         )
         self.assert_no_more()
 

@@ -60,6 +60,18 @@ class Legs(Play):
             time.sleep(0.05)
         self.assertLess(time.monotonic() - begun, 3.6 * SLOW)
 
+    def test_a_hang_up_comes_behind_the_newest_datagram(self):
+        """Its DCN has the number behind the newest that came, so that it is not taken for one that comes late."""
+        line = self.line()
+        server = self.serve(line)
+        events, peer = server.events(), self.peer(line, "calling")
+        self.assertEqual(server.say("ring a1"), ["ok 0"])
+        for number in (0x8000, 0xFFFF, 0xFFFE, 0x8000):
+            peer.send(number.to_bytes(2, "big") + bytes(3))
+        until(lambda: server.metrics()["faxgate_datagrams_received_total"] == 4)
+        self.assertEqual(server.say("hangup a1 calling"), ["ok"])
+        self.assertEqual(events.event("ended", within=10)["how"], "HungUp")
+
     def test_legs_are_not_exchanged(self):
         """The calling leg answers from its own port to its own peer, and the called leg calls from its own."""
         line = self.line()
