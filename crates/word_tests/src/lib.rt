@@ -4,8 +4,6 @@
 #[cfg(test)]
 mod clients;
 #[cfg(test)]
-mod config;
-#[cfg(test)]
 mod control;
 #[cfg(test)]
 mod events;
