@@ -4,6 +4,4 @@
 #[cfg(test)]
 mod clients;
 #[cfg(test)]
-mod control;
-#[cfg(test)]
 mod events;
