@@ -3,5 +3,3 @@
 
 #[cfg(test)]
 mod clients;
-#[cfg(test)]
-mod events;
