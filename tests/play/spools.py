@@ -9,7 +9,7 @@ import unittest
 
 import t4
 import t38
-from playing import PAGE, Playing, numbers
+from playing import PAGE, PATIENCE, Playing, numbers
 from server import Line, Server, until
 
 # A page of one row: as a machine sends it, and as its record has it, in the two-dimensional coding.
@@ -187,6 +187,26 @@ class PagesSurviveACrash(Spooling):
         self.assertLessEqual(set(found), set(ends))
         server.start()
         self.assertEqual(server.metrics()["faxgate_jobs_waiting"], 0)
+
+
+class AJobEnds(Spooling):
+    def test_its_end_is_noted(self):
+        """A job of two pages of 2,432 elements, fine, of which the second is refused three times: its record, octet by octet."""
+        line, text = Line(self.ports), t4.text([[2432]])
+        called = self.called(line, refuses=(1, 2, 3))
+        server = self.serve(line)
+        events = server.events()
+        calling = self.calling(line, [text, text], bits=t38.FINE + t38.W2432)
+        self.ring(server, line, "tag")
+        calling.end()
+        job = events.event("job", PATIENCE)
+        called.end()
+        self.assertEqual((job["pages"], job["delivered"], job["outcome"]), (2, 1, "PageRefused"))
+        until(lambda: server.metrics()["faxgate_pages_kept"] == 0, what="that it is noted")
+        kept_text = t4.text([[2432]], two_d=True)
+        pages = [page(b"a1", 1, 0, number, kept_text, number == 2, b"tag", 2, True) for number in (1, 2)]
+        found = [it for name in FILES for it in records_in(self.file(server, name)) if not it.startswith(EPOCH)]
+        self.assertEqual(found, pages + [ended(b"a1", 1, 0, 1, 2, 1, PAGE_REFUSED, 2, True)])
 
 
 class FilesTakeTurns(Spooling):

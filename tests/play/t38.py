@@ -54,6 +54,8 @@ MODEMS = (V27_2400, V29_9600, V17_14400)
 # row (21 to 23). Bit 16 is the two-dimensional coding.
 DIS_BITS = (10, 11, 12, 14, 15, 18, 20, 21, 22, 23)
 TWO_D = 16
+# Bits of a DCS: the fine resolution, and rows of 2,432 elements (17 and 18: 01).
+FINE, W2432 = (15,), (18,)
 
 
 def field_of(bits, octets=3):
@@ -505,14 +507,15 @@ class Calling(Machine):
 
 
 class Called(Machine):
-    """A machine that is called by the first datagram that comes, answers `calls` calls, and keeps each image: `pages`, and the fields of
-    the DCS before each, `formats`. `refuses`: it answers so many pages with RTN."""
+    """A machine that is called by the first datagram that comes, answers `calls` calls, and keeps what it confirms: `pages`, and of each the
+    field of its DCS, `formats`, and what stood behind it, `commands`. `refuses`: which of the images that come, counted from 0, it
+    answers with RTN; so it does one in which something is missing."""
 
-    def __init__(self, leg, bits=DIS_BITS, calls=1, within=60, refuses=0, **more):
+    def __init__(self, leg, bits=DIS_BITS, calls=1, within=60, refuses=(), **more):
         super().__init__(leg, **more)
         self.bits, self.calls, self.refuses = bits, calls, refuses
         self.pages, self.formats, self.commands = [], [], []
-        self._within = within
+        self._within, self._images = within, 0
 
     def call(self):
         for _ in range(self.calls):
@@ -570,10 +573,9 @@ class Called(Machine):
     def confirm(self, command):
         """A command: the image before it is a page, where it is whole; one that comes again is answered as before."""
         if self._image is not None:
-            self._answer = MCF if self._image.is_whole and not self.refuses else RTN
-            if self._answer == RTN:
-                self.refuses = max(0, self.refuses - 1)
-            else:
+            self._answer = MCF if self._image.is_whole and self._images not in self.refuses else RTN
+            self._images += 1
+            if self._answer == MCF:
                 self.pages.append(self._image.octets)
                 self.formats.append(self._dcs)
                 self.commands.append(command)

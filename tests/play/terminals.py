@@ -1,5 +1,6 @@
 """`faxgate send` and `faxgate receive`: machines against those of T.38, and against each other, and the files that they read and write."""
 import os
+import pty
 import random
 import shutil
 import subprocess
@@ -50,9 +51,9 @@ class InAFolder(unittest.TestCase):
         """The names of the pages that were received."""
         return sorted(name for name in os.listdir(self.folder) if name.startswith("got-"))
 
-    def run_program(self, *words):
+    def run_program(self, *words, stderr=subprocess.PIPE):
         process = subprocess.Popen(
-            [program(), *words], cwd=self.folder, stdin=subprocess.DEVNULL, stdout=subprocess.PIPE, stderr=subprocess.PIPE, text=True
+            [program(), *words], cwd=self.folder, stdin=subprocess.DEVNULL, stdout=subprocess.PIPE, stderr=stderr, text=True
         )
         self.addCleanup(self.end, process)
         return process
@@ -63,13 +64,13 @@ class InAFolder(unittest.TestCase):
             process.kill()
         process.communicate()
 
-    def send(self, port, *words):
-        return self.run_program("send", "--to", address(port), *words)
+    def send(self, port, *words, **more):
+        return self.run_program("send", "--to", address(port), *words, **more)
 
-    def receive(self, *words, pages="got", calls=1):
+    def receive(self, pages="got", calls=1, **more):
         """A run that receives, and its port; its socket is open."""
         port = self.ports.take()
-        process = self.run_program("receive", "--on", address(port), "--pages", pages, "--calls", str(calls), *words)
+        process = self.run_program("receive", "--on", address(port), "--pages", pages, "--calls", str(calls), **more)
         until(lambda: is_open(port) or process.poll() is not None, what="the port")
         return process, port
 
@@ -111,6 +112,25 @@ class PagesAreDelivered(InAFolder):
         self.assert_ended(receiving, 0, "")
         self.assertEqual(self.pages(), ["got-0-1.pbm", "got-0-2.pbm", "got-0-3.pbm"])
         self.assertEqual([self.read(name) for name in self.pages()], pictures)
+
+
+class ProgressIsTold(InAFolder):
+    def test_to_a_screen(self):
+        """Where the standard error is a screen, a line is told for each page."""
+        (sent, sender), (received, receiver) = self.screen(), self.screen()
+        receiving, port = self.receive(stderr=receiver)
+        names = [self.write(f"page-{i}.pbm", t4.picture(ROWS)) for i in range(2)]
+        sending = self.send(port, *names, stderr=sender)
+        self.assertEqual((sending.wait(60), receiving.wait(60)), (0, 0))
+        self.assertEqual(os.read(sent, 4096).decode().split("\r\n"), ["delivered: page 1", "delivered: page 2", ""])
+        self.assertEqual([line.split()[-1] for line in os.read(received, 4096).decode().splitlines()], ["1", "2"])
+
+    def screen(self):
+        """Both ends of a screen: that at which is read, and that to which is written."""
+        ends = pty.openpty()
+        for end in ends:
+            self.addCleanup(os.close, end)
+        return ends
 
 
 class PagesAreSent(InAFolder):
@@ -168,8 +188,8 @@ class CallsThatFail(InAFolder):
         called.end()
         self.assertEqual(called.pages, [])
 
-    def test_a_port_where_nobody_listens(self):
-        """Sends fail there, which another line tells; the run is killed, and so it prints no job."""
+    def test_a_run_that_is_killed(self):
+        """In the middle of its call it prints no job."""
         sending = self.send(self.ports.take(), self.write("page.pbm", t4.picture(ROWS)))
         time.sleep(1)
         sending.kill()
@@ -177,7 +197,7 @@ class CallsThatFail(InAFolder):
 
     def test_a_page_is_refused(self):
         """A page that is refused once is sent again."""
-        called = self.called(refuses=1)
+        called = self.called(refuses=(0,))
         sending = self.send(called.leg.port, self.write("page.pbm", t4.picture(ROWS)))
         self.assert_ended(sending, 0, f"{STANDARD} 1 1 Delivered\n")
         called.end()
