@@ -2,11 +2,12 @@
 import contextlib
 import os
 import pathlib
+import re
 import socket
 
 from server import NO_SPOOL, Client, Play, Server, address, finish
 
-SAMPLE = pathlib.Path(__file__).parents[2] / "samples" / "serve.toml"
+TOP = pathlib.Path(__file__).parents[2]
 
 IDLE = ["line a1 calling idle called idle calls 0 pages 0 waiting 0 failures 0", "ok"]
 # Lines, and what each is answered. A line has at most 256 octets.
@@ -75,6 +76,20 @@ class Words(Play):
         for _ in range(20):
             self.assertEqual(len(server.say("status")), 101)
 
+    def test_metrics_are_those_of_the_document(self):
+        """Each count that docs/OPERATING.md names is told, with its kind, and no other."""
+        text = (TOP / "docs" / "OPERATING.md").read_text(encoding="utf-8").split("\n## Metrics\n")[1].split("\n## ")[0]
+        wanted = {name: "counter" if name.endswith("_total") else "gauge" for name in re.findall(r"`(faxgate_\w+)`", text)}
+        lines = self.serve(self.line("a1"), self.line("a2")).say("metrics")
+        self.assertEqual(lines.pop(), "# EOF")
+        told = {}
+        for kind, count in zip(lines[::2], lines[1::2]):
+            name = count.split()[0]
+            self.assertEqual(kind, f"# TYPE {name} {wanted.get(name)}")
+            told[name] = count
+        self.assertEqual(set(told), set(wanted))
+        self.assertEqual(told["faxgate_lines"], "faxgate_lines 2")
+
 
 class Sockets(Play):
     def test_a_control_socket_has_one_server(self):
@@ -108,7 +123,7 @@ class Sockets(Play):
 
     def test_the_sample_is_served(self):
         """samples/serve.toml, with other ports: two lines, of which the second waits for 1 s behind a preamble."""
-        text = SAMPLE.read_text(encoding="utf-8")
+        text = (TOP / "samples" / "serve.toml").read_text(encoding="utf-8")
         for port in (40000, 40002, 40004, 40006, 6000, 6002, 6004, 6006):
             text = text.replace(address(port), address(self.ports.take()))
         server = self.enterContext(Server(text, control="faxgate.sock"))
