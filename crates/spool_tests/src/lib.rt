@@ -1,13 +1,5 @@
-//! Tests of what keeps pages: the spool, its folder, the wire that holds back.
+//! Processes that put pages into a spool, for `tools/crash`.
 #![tactic(auto)]
 
 #[cfg(test)]
 mod crashes;
-#[cfg(test)]
-mod folder;
-#[cfg(test)]
-mod holding;
-#[cfg(test)]
-mod lives;
-#[cfg(test)]
-mod spool;
