@@ -436,17 +436,16 @@ class Calling(Machine):
     """A machine that calls and sends pages, each the text of one by T.4, with the bits of its format in a DCS.
 
     `commands`: what stands behind each page; MPS, and EOP behind the last one, where nothing is said; None: it is gone, without a word.
-    `confirmed`: how many pages an MCF answered. `at_mcf`: what is done as soon as one is heard. `t4`: how long it waits for an answer, in seconds. It asks three times.
+    `confirmed`: how many pages an MCF answered. `at_mcf`: what is done as soon as one is heard. `t1`, `t4`: how long it waits for a
+    DIS and for an answer, in seconds; for an answer it asks three times. `hangs_up`: it says DCN at the end.
     """
 
-    def __init__(self, leg, pages, bits=(), modem=V27_2400, commands=None, t1=T1_SECONDS, t4=T4_SECONDS, hangs_up=True, at_mcf=None, **more):
+    def __init__(self, leg, pages, bits=(), commands=None, t1=T1_SECONDS, t4=T4_SECONDS, hangs_up=True, at_mcf=None, **more):
         super().__init__(leg, **more)
-        self._at_mcf = at_mcf
-        self.pages, self.bits, self.modem = pages, bits, modem
+        self.pages, self.bits, self.modem = pages, bits, V27_2400
         self.commands = commands or [MPS] * (len(pages) - 1) + [EOP]
         self.confirmed, self.answers, self.hears_dis = 0, [], False
-        # whether it says DCN at the end
-        self.hangs_up = hangs_up
+        self._hangs_up, self._at_mcf = hangs_up, at_mcf
         self._t1, self._t4 = t1, t4
 
     def call(self):
@@ -466,7 +465,7 @@ class Calling(Machine):
             if command == EOM:
                 self.await_frame((DIS,), self._t1)
                 self.train()
-        if self.hangs_up:
+        if self._hangs_up:
             self.say(DCN | X)
         # so that what is delayed goes out
         self.pause(0.2)
@@ -507,9 +506,9 @@ class Calling(Machine):
 
 
 class Called(Machine):
-    """A machine that is called by the first datagram that comes, answers `calls` calls, and keeps what it confirms: `pages`, and of each the
-    field of its DCS, `formats`, and what stood behind it, `commands`. `refuses`: which of the images that come, counted from 0, it
-    answers with RTN; so it does one in which something is missing."""
+    """A machine that is called by the first datagram that comes, answers `calls` calls, and keeps what it confirms: `pages`, and of
+    each the field of its DCS, `formats`, and what stood behind it, `commands`. `refuses`: which of the images that come, counted from
+    0, it answers with RTN; so it does one in which something is missing."""
 
     def __init__(self, leg, bits=DIS_BITS, calls=1, within=60, refuses=(), **more):
         super().__init__(leg, **more)
