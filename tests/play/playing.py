@@ -11,8 +11,11 @@ from server import Ports, Server
 ROWS = [[1728], [0, 1, 1719, 8]]
 OTHER_ROWS = [[100, 3, 1625], [1728]]
 PAGE, OTHER_PAGE = t4.text(ROWS), t4.text(OTHER_ROWS)
-# How long a job is waited for, in seconds: far longer than it takes.
-PATIENCE = 90 * int(os.environ.get("FAXGATE_SLOW", "1"))
+# How many times as long each may take (`tools/play --slow`); how long a job is waited for, in seconds: far longer than it takes; and
+# how long a machine waits for an answer that may not come: less than T4, so that a play is short.
+SLOW = int(os.environ.get("FAXGATE_SLOW", "1"))
+PATIENCE = 90 * SLOW
+SHORT_T4 = 1.5 * SLOW
 
 
 class Playing(unittest.TestCase):

@@ -9,7 +9,7 @@ import unittest
 
 import t4
 import t38
-from playing import PAGE, PATIENCE, Playing, numbers
+from playing import PAGE, PATIENCE, SHORT_T4, Playing, numbers
 from server import Line, Server, until
 
 # A page of one row: as a machine sends it, and as its record has it, in the two-dimensional coding.
@@ -269,11 +269,11 @@ class AFullDisk(Spooling):
     def refused(self, server, line, call, pages, confirmed):
         """A call whose disk is full behind so many pages: no MCF comes for the next, and nothing at all from then on, until it ends."""
         events = server.events()
-        machine = self.calling(line, pages, t4=1)
+        machine = self.calling(line, pages, t4=SHORT_T4)
         self.assertEqual(server.say("ring a1"), [f"ok {call}"])
-        events.event("not_kept", call=call)
+        events.event("not_kept", PATIENCE, call=call)
         mute = time.time() + 0.1
-        machine.join(30)
+        machine.join(PATIENCE)
         leg = machine.leg
         leg.drain()
         self.assertTrue(machine.hears_dis)
@@ -281,7 +281,7 @@ class AFullDisk(Spooling):
         self.assertEqual([numbers([it]) for it in leg.came if it[0] > mute], [])
         machine.end()
         self.assertEqual(server.say("hangup a1 calling"), ["ok"])
-        events.event("ended", call=call, how="NotKept")
+        events.event("ended", PATIENCE, call=call, how="NotKept")
 
     def test_it_claims_nothing(self):
         """A page fits, and then the disk is full. What was confirmed is sent by the next life, with the page behind it at most; the pages
@@ -337,11 +337,11 @@ class PagesOfASlot(Spooling):
         if fails:
             self.limit(server, len(file_of(epoch(1))) + 10)
         leg = TwinLeg(lines[0], lines[SLOTS])
-        machine = self.stack.enter_context(t38.Calling(leg, [PAGE], t4=1))
+        machine = self.stack.enter_context(t38.Calling(leg, [PAGE], t4=SHORT_T4))
         client = server.client()
         client.send(f"ring a0\nring a{SLOTS}\n".encode())
         self.assertEqual([client.answer(), client.answer()], [["ok 0"], ["ok 0"]])
-        machine.join(30)
+        machine.join(PATIENCE)
         leg.drain()
         leg.twin.drain()
         heard = [any(t38.frame(t38.MCF)[1] in it[1] for it in end.came) for end in (leg, leg.twin)]
