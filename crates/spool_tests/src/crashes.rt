@@ -65,7 +65,12 @@ fn put(
 }
 
 /// The job of the page of a number ended; the files take turns.
-fn end(spool: &mut Spool<KeptFile<Unknown>>, alloc: Global, life: u32, number: u32) -> io::Result<()> {
+fn end(
+    spool: &mut Spool<KeptFile<Unknown>>,
+    alloc: Global,
+    life: u32,
+    number: u32,
+) -> io::Result<()> {
     let ended = EndedRecord {
         life,
         call: 0,
