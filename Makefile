@@ -52,9 +52,8 @@ memory: all
 	tools/refuse-test-memory crates/call_tests/out/call_tests_tests answer::memory::a_call_that_is_refused_memory
 	cd crates/fax_call && $(RT) test > /dev/null
 	tools/refuse-test-memory crates/fax_call/out/fax_call_tests tests::memory::a_call_that_is_refused_memory
-	cd crates/gateway_tests && $(RT) test > /dev/null
-	tools/refuse-test-memory crates/gateway_tests/out/gateway_tests_tests gateway::a_page_goes_through_the_gateway
-	tools/refuse-test-memory crates/gateway_tests/out/gateway_tests_tests gateway::driving::a_run_that_is_refused_memory
+	tools/refuse-test-memory crates/call_tests/out/call_tests_tests gateway::a_page_goes_through_the_gateway
+	tools/refuse-test-memory crates/call_tests/out/call_tests_tests gateway::driving::a_run_that_is_refused_memory
 
 # Kills a process that puts pages into a spool, 300 times, and cuts the power under it, 5,000 times over recorded writes; each
 # time the next process has to find what was told as put, and at most the one under way besides. Then kills `faxgate serve` with

@@ -1,7 +1,9 @@
-//! Tests of the answering side of a call and the book of jobs, through what these crates show.
+//! Tests of both sides of a call, the book of jobs, and the gateway with its engine, through what these crates show.
 #![tactic(auto)]
 
 #[cfg(test)]
 mod answer;
+#[cfg(test)]
+mod gateway;
 #[cfg(test)]
 mod jobs;

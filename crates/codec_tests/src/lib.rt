@@ -1,8 +1,13 @@
-//! Tests of the codec: bits, code words, lines and pages, through what these crates show.
+//! Tests of what is coded: bits, code words, lines and pages, frames, packets and datagrams; and of timers. All through what
+//! these crates show.
 #![tactic(auto)]
 
 #[cfg(test)]
 mod bits;
+#[cfg(test)]
+mod frames;
+#[cfg(test)]
+mod ifp;
 #[cfg(test)]
 mod mhcode;
 #[cfg(test)]
@@ -11,3 +16,7 @@ mod mrcode;
 mod pagestore;
 #[cfg(test)]
 mod runcodes;
+#[cfg(test)]
+mod timers;
+#[cfg(test)]
+mod udptl;

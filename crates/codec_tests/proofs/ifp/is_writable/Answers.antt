@@ -5,7 +5,7 @@ use Rattle.fax_ifp.specs.declared.packet.Field.{Field}
 use Rattle.fax_ifp.specs.Seen.{text_of}
 use Rattle.fax_ifp.specs.WrittenPackets.{IsWritableField}
 use Rattle.fax_ifp.proofs.WritingLemmas.{length-texts}
-use Rattle.t38_tests.proofs.ifp.is_writable.Goals as goal
+use Rattle.codec_tests.proofs.ifp.is_writable.Goals as goal
 
 pub loop-field-preserved : goal.loop-field-preserved
 loop-field-preserved c =
