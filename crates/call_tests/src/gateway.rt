@@ -3,10 +3,8 @@
 mod call;
 mod chain;
 mod driving;
-mod due;
 mod hostile;
 mod list_wire;
-mod lossy;
 mod restored;
 
 use call::{Change, octets_of, play_call, play_nothing};

@@ -1,18 +1,15 @@
-use fax_jobs::{Job, Jobs, Outcome, Pages, Report};
-use fax_pagestore::{Coding, Format, Page, PlainRows, RowStore, read_page};
+use fax_jobs::{Jobs, Outcome, Report};
+use fax_pagestore::{Coding, Format, Page, PlainRows, read_page};
 use fax_runcodes::Width;
 use std::alloc::Global;
 use std::process::Abort;
 use std::test::Fail;
 
-/// Modified Huffman pages of one, two and three white rows of 1728 elements: an EOL, each row with an EOL behind it, five
+/// Modified Huffman pages of one and two white rows of 1728 elements: an EOL, each row with an EOL behind it, five
 /// more EOLs, and bits of 0 to the octet's end. (ITU-T T.4, 4.1, tables 2/T.4 and 3a/T.4.)
 const ONE_ROW: &[u8] = b"\x00\x14\xd9\xa8\x00\x80\x08\x00\x80\x08\x00\x80\x08";
 
 const TWO_ROWS: &[u8] = b"\x00\x14\xd9\xa8\x00\xa6\xcd\x40\x04\x00\x40\x04\x00\x40\x04\x00\x40";
-
-const THREE_ROWS: &[u8] =
-    b"\x00\x14\xd9\xa8\x00\xa6\xcd\x40\x05\x36\x6a\x00\x20\x02\x00\x20\x02\x00\x20\x02";
 
 /// The formats of the pages.
 const STANDARD: Format = Format {
@@ -115,58 +112,10 @@ fn outcomes_have_numbers_and_names(rt: HostRuntime) -> Result<(), Fail> {
     Ok(())
 }
 
-/// Whether pages have so many rows, and these formats.
-fn has_pages(pages: &[Page<PlainRows>], wanted: &[(u32, Format)]) -> bool {
-    let mut all = pages.len() == wanted.len();
-    for (page, (rows, format)) in pages.iter().zip(wanted) {
-        all = all && page.rows().len() == *rows && page.format() == *format;
-    }
-    all
-}
-
-/// Whether a job has this call, this format and these pages.
-fn is_job(job: &Job<PlainRows>, call: u32, format: Format, pages: &[(u32, Format)]) -> bool {
-    job.call() == call
-        && job.format() == format
-        && job.page_count() as usize == pages.len()
-        && has_pages(job.pages().as_slice(), pages)
-}
-
-/// Adds a page to a job that has fewer than 999, and says how many it had.
-fn add_to(job: &mut Job<PlainRows>, page: Page<PlainRows>) -> Result<u32, &'static str> {
-    let count = job.page_count();
-    if count < 999 {
-        taken(job.add_page(page))?;
-    }
-    Ok(count)
-}
-
-#[test]
-fn jobs_have_their_pages(rt: HostRuntime) -> Result<(), Fail> {
-    let first = page_of(rt.alloc(), ONE_ROW, FINE)?;
-    let second = page_of(rt.alloc(), TWO_ROWS, FINE)?;
-    let mut job = taken(Job::of_page(rt.alloc(), 7, first))?;
-    let before = add_to(&mut job, second)?;
-    let is_job = is_job(&job, 7, FINE, &[(1, FINE), (2, FINE)]);
-    assert!(rt; before == 1 && is_job);
-    Ok(())
-}
-
-#[test]
-fn pages_are_a_list(rt: HostRuntime) -> Result<(), Fail> {
-    let mut list = Vec::new(rt.alloc());
-    list.push(page_of(rt.alloc(), THREE_ROWS, STANDARD)?)?;
-    let pages = Pages::from_vec(list);
-    assert!(rt; pages.as_slice().len() == 1);
-    let list = pages.into_vec();
-    let [page] = list.as_slice() else { rt.abort() };
-    assert!(rt; page.rows().len() == 3);
-    Ok(())
-}
-
 /// A book in which a job of two pages, of call 7, waits.
 fn book_of_two_pages(rt: &impl Abort, alloc: Global) -> Result<Jobs<PlainRows>, Fail> {
     let mut jobs = Jobs::new(alloc)?;
+    jobs.reserve()?;
     assert!(rt; jobs.open_job().is_none());
     let first = page_of(alloc, ONE_ROW, STANDARD)?;
     let second = page_of(alloc, TWO_ROWS, STANDARD)?;
@@ -205,99 +154,6 @@ fn a_job_goes_through_the_book(rt: HostRuntime) -> Result<(), Fail> {
     };
     assert!(rt; refuse_one(&mut jobs) == Some((0, true, 7, true)));
     assert!(rt; jobs.report(0) == Some(wanted) && jobs.report(1).is_none());
-    Ok(())
-}
-
-/// How many rows the page has that joined last, 0 where there is none.
-fn newest(jobs: &Jobs<PlainRows>) -> u32 {
-    match jobs.newest_page() {
-        Some(page) => page.rows().len(),
-        None => 0,
-    }
-}
-
-/// Sends the job that waits first, and ends it: the newest page behind each of both, where none was being sent.
-fn newest_behind_one(jobs: &mut Jobs<PlainRows>) -> Option<(u32, u32)> {
-    if jobs.sending().is_some() {
-        return None;
-    }
-    jobs.next();
-    let sent = newest(jobs);
-    jobs.sending()?;
-    jobs.end(Outcome::Delivered, 1);
-    Some((sent, newest(jobs)))
-}
-
-/// Confirms a page, and tells the newest one.
-fn newest_with(
-    alloc: Global,
-    jobs: &mut Jobs<PlainRows>,
-    octets: &[u8],
-    closes: bool,
-) -> Result<u32, Fail> {
-    let page = page_of(alloc, octets, STANDARD)?;
-    taken(jobs.confirm(7, page, closes))?;
-    Ok(newest(jobs))
-}
-
-#[test]
-fn the_newest_page_is_the_one_confirmed_last(rt: HostRuntime) -> Result<(), Fail> {
-    let mut jobs = Jobs::new(rt.alloc())?;
-    let none = newest(&jobs);
-    let one = newest_with(rt.alloc(), &mut jobs, ONE_ROW, false)?;
-    // its job is closed
-    let two = newest_with(rt.alloc(), &mut jobs, TWO_ROWS, true)?;
-    // the next one is of a job that waits behind
-    let three = newest_with(rt.alloc(), &mut jobs, THREE_ROWS, true)?;
-    assert!(rt; (none, one, two, three) == (0, 1, 2, 3));
-    // also while the first is sent, and behind its end; then its own is sent, and is gone with it
-    let first = newest_behind_one(&mut jobs);
-    let second = newest_behind_one(&mut jobs);
-    assert!(rt; first == Some((3, 3)) && second == Some((3, 0)));
-    Ok(())
-}
-
-/// Confirms a page of call 7, into room that is reserved before.
-fn confirm_with_room(
-    alloc: Global,
-    jobs: &mut Jobs<PlainRows>,
-    octets: &[u8],
-    format: Format,
-) -> Result<(), Fail> {
-    let page = page_of(alloc, octets, format)?;
-    jobs.reserve()?;
-    taken(jobs.confirm(7, page, false))?;
-    Ok(())
-}
-
-/// Whether the call ends, and a job of it with this format and these pages is sent next.
-fn sends(jobs: &mut Jobs<PlainRows>, format: Format, pages: &[(u32, Format)]) -> bool {
-    if jobs.sending().is_some() {
-        return false;
-    }
-    jobs.end_call();
-    jobs.next();
-    match jobs.sending() {
-        Some(job) => is_job(job, 7, format, pages),
-        None => false,
-    }
-}
-
-#[test]
-fn pages_come_into_room_that_is_there(rt: HostRuntime) -> Result<(), Fail> {
-    let mut jobs = Jobs::new(rt.alloc())?;
-    // one that opens a job, three that join it, and of them one of another format
-    for (octets, format) in [
-        (ONE_ROW, STANDARD),
-        (TWO_ROWS, STANDARD),
-        (THREE_ROWS, STANDARD),
-        (ONE_ROW, FINE),
-    ] {
-        confirm_with_room(rt.alloc(), &mut jobs, octets, format)?;
-    }
-    let shown = shown(&jobs);
-    let pages = [(1, STANDARD), (2, STANDARD), (3, STANDARD), (1, FINE)];
-    assert!(rt; shown == (0, Some((7, 4))) && sends(&mut jobs, STANDARD, &pages));
     Ok(())
 }
 
@@ -388,55 +244,5 @@ fn cuts_calls_into_jobs(rt: HostRuntime) -> Result<(), Fail> {
         assert!(rt; jobs.open_job().is_none());
         expect_jobs(&rt, &mut jobs, wanted);
     }
-    Ok(())
-}
-
-/// Confirms a page of a call.
-fn confirm_one(
-    rt: &impl Abort,
-    alloc: Global,
-    jobs: &mut Jobs<PlainRows>,
-    call: u32,
-    closes: bool,
-) -> Result<(), Fail> {
-    tell(rt, alloc, jobs, &Event::Confirms(call, STANDARD, closes))
-}
-
-#[test]
-fn cuts_behind_999_pages(rt: HostRuntime) -> Result<(), Fail> {
-    let mut jobs = Jobs::new(rt.alloc())?;
-    for _ in 0..1000 {
-        confirm_one(&rt, rt.alloc(), &mut jobs, 7, false)?;
-    }
-    assert!(rt; jobs.waiting() == 1);
-    jobs.end_call();
-    expect_jobs(&rt, &mut jobs, &[(7, false, 999), (7, false, 1)]);
-    Ok(())
-}
-
-/// Whether the reports are those of 64 calls one after another, from this on.
-fn reports_from(jobs: &Jobs<PlainRows>, first: u32) -> bool {
-    let mut all = jobs.report(64).is_none();
-    for i in 0..64u32 {
-        all = all && reported_call(jobs, i as usize) == first.checked_add(i);
-    }
-    all
-}
-
-/// The call of a report.
-fn reported_call(jobs: &Jobs<PlainRows>, i: usize) -> Option<u32> {
-    Some(jobs.report(i)?.call)
-}
-
-#[test]
-fn keeps_the_last_64_reports(rt: HostRuntime) -> Result<(), Fail> {
-    let mut jobs = Jobs::new(rt.alloc())?;
-    for call in 1..=65 {
-        confirm_one(&rt, rt.alloc(), &mut jobs, call, true)?;
-    }
-    for call in 1..=65 {
-        assert!(rt; send_one(&mut jobs) == Some((call, false, 1)));
-    }
-    assert!(rt; reports_from(&jobs, 2));
     Ok(())
 }

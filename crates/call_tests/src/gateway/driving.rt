@@ -1,11 +1,11 @@
 //! Runs of turns over a wire.
 use super::call::{
-    COMES, Change, DELIVERED, SENDS, TURNS, gateway_of, gives, is_whole_call, moment, octets_of,
+    COMES, Change, DELIVERED, SENDS, TURNS, gateway_of, gives, is_whole_call, octets_of,
 };
 use super::list_wire::{Fails, ListWire, OnWire};
 use super::refused;
 use fax_bits::NoMemory;
-use fax_gateway::{Driven, Driver, Gateway, Turned, drive};
+use fax_gateway::{Driven, Gateway, drive};
 use fax_jobs::Report;
 use fax_pagestore::PlainRows;
 use std::alloc::Global;
@@ -77,74 +77,6 @@ fn runs_over_a_broken_wire(rt: HostRuntime) {
     mute.rings = &[0];
     mute.driven.sends_failed = 3 + 2 * 11 + 2;
     comes_to(&rt, rt.alloc(), mute, 1000);
-}
-
-/// The turn in which T1 is due, at 35 s, and our DCN, behind its preamble, ends the call.
-const GIVEN_UP: u32 = 876;
-
-/// What a turn tells in which nothing happens.
-const NOTHING: Turned = Turned {
-    goes_on: true,
-    report: None,
-    kept: None,
-    refused: None,
-    ended: None,
-    gave_up: None,
-    dialled: None,
-};
-
-#[test]
-fn a_call_that_is_given_up(rt: HostRuntime) -> Result<(), Fail> {
-    assert!(rt; is_given_up(rt.alloc())?);
-    Ok(())
-}
-
-/// Whether a call that nobody hears is given up.
-fn is_given_up(alloc: Global) -> Result<bool, NoMemory> {
-    let mut unheard = Unheard::new(alloc)?;
-    Ok(unheard.gives_up())
-}
-
-/// A gateway that is driven over a wire on which nothing comes.
-#[derive(Drop)]
-struct Unheard {
-    gateway: Gateway<PlainRows>,
-    wire: ListWire,
-    driver: Driver,
-}
-
-impl Unheard {
-    fn new(alloc: Global) -> Result<Self, NoMemory> {
-        let driver = Driver::new(alloc)?;
-        let wire = ListWire::new(alloc, Fails::NONE, Fails::NONE)?;
-        let gateway = Gateway::new(alloc, 3)?;
-        Ok(Unheard {
-            gateway,
-            wire,
-            driver,
-        })
-    }
-
-    /// Whether a call is on up to the turn in which it is given up, each turn tells just that, and no call is on then.
-    fn gives_up(&mut self) -> bool {
-        let mut is_told = self.gateway.ring(0) == Ok(0);
-        for turn in 0..GIVEN_UP {
-            is_told = is_told && self.tells(turn, NOTHING);
-        }
-        let mut last = NOTHING;
-        last.ended = Some(0);
-        last.gave_up = Some(0);
-        is_told && self.tells(GIVEN_UP, last) && self.gateway.call().is_none()
-    }
-
-    /// Whether the call is on before a turn, and the turn tells just this.
-    fn tells(&mut self, turn: u32, told: Turned) -> bool {
-        let is_on = self.gateway.call() == Some(0);
-        let turned = self
-            .driver
-            .turn(&mut self.gateway, &mut self.wire, moment(turn));
-        is_on && turned == told
-    }
 }
 
 #[test]
