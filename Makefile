@@ -50,8 +50,7 @@ memory: all
 	tools/refuse-test-memory crates/fax_c/out/fax_c_tests tests::faults_that_want_no_memory_are_told
 	cd crates/call_tests && $(RT) test > /dev/null
 	tools/refuse-test-memory crates/call_tests/out/call_tests_tests answer::memory::a_call_that_is_refused_memory
-	cd crates/fax_call && $(RT) test > /dev/null
-	tools/refuse-test-memory crates/fax_call/out/fax_call_tests tests::memory::a_call_that_is_refused_memory
+	tools/refuse-test-memory crates/call_tests/out/call_tests_tests caller::memory::a_call_that_is_refused_memory
 	tools/refuse-test-memory crates/call_tests/out/call_tests_tests gateway::a_page_goes_through_the_gateway
 	tools/refuse-test-memory crates/call_tests/out/call_tests_tests gateway::driving::a_run_that_is_refused_memory
 

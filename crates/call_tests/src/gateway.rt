@@ -1,5 +1,4 @@
-//! A whole call on both legs, and what is refused. Memory is refused from outside: `tools/refuse-test-memory` refuses each
-//! allocation in turn, and reads what a test prints.
+//! A whole call on both legs, and what is refused.
 mod call;
 mod chain;
 mod driving;
@@ -7,6 +6,7 @@ mod hostile;
 mod list_wire;
 mod restored;
 
+use crate::memory::refused;
 use call::{Change, octets_of, play_call, play_nothing};
 use fax_answer::Refusal;
 use fax_gateway::RingFault;
@@ -26,16 +26,6 @@ fn refused_in_the_call(rt: &impl Abort, alloc: Global) -> &'static str {
     let played = play_call(rt, alloc, Change::None);
     assert!(rt; played.is_whole_call());
     refused(rt, played.refused_calls, played.refused_texts)
-}
-
-/// Says what was refused, once at most.
-fn refused(rt: &impl Abort, calls: u64, texts: u64) -> &'static str {
-    match (calls, texts) {
-        (0, 0) => "nothing",
-        (1, 0) => "a call",
-        (0, 1) => "a text",
-        _ => rt.abort(),
-    }
 }
 
 #[test]

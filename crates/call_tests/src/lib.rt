@@ -4,6 +4,12 @@
 #[cfg(test)]
 mod answer;
 #[cfg(test)]
+mod caller;
+#[cfg(test)]
 mod gateway;
 #[cfg(test)]
+mod hex;
+#[cfg(test)]
 mod jobs;
+#[cfg(test)]
+mod memory;

@@ -1,5 +1,6 @@
 //! A whole call: what comes on both legs, and what is given there.
 use super::list_wire::{OnWire, ShortOctets};
+use crate::hex::value_of;
 use fax_answer::Refusal;
 use fax_bits::{NoMemory, Octets};
 use fax_gateway::{Gateway, Given, Kept, Refused, RingFault, Side};
@@ -505,13 +506,4 @@ fn octet_at(text: &str, i: usize) -> Option<u8> {
     let high = digits.get(i.saturating_mul(2))?;
     let low = digits.get(i.saturating_mul(2).saturating_add(1))?;
     Some((value_of(*high) << 4) | value_of(*low))
-}
-
-/// The value of a hex digit, a small letter where it is one.
-fn value_of(digit: u8) -> u8 {
-    if digit < b'a' {
-        digit & 15
-    } else {
-        (digit & 15).wrapping_add(9)
-    }
 }

@@ -3,7 +3,7 @@ use super::call::{
     COMES, Change, DELIVERED, SENDS, TURNS, gateway_of, gives, is_whole_call, octets_of,
 };
 use super::list_wire::{Fails, ListWire, OnWire};
-use super::refused;
+use crate::memory::refused;
 use fax_bits::NoMemory;
 use fax_gateway::{Driven, Gateway, drive};
 use fax_jobs::Report;
