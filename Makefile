@@ -2,7 +2,7 @@
 RT ?= rt
 PROGRAM = crates/faxgate/out/faxgate
 
-.PHONY: all demo test play wrong-bodies format memory crash bench load interop serve-interop tables check-docs
+.PHONY: all demo test play c-tests wrong-bodies format memory crash bench load interop serve-interop tables check-docs
 
 # Proves and builds the program, its crates side by side, and says where it lies. What was proved is kept in the user's cache.
 all:
@@ -21,6 +21,11 @@ test:
 play:
 	tools/play $(PROGRAM)
 
+# Tests the calls for C from C, through fax_c.h: crates/fax_c/tests.c. The gate proves them, and runs none of these. It wants a C
+# compiler, and no other library.
+c-tests: bench/c_tests
+	bench/c_tests
+
 # Tries every wrong body, those that the gate passes over too, many in one check, and tells which clause refuses each. With
 # CRATES="fax_bits fax_udptl" those of these crates alone. It wants Python 3.
 wrong-bodies:
@@ -34,7 +39,7 @@ format:
 # page that is read and written in pieces, of faults that the calls for C tell without memory, of a whole call of the
 # answering and of the calling side, of one through the gateway, and of one that is driven over a wire. It wants a C
 # compiler, and a minute at most behind the proofs of the crates.
-memory: all
+memory: all bench/c_tests
 	tools/refuse-memory $(PROGRAM) samples/hello.hex page
 	tools/refuse-memory $(PROGRAM) samples/hello.hex page --pbm
 	tools/refuse-memory $(PROGRAM) samples/hello.runs page --back
@@ -46,8 +51,7 @@ memory: all
 	tools/refuse-test-memory crates/command_tests/out/command_tests_tests trace::memory::a_script_that_is_refused_memory
 	cd crates/codec_tests && $(RT) test > /dev/null
 	tools/refuse-test-memory crates/codec_tests/out/codec_tests_tests pagestore::memory::a_page_that_is_refused_memory
-	cd crates/fax_c && $(RT) test > /dev/null
-	tools/refuse-test-memory crates/fax_c/out/fax_c_tests tests::faults_that_want_no_memory_are_told
+	tools/refuse-test-memory bench/c_tests faults_that_want_no_memory_are_told
 	cd crates/call_tests && $(RT) test > /dev/null
 	tools/refuse-test-memory crates/call_tests/out/call_tests_tests answer::memory::a_call_that_is_refused_memory
 	tools/refuse-test-memory crates/call_tests/out/call_tests_tests caller::memory::a_call_that_is_refused_memory
@@ -85,6 +89,11 @@ bench/bench: bench/bench.c bench/others.c bench/others.h $(FAX_C)/fax_c.h
 bench/example: $(FAX_C)/example.c $(FAX_C)/fax_c.h
 	cd $(FAX_C) && $(RT) lib
 	$(CC) -O2 -Wall -Wextra -I$(FAX_C) -o $@ $(FAX_C)/example.c $(FAX_C)/out/libfax_c.a $(KIT_C)/liblibc_c.a
+
+# The tests of the calls for C, of `make c-tests`.
+bench/c_tests: $(FAX_C)/tests.c $(FAX_C)/fax_c.h
+	cd $(FAX_C) && $(RT) lib
+	$(CC) -O2 -Wall -Wextra -I$(FAX_C) -o $@ $(FAX_C)/tests.c $(FAX_C)/out/libfax_c.a $(KIT_C)/liblibc_c.a
 
 bench: all bench/example bench/bench
 	bench/example
