@@ -6,10 +6,9 @@ ghost use Rattle.fax_ifp.specs.WrittenPackets.{IsWritable, IsWritableField};
 mod codes;
 mod signals;
 
-use fax_bits::{NoMemory, Octets};
+use fax_bits::NoMemory;
 use fax_ifp::{
-    Field, Head, Ifp, IfpFault, data_length, put_indicator, write_data, write_frame, write_image,
-    write_indicator,
+    Field, Head, Ifp, IfpFault, data_length, write_data, write_frame, write_image, write_indicator,
 };
 use std::alloc::Global;
 use std::process::Abort;
@@ -327,13 +326,6 @@ fn is_writable_field(field: &Field<'_>) -> bool
     field.what <= 7 && few
 }
 
-/// Reads what is left of octets that are cut short, which does not fail whatever it answers.
-fn read_fronts(alloc: Global, octets: &[u8]) {
-    for end in 0..octets.len() {
-        let _ = Ifp::read(alloc, &octets[..end]);
-    }
-}
-
 /// Whether a packet is written as what it is.
 fn is_written(alloc: Global, packet: &Worked) -> Result<bool, NoMemory> {
     if !is_writable(packet.kind, packet.fields) {
@@ -351,7 +343,6 @@ fn worked_packets_are_read_and_written(rt: HostRuntime) -> Result<(), Fail> {
         let read = Ifp::read(rt.alloc(), packet.octets)?;
         assert!(rt; read.head() == Head::Message { kind: packet.kind });
         assert!(rt; read.fields() == packet.fields);
-        read_fronts(rt.alloc(), packet.octets);
     }
     Ok(())
 }
@@ -363,7 +354,6 @@ fn refused_packets_are_told(rt: HostRuntime) -> Result<(), Fail> {
             Ifp::read(rt.alloc(), octets).err() == Some(*fault),
             "{octets:?}"
         );
-        read_fronts(rt.alloc(), octets);
     }
     Ok(())
 }
@@ -428,43 +418,6 @@ fn frames_and_images_are_written(rt: HostRuntime) -> Result<(), Fail> {
     for (last, image, packet) in IMAGES {
         assert!(rt; is_image_written(rt.alloc(), *last, image, packet)?);
     }
-    Ok(())
-}
-
-#[test]
-fn indicators_are_put_into_just_enough_room(rt: HostRuntime) -> Result<(), Fail> {
-    let mut octets = Vec::with_capacity(rt.alloc(), 2)?;
-    put_indicator(&mut octets, 3);
-    put_indicator(&mut octets, 15);
-    assert!(rt; octets.as_slice() == [0x06, 0x1e].as_slice());
-    Ok(())
-}
-
-/// The packet of 65,535 octets of an image.
-fn longest_packet(alloc: Global) -> Result<Octets, NoMemory> {
-    let octets = vec![in alloc; 0x55; 65_535]?;
-    write_image(alloc, 4, false, octets.as_slice())
-}
-
-/// Whether octets are read as a message of one field, of T.4 data without its end, that has what stands behind its header.
-fn is_one_field(alloc: Global, octets: &[u8]) -> Result<bool, IfpFault> {
-    let read = Ifp::read(alloc, octets)?;
-    let is_own = match read.fields() {
-        [field] => field.what == 6 && field.octets == octets.get(5..),
-        _ => false,
-    };
-    Ok(is_own && read.head() == Head::Message { kind: 4 })
-}
-
-#[test]
-fn the_longest_field_is_written_and_read(rt: HostRuntime) -> Result<(), Fail> {
-    let packet = longest_packet(rt.alloc())?;
-    let octets = packet.as_slice();
-    let head = [0xc8, 0x01, 0xe0, 0xff, 0xfe].as_slice();
-    assert!(rt; octets.len() == 65_540 && octets.starts_with(head));
-    assert!(rt; is_one_field(rt.alloc(), octets)?);
-    let short = octets.get(..65_539).unwrap_or_default();
-    assert!(rt; Ifp::read(rt.alloc(), short).err() == Some(IfpFault::Short));
     Ok(())
 }
 

@@ -5,6 +5,8 @@
 #[cfg(test)]
 mod bits;
 #[cfg(test)]
+mod digits;
+#[cfg(test)]
 mod frames;
 #[cfg(test)]
 mod ifp;

@@ -4,7 +4,8 @@ mod memory;
 mod samples;
 mod speed;
 
-use fax_bits::{BitWriter, NoMemory, Octets};
+use crate::digits::{Digits, octets_between, octets_of};
+use fax_bits::NoMemory;
 use fax_pagestore::{
     Coding, Format, MOST_ROWS, PackedRows, Page, PageFault, PageReader, PageWriter, PlainRows,
     RowStore, read_page, write_page,
@@ -27,6 +28,9 @@ const EOL_1: &str = "0000000000011";
 /// An EOL and tag 0.
 const EOL_0: &str = "0000000000010";
 
+/// Zeros of more than three octets.
+const FILL: &str = "000000000000000000000000000";
+
 /// A one-dimensional line of 1728 white elements.
 const WHITE: &str = "01001101100110101";
 
@@ -41,6 +45,9 @@ const AS_MARKED: &str = "111";
 
 /// A two-dimensional line of a marked row against a white one: horizontal, white 1, black 2, and V0.
 const MARKED_BEHIND_WHITE: &str = "001000111111";
+
+/// A return to control in one dimension.
+const RETURN: &[&str] = &[EOL, EOL, EOL, EOL, EOL, EOL];
 
 /// A white row and a marked one, in one dimension.
 const ONE_WHITE: &[&str] = &[EOL, WHITE, EOL, MARKED, EOL, EOL, EOL, EOL, EOL, EOL];
@@ -121,38 +128,46 @@ const WHITE_2048: &str = "00000001001100110101";
 /// A one-dimensional line of 2432 white elements.
 const WHITE_2432: &str = "00000001110100110101";
 
-/// Rows by their runs, and the places at which they change colour.
-const ROWS: [(&[u16], &[u16]); 5] = [
-    (&[1728], &[]),
-    (&[4, 1, 1723], &[4, 5]),
-    (&[0, 2048], &[0]),
-    (&[0, 1, 2430, 1], &[0, 1, 2431]),
-    (&[2432], &[]),
-];
-
-/// The digits in which texts are told.
-#[derive(Clone, Copy)]
-enum Digits {
-    Binary,
-    Hex,
-}
-
-impl Digits {
-    ghost use Rattle.std.specs.Prelude.{◌≤◌};
-
-    /// The bits of a digit.
-    fn bits(self) -> u32
-        ensures { result ≤ 4 }
-    {
-        match self {
-            Digits::Binary => 1,
-            Digits::Hex => 4,
-        }
-    }
-}
-
 /// Pages by their texts, and the places at which their rows change colour.
-const PAGES: [(Width, Coding, Digits, &[&str], &[&[u16]]); 19] = [
+const PAGES: [(Width, Coding, Digits, &[&str], &[&[u16]]); 21] = [
+    // octets of fill before the first EOL, behind each line, behind each EOL of the return to control, and behind the sixth
+    (
+        Width::W1728,
+        Coding::Mh,
+        Digits::Binary,
+        &[
+            FILL, EOL, WHITE, FILL, EOL, MARKED, FILL, EOL, FILL, EOL, FILL, EOL, FILL, EOL, FILL,
+            EOL, FILL, EOL, FILL,
+        ],
+        &[&[], &[1, 3]],
+    ),
+    (
+        Width::W1728,
+        Coding::Mr,
+        Digits::Binary,
+        &[
+            FILL,
+            EOL_1,
+            WHITE,
+            FILL,
+            EOL_0,
+            MARKED_BEHIND_WHITE,
+            FILL,
+            EOL_1,
+            FILL,
+            EOL_1,
+            FILL,
+            EOL_1,
+            FILL,
+            EOL_1,
+            FILL,
+            EOL_1,
+            FILL,
+            EOL_1,
+            FILL,
+        ],
+        &[&[], &[1, 3]],
+    ),
     // any bits before the first EOL, fill before another, and anything behind the sixth
     (
         Width::W1728,
@@ -458,32 +473,19 @@ const WRITTEN: [(&[&str], bool, Coding, u32, &[&str]); 5] = [
     (FIVE_WHITE, true, Coding::Mr, 0, OF_FOUR),
 ];
 
-/// The octets that texts of digits show.
-fn octets_of(alloc: Global, digits: Digits, texts: &[&str]) -> Result<Octets, NoMemory> {
-    let bits = digits.bits();
-    let mut writer = BitWriter::new(alloc);
-    for text in texts {
-        for digit in text.bytes() {
-            // the low bits of a digit's code are its value, and those of a letter 9 less
-            let code = u32::from(digit);
-            writer.put(if digit > b'9' { code + 9 } else { code }, bits)?;
-        }
-    }
-    Ok(writer.finish())
-}
-
-/// Feeds a piece. Behind it others come, and are taken back.
-fn feed_and_take_back(reader: &mut PageReader<PackedRows>, piece: &[u8]) -> Result<(), PageFault> {
-    reader.feed(piece)?;
-    let mark = reader.mark()?;
-    reader.feed(&[0x5a, 0x00, 0x15])?;
-    reader.back(mark);
-    Ok(())
+/// Reads a page whole.
+fn whole(
+    alloc: Global,
+    octets: &[u8],
+    format: Format,
+    coding: Coding,
+) -> Result<Page<PlainRows>, PageFault> {
+    read_page(alloc, octets, format, coding)
 }
 
 /// Reads the page that comes in pieces of so many octets. Behind each of them others come, and are taken
 /// back.
-fn feed_in(
+fn in_pieces(
     alloc: Global,
     octets: &[u8],
     cut: usize,
@@ -498,171 +500,105 @@ fn feed_in(
     reader.finish()
 }
 
-/// Fails unless both stores have rows of the same changes.
-fn expect_same(rt: &impl Abort, packed: &PackedRows, plain: &PlainRows) {
-    assert!(rt; packed.len() == plain.len());
-    for i in 0..plain.len() {
-        let (row, same) = (packed.lend(i), plain.lend(i));
-        assert!(rt; row.changes() == same.changes(), "in row {i}");
-    }
+/// Feeds a piece. Behind it others come, and are taken back.
+fn feed_and_take_back(reader: &mut PageReader<PackedRows>, piece: &[u8]) -> Result<(), PageFault> {
+    reader.feed(piece)?;
+    let mark = reader.mark()?;
+    reader.feed(&[0x5a, 0x00, 0x15])?;
+    reader.back(mark);
+    Ok(())
 }
 
-/// Reads a page into either store and in pieces, and fails unless the rows are the same.
-fn read_each_way(
+/// Whether rows have this width, and change colour at these places.
+fn are_rows<S: RowStore>(rows: &S, width: Width, wanted: &[&[u16]]) -> bool {
+    let mut all = rows.len() as usize == wanted.len();
+    let mut n = 0;
+    for changes in wanted {
+        if n < rows.len() {
+            let row = rows.lend(n);
+            all = all && row.width() == width.elements() && row.changes() == *changes;
+            n += 1;
+        }
+    }
+    all
+}
+
+/// How many rows a page has that is read whole.
+fn rows_of(alloc: Global, octets: &[u8], format: Format, coding: Coding) -> Result<u32, PageFault> {
+    let page = whole(alloc, octets, format, coding)?;
+    Ok(page.rows().len())
+}
+
+/// How many rows one has that comes in pieces.
+fn rows_in_pieces(
+    alloc: Global,
+    octets: &[u8],
+    cut: usize,
+    format: Format,
+    coding: Coding,
+) -> Result<u32, PageFault> {
+    let page = in_pieces(alloc, octets, cut, format, coding)?;
+    Ok(page.rows().len())
+}
+
+/// Fails unless a page has so many rows, or none for this fault, whole and in pieces of these sizes.
+fn expect_rows(
     rt: &impl Abort,
     alloc: Global,
     octets: &[u8],
     format: Format,
     coding: Coding,
-) -> Result<Page<PlainRows>, PageFault> {
-    let page: Page<PlainRows> = read_page(alloc, octets, format, coding)?;
-    read_packed_and_in_pieces(rt, alloc, octets, coding, &page)?;
-    Ok(page)
+    cuts: &[usize],
+    wanted: Result<u32, PageFault>,
+) {
+    let whole = rows_of(alloc, octets, format, coding);
+    assert!(rt; whole == wanted);
+    for cut in cuts {
+        let rows = rows_in_pieces(alloc, octets, *cut, format, coding);
+        assert!(rt; rows == wanted, "in pieces of {cut}");
+    }
 }
 
-/// Reads a page again, into the packed store and in pieces, and fails unless the rows are the same.
-fn read_packed_and_in_pieces(
-    rt: &impl Abort,
+/// Whether a page has these rows, whole and in pieces.
+fn is_read(
     alloc: Global,
     octets: &[u8],
+    format: Format,
     coding: Coding,
-    page: &Page<PlainRows>,
-) -> Result<(), PageFault> {
-    let packed: Page<PackedRows> = read_page(alloc, octets, page.format(), coding)?;
-    expect_same(rt, packed.rows(), page.rows());
+    wanted: &[&[u16]],
+) -> Result<bool, PageFault> {
+    let page = whole(alloc, octets, format, coding)?;
+    let mut all = are_rows(page.rows(), format.width, wanted);
     for cut in CUTS {
-        let fed = feed_in(alloc, octets, cut, page.format(), coding)?;
-        expect_same(rt, fed.rows(), page.rows());
+        all = all && is_read_in_pieces(alloc, octets, cut, format, coding, wanted)?;
     }
-    Ok(())
+    Ok(all)
 }
 
-/// Fails unless the rows have this width, and change colour at these places.
-fn expect_rows(rt: &impl Abort, rows: &PlainRows, width: Width, wanted: &[&[u16]]) {
-    assert!(rt; rows.len() as usize == wanted.len());
-    let mut n = 0;
-    for changes in wanted {
-        if n < rows.len() {
-            let row = rows.lend(n);
-            let is_row = row.width() == width.elements() && row.changes() == *changes;
-            assert!(rt; is_row, "in row {n}");
-            n += 1;
-        }
-    }
-}
-
-/// Fails unless octets, whole and in pieces, are no page of the width 1728 for this fault.
-fn expect_fault(rt: &impl Abort, alloc: Global, octets: &[u8], coding: Coding, fault: PageFault) {
-    let format = Format {
-        width: Width::W1728,
-        fine: true,
-    };
-    let read: Result<Page<PlainRows>, PageFault> = read_page(alloc, octets, format, coding);
-    assert!(rt; read.err() == Some(fault), "at {octets:?}");
-    for cut in CUTS {
-        let fed = feed_in(alloc, octets, cut, format, coding);
-        assert!(rt; fed.err() == Some(fault), "at {cut} of {octets:?}");
-    }
-}
-
-/// The text of a page, written in pieces of so many octets.
-fn write_in_pieces(
+/// Whether one that comes in pieces has these rows.
+fn is_read_in_pieces(
     alloc: Global,
-    page: &Page<PlainRows>,
+    octets: &[u8],
+    cut: usize,
+    format: Format,
     coding: Coding,
-    least_bits: u32,
-    n: usize,
-) -> Result<Vec<u8>, NoMemory> {
-    let mut writer = PageWriter::new(alloc, page.format(), coding, least_bits);
-    let mut text = Vec::new(alloc);
-    for _ in 0..1000 {
-        if writer.ended() {
-            break;
-        }
-        let piece = writer.next(page, n)?;
-        text.extend_from_slice(piece.as_slice())?;
-    }
-    Ok(text)
+    wanted: &[&[u16]],
+) -> Result<bool, PageFault> {
+    let page = in_pieces(alloc, octets, cut, format, coding)?;
+    Ok(are_rows(page.rows(), format.width, wanted))
 }
 
-/// Fails unless a page is written as these octets, whole and in pieces.
-fn expect_written(
-    rt: &impl Abort,
-    alloc: Global,
-    page: &Page<PlainRows>,
-    coding: Coding,
-    least_bits: u32,
-    wanted: &[u8],
-) -> Result<(), NoMemory> {
-    let whole = write_page(alloc, page, coding, least_bits)?;
-    assert!(rt; whole.as_slice() == wanted);
-    for n in [1, 7, 100] {
-        let text = write_in_pieces(alloc, page, coding, least_bits, n)?;
-        assert!(rt; text.as_slice() == wanted, "in pieces of {n}");
-    }
-    Ok(())
-}
-
-/// Adds a row of such runs twice, lent and itself.
-fn push_twice<S: RowStore>(
-    rt: &impl Abort,
-    alloc: Global,
-    rows: &mut S,
-    runs: &[u16],
-) -> Result<(), RowFault> {
-    let row = Row::from_runs(alloc, runs)?;
-    assert!(rt; rows.push_lent(&row.lend()).is_ok());
-    assert!(rt; rows.push(row).is_ok());
-    Ok(())
-}
-
-/// Fails unless a row has these changes, itself and lent.
-fn expect_changes<S: RowStore>(
-    rt: &impl Abort,
-    rows: &S,
-    i: u32,
-    changes: &[u16],
-) -> Result<(), NoMemory> {
-    assert!(rt; i < rows.len());
-    let row = rows.row(i)?;
-    let are_same = row.changes() == changes && rows.lend(i).changes() == changes;
-    assert!(rt; are_same, "in row {i}");
-    Ok(())
-}
-
-/// Keeps rows in a store, cuts it, and adds others behind the rows that stay.
-fn keep_rows<S: RowStore>(rt: &impl Abort, mut rows: S, alloc: Global) -> Result<(), RowFault> {
-    assert!(rt; rows.len() == 0);
-    for (runs, _) in ROWS {
-        push_twice(rt, alloc, &mut rows, runs)?;
-    }
-    assert!(rt; rows.len() == 10);
-    for i in 0..10 {
-        expect_changes(rt, &rows, i, ROWS[i as usize / 2].1)?;
-    }
-    assert!(rt; rows.len() >= 3);
-    rows.cut(3);
-    push_twice(rt, alloc, &mut rows, ROWS[3].0)?;
-    assert!(rt; rows.len() == 5);
-    for (i, changes) in [
-        (1, ROWS[0].1),
-        (2, ROWS[1].1),
-        (3, ROWS[3].1),
-        (4, ROWS[3].1),
-    ] {
-        expect_changes(rt, &rows, i, changes)?;
-    }
-    Ok(())
+/// The fine format of a width.
+fn fine(width: Width) -> Format {
+    Format { width, fine: true }
 }
 
 #[test]
 fn reads_pages_whole_and_in_pieces(rt: HostRuntime) -> Result<(), Fail> {
     for (width, coding, digits, texts, wanted) in PAGES {
         let octets = octets_of(rt.alloc(), digits, texts)?;
-        let format = Format { width, fine: true };
-        let page = read_each_way(&rt, rt.alloc(), octets.as_slice(), format, coding)?;
-        assert!(rt; page.format().fine);
-        expect_rows(&rt, page.rows(), width, wanted);
+        let read = is_read(rt.alloc(), octets.as_slice(), fine(width), coding, wanted);
+        assert!(rt; read == Ok(true), "{texts:?}");
     }
     Ok(())
 }
@@ -671,9 +607,16 @@ fn reads_pages_whole_and_in_pieces(rt: HostRuntime) -> Result<(), Fail> {
 fn reads_sample_pages_in_pieces(rt: HostRuntime) -> Result<(), Fail> {
     for (width, coding, count, texts) in SAMPLES {
         let octets = octets_of(rt.alloc(), Digits::Hex, texts)?;
-        let format = Format { width, fine: true };
-        let page = read_each_way(&rt, rt.alloc(), octets.as_slice(), format, coding)?;
-        assert!(rt; page.rows().len() == count);
+        let octets = octets.as_slice();
+        expect_rows(
+            &rt,
+            rt.alloc(),
+            octets,
+            fine(width),
+            coding,
+            &CUTS,
+            Ok(count),
+        );
     }
     Ok(())
 }
@@ -682,97 +625,152 @@ fn reads_sample_pages_in_pieces(rt: HostRuntime) -> Result<(), Fail> {
 fn says_why_it_reads_no_page(rt: HostRuntime) -> Result<(), Fail> {
     for (coding, digits, texts, fault) in REFUSED {
         let octets = octets_of(rt.alloc(), digits, texts)?;
-        expect_fault(&rt, rt.alloc(), octets.as_slice(), coding, fault);
+        let octets = octets.as_slice();
+        let format = fine(Width::W1728);
+        expect_rows(&rt, rt.alloc(), octets, format, coding, &CUTS, Err(fault));
     }
     Ok(())
 }
 
-/// The text of so many white rows, in one-dimensional lines.
-fn white_rows(alloc: Global, count: u32) -> Result<Octets, NoMemory> {
-    let mut writer = BitWriter::new(alloc);
-    for _ in 0..count {
-        put_digits(&mut writer, EOL)?;
-        put_digits(&mut writer, WHITE)?;
-    }
-    for _ in 0..6 {
-        put_digits(&mut writer, EOL)?;
-    }
-    Ok(writer.finish())
+/// A text in one dimension: what stands before what comes so many times, that, and what stands behind; the octets of the
+/// pieces in which it comes; and how many rows it has, or why none.
+struct Long {
+    first: &'static [&'static str],
+    again: &'static [&'static str],
+    times: u32,
+    last: &'static [&'static str],
+    cuts: &'static [usize],
+    rows: Result<u32, PageFault>,
 }
 
-fn put_digits(writer: &mut BitWriter, text: &str) -> Result<(), NoMemory> {
-    for digit in text.bytes() {
-        writer.put(u32::from(digit == b'1'), 1)?;
+const LONG: [Long; 8] = [
+    // white lines: each has 29 bits with its EOL, so that EOLs begin at each bit of 16 octets
+    Long {
+        first: &[],
+        again: &[EOL, WHITE],
+        times: 128,
+        last: RETURN,
+        cuts: &[
+            1, 2, 3, 4, 5, 6, 7, 8, 9, 10, 11, 12, 13, 14, 15, 16, 17, 31, 32, 33,
+        ],
+        rows: Ok(128),
+    },
+    Long {
+        first: &[],
+        again: &[EOL, WHITE],
+        times: 65_535,
+        last: RETURN,
+        cuts: &[4096],
+        rows: Ok(MOST_ROWS),
+    },
+    Long {
+        first: &[],
+        again: &[EOL, WHITE],
+        times: 65_536,
+        last: RETURN,
+        cuts: &[4096],
+        rows: Err(PageFault::TooManyRows),
+    },
+    // fill behind a line, behind an EOL, and behind the return to control
+    Long {
+        first: &[EOL, WHITE],
+        again: &["0"],
+        times: 40_000,
+        last: RETURN,
+        cuts: &[300, 4096],
+        rows: Ok(1),
+    },
+    Long {
+        first: &[EOL, WHITE, EOL],
+        again: &["0"],
+        times: 40_000,
+        last: &[EOL, EOL, EOL, EOL, EOL],
+        cuts: &[300, 4096],
+        rows: Ok(1),
+    },
+    Long {
+        first: &[EOL, WHITE, EOL, EOL, EOL, EOL, EOL, EOL],
+        again: &["0"],
+        times: 40_000,
+        last: &[],
+        cuts: &[300, 4096],
+        rows: Ok(1),
+    },
+    // a line of runs of no elements, white and black in turn, before 1728 white ones: no number of them makes it bad
+    Long {
+        first: &[EOL],
+        again: &["00110101", "0000110111"],
+        times: 3_000,
+        last: &[WHITE, EOL, EOL, EOL, EOL, EOL, EOL],
+        cuts: &[300, 4096],
+        rows: Ok(1),
+    },
+    // one of too many elements, three white and two black ones in turn, which nothing behind it mends
+    Long {
+        first: &[EOL],
+        again: &["1000", "11"],
+        times: 6_000,
+        last: &[EOL, WHITE, EOL, EOL, EOL, EOL, EOL, EOL],
+        cuts: &[300, 4096],
+        rows: Err(PageFault::BadLine(0)),
+    },
+];
+
+#[test]
+fn reads_long_texts_whole_and_in_pieces(rt: HostRuntime) -> Result<(), Fail> {
+    for long in &LONG {
+        let octets = octets_between(rt.alloc(), long.first, long.again, long.times, long.last)?;
+        expect_rows(
+            &rt,
+            rt.alloc(),
+            octets.as_slice(),
+            STANDARD,
+            Coding::Mh,
+            long.cuts,
+            long.rows,
+        );
     }
     Ok(())
 }
 
-/// The format of pages of white rows.
+/// The standard format of a page of 1728 elements a row.
 const STANDARD: Format = Format {
     width: Width::W1728,
     fine: false,
 };
 
-/// How many rows a page of these octets has.
-fn rows_of(alloc: Global, octets: &[u8]) -> Result<u32, PageFault> {
-    let page: Page<PackedRows> = read_page(alloc, octets, STANDARD, Coding::Mh)?;
-    Ok(page.rows().len())
-}
-
-/// The same of one that comes in pieces.
-fn rows_in_pieces_of(alloc: Global, octets: &[u8]) -> Result<u32, PageFault> {
-    let page = feed_in(alloc, octets, 4096, STANDARD, Coding::Mh)?;
-    Ok(page.rows().len())
-}
-
-/// Whether a page of these octets is written as them.
-fn is_written_as_read(alloc: Global, octets: &[u8]) -> Result<bool, PageFault> {
-    let page: Page<PackedRows> = read_page(alloc, octets, STANDARD, Coding::Mh)?;
-    let written = write_page(alloc, &page, Coding::Mh, 0)?;
-    Ok(written.as_slice() == octets)
-}
-
-/// Fails unless a page of so many white rows has so many, whole and in pieces.
-fn expect_count(
-    rt: &impl Abort,
+/// Whether a page of these octets in one dimension is written in these.
+fn is_written(
     alloc: Global,
-    count: u32,
-    wanted: Result<u32, PageFault>,
-) -> Result<(), NoMemory> {
-    let octets = white_rows(alloc, count)?;
-    let whole = rows_of(alloc, octets.as_slice());
-    let in_pieces = rows_in_pieces_of(alloc, octets.as_slice());
-    assert!(rt; whole == wanted && in_pieces == wanted);
-    Ok(())
-}
-
-#[test]
-fn a_page_has_at_most_65_535_rows(rt: HostRuntime) -> Result<(), Fail> {
-    expect_count(&rt, rt.alloc(), 65_535, Ok(MOST_ROWS))?;
-    expect_count(&rt, rt.alloc(), 65_536, Err(PageFault::TooManyRows))?;
-    let most = white_rows(rt.alloc(), 65_535)?;
-    assert!(rt; is_written_as_read(rt.alloc(), most.as_slice()) == Ok(true));
-    Ok(())
+    octets: &[u8],
+    format: Format,
+    coding: Coding,
+    least_bits: u32,
+    wanted: &[u8],
+) -> Result<bool, PageFault> {
+    let page = whole(alloc, octets, format, Coding::Mh)?;
+    let written = write_page(alloc, &page, coding, least_bits)?;
+    Ok(written.as_slice() == wanted)
 }
 
 #[test]
 fn writes_the_one_fixed_text(rt: HostRuntime) -> Result<(), Fail> {
     for (texts, fine, coding, least_bits, written) in WRITTEN {
         let octets = octets_of(rt.alloc(), Digits::Binary, texts)?;
+        let wanted = octets_of(rt.alloc(), Digits::Binary, written)?;
         let format = Format {
             width: Width::W1728,
             fine,
         };
-        let page = read_page(rt.alloc(), octets.as_slice(), format, Coding::Mh)?;
-        let wanted = octets_of(rt.alloc(), Digits::Binary, written)?;
-        expect_written(
-            &rt,
+        let is_written = is_written(
             rt.alloc(),
-            &page,
+            octets.as_slice(),
+            format,
             coding,
             least_bits,
             wanted.as_slice(),
-        )?;
+        );
+        assert!(rt; is_written == Ok(true), "{written:?}");
     }
     Ok(())
 }
@@ -789,12 +787,8 @@ fn gives_five_octets_at_a_time(rt: HostRuntime) -> Result<(), Fail> {
     let text = [
         0x00, 0x14, 0xd9, 0xa8, 0x00, 0x80, 0x08, 0x00, 0x80, 0x08, 0x00, 0x80, 0x08,
     ];
-    let format = Format {
-        width: Width::W1728,
-        fine: false,
-    };
-    let page: Page<PlainRows> = read_page(rt.alloc(), &text, format, Coding::Mh)?;
-    let mut writer = PageWriter::new(rt.alloc(), page.format(), Coding::Mh, 48);
+    let page = whole(rt.alloc(), &text, STANDARD, Coding::Mh)?;
+    let mut writer = PageWriter::new(rt.alloc(), STANDARD, Coding::Mh, 48);
     for piece in pieces {
         assert!(rt; gives(&mut writer, &page, piece)?);
     }
@@ -822,9 +816,37 @@ fn faults_have_numbers(rt: HostRuntime) {
     }
 }
 
+/// Keeps rows in a store, lent and themselves, and cuts it: the places at which those that stay change colour.
+fn keep_rows<S: RowStore>(alloc: Global, mut rows: S) -> Result<bool, RowFault> {
+    let marked = Row::from_runs(alloc, &[4, 1, 1723])?;
+    rows.push_lent(&marked.lend())?;
+    let is_pushed = rows.push(marked).is_ok() && rows.push_lent(&black(alloc)?.lend()).is_ok();
+    if rows.len() < 3 {
+        return Ok(false);
+    }
+    let are_kept = is_row(&rows, 1, &[4, 5])? && is_row(&rows, 2, &[0])?;
+    rows.cut(1);
+    Ok(is_pushed && are_kept && rows.len() == 1 && is_row(&rows, 0, &[4, 5])?)
+}
+
+/// A black row.
+fn black(alloc: Global) -> Result<Row, RowFault> {
+    Row::from_runs(alloc, &[0, 1728])
+}
+
+/// Whether a row changes colour at these places.
+fn is_row<S: RowStore>(rows: &S, i: u32, changes: &[u16]) -> Result<bool, NoMemory> {
+    if i >= rows.len() {
+        return Ok(false);
+    }
+    let row = rows.row(i)?;
+    Ok(row.changes() == changes)
+}
+
 #[test]
 fn stores_keep_rows(rt: HostRuntime) -> Result<(), Fail> {
-    keep_rows(&rt, PlainRows::empty(rt.alloc()), rt.alloc())?;
-    keep_rows(&rt, PackedRows::empty(rt.alloc()), rt.alloc())?;
+    let plain = keep_rows(rt.alloc(), PlainRows::empty(rt.alloc()))?;
+    let packed = keep_rows(rt.alloc(), PackedRows::empty(rt.alloc()))?;
+    assert!(rt; plain && packed);
     Ok(())
 }

@@ -123,6 +123,18 @@ fn expect_pieces(rt: &impl Abort, pieces: &Pieces<'_>, told: &[Told<'_>], from: 
     place
 }
 
+/// Fails unless a slot gives the pieces that are told from the place on; answers the place behind them.
+fn place_behind(
+    rt: &impl Abort,
+    signals: &mut Signals,
+    slot: Slot<'_>,
+    told: &[Told<'_>],
+    from: usize,
+) -> Result<usize, NoMemory> {
+    let pieces = signals.slot(slot)?;
+    Ok(expect_pieces(rt, &pieces, told, from))
+}
+
 /// Fails unless the slots give the pieces.
 fn expect(
     rt: &impl Abort,
@@ -133,8 +145,7 @@ fn expect(
     let mut signals = Signals::new(alloc);
     let mut place = 0;
     for slot in slots {
-        let pieces = signals.slot(*slot)?;
-        place = expect_pieces(rt, &pieces, told, place);
+        place = place_behind(rt, &mut signals, *slot, told, place)?;
     }
     assert!(rt; place == told.len());
     Ok(())
@@ -258,14 +269,6 @@ const CUT_IMAGES: &[Case] = &[
     ),
 ];
 
-#[test]
-fn cuts_images(rt: HostRuntime) -> Result<(), Fail> {
-    for (slots, told) in CUT_IMAGES {
-        expect(&rt, rt.alloc(), slots, told)?;
-    }
-    Ok(())
-}
-
 /// Images in which something is missing or has no place.
 const BROKEN_IMAGES: &[Case] = &[
     (
@@ -312,14 +315,6 @@ const BROKEN_IMAGES: &[Case] = &[
         ],
     ),
 ];
-
-#[test]
-fn tells_images_that_are_not_whole(rt: HostRuntime) -> Result<(), Fail> {
-    for (slots, told) in BROKEN_IMAGES {
-        expect(&rt, rt.alloc(), slots, told)?;
-    }
-    Ok(())
-}
 
 #[test]
 fn starts_images_of_each_kind(rt: HostRuntime) -> Result<(), Fail> {
@@ -371,14 +366,6 @@ const FRAMES: &[Case] = &[
     (&[PREAMBLE, BARE_CHECK], &[]),
 ];
 
-#[test]
-fn cuts_frames(rt: HostRuntime) -> Result<(), Fail> {
-    for (slots, told) in FRAMES {
-        expect(&rt, rt.alloc(), slots, told)?;
-    }
-    Ok(())
-}
-
 /// Slots that are missing, and extensions.
 const GAPS: &[Case] = &[
     (
@@ -399,9 +386,11 @@ const GAPS: &[Case] = &[
 ];
 
 #[test]
-fn tells_gaps(rt: HostRuntime) -> Result<(), Fail> {
-    for (slots, told) in GAPS {
-        expect(&rt, rt.alloc(), slots, told)?;
+fn cuts_images_and_frames_and_tells_gaps(rt: HostRuntime) -> Result<(), Fail> {
+    for cases in [CUT_IMAGES, BROKEN_IMAGES, FRAMES, GAPS] {
+        for (slots, told) in cases {
+            expect(&rt, rt.alloc(), slots, told)?;
+        }
     }
     Ok(())
 }
@@ -424,8 +413,7 @@ fn expect_next(
     slot: Slot<'_>,
     told: &[Told<'_>],
 ) -> Result<(), NoMemory> {
-    let pieces = signals.slot(slot)?;
-    let place = expect_pieces(rt, &pieces, told, 0);
+    let place = place_behind(rt, signals, slot, told, 0)?;
     assert!(rt; place == told.len());
     Ok(())
 }
@@ -442,168 +430,5 @@ fn frames_have_at_most_256_octets(rt: HostRuntime) -> Result<(), Fail> {
     expect_next(&rt, &mut signals, good, &[Told::Frame(octets)])?;
     expect_next(&rt, &mut signals, bad, &[])?;
     expect_next(&rt, &mut signals, good, &[Told::Frame(octets)])?;
-    Ok(())
-}
-
-/// Signals in which an image and a frame have begun.
-fn begun(alloc: Global) -> Result<Signals, NoMemory> {
-    let mut signals = Signals::new(alloc);
-    for slot in [TRAINING, FIRST_PART, HEAD] {
-        let _ = signals.slot(slot)?;
-    }
-    Ok(signals)
-}
-
-/// Fails unless the frame and the image go on to their ends, of which the image's is not whole.
-fn expect_ends(rt: &impl Abort, signals: &mut Signals) -> Result<(), NoMemory> {
-    expect_next(rt, signals, TAIL, &[WORKED_FRAME])?;
-    let end = [Told::Octets(&[0xdd]), Told::End(false)];
-    expect_next(rt, signals, LAST_PART, &end)
-}
-
-#[test]
-fn copies_go_their_own_way(rt: HostRuntime) -> Result<(), Fail> {
-    let mut signals = begun(rt.alloc())?;
-    expect_frame_lost(&rt, &mut signals.copy())?;
-    expect_ends(&rt, &mut signals.copy())?;
-    expect_ends(&rt, &mut signals)?;
-    Ok(())
-}
-
-/// Fails unless a lost slot loses the frame.
-fn expect_frame_lost(rt: &impl Abort, signals: &mut Signals) -> Result<(), NoMemory> {
-    expect_next(rt, signals, Slot::Lost, &[Told::Gap])?;
-    expect_next(rt, signals, TAIL, &[])
-}
-
-/// Fails unless a slot gives the pieces, put into a list that had others.
-fn expect_into<'a>(
-    rt: &impl Abort,
-    signals: &mut Signals,
-    pieces: &mut Pieces<'a>,
-    slot: Slot<'a>,
-    told: &[Told<'_>],
-) -> Result<(), NoMemory> {
-    signals.slot_into(slot, pieces)?;
-    let place = expect_pieces(rt, pieces, told, 0);
-    assert!(rt; place == told.len());
-    Ok(())
-}
-
-/// Fails unless the slots give the pieces, all put into one list.
-fn expect_in_one_list<'a>(
-    rt: &impl Abort,
-    alloc: Global,
-    slots: &[Slot<'a>],
-    told: &[&[Told<'_>]],
-) -> Result<(), NoMemory> {
-    let mut signals = Signals::new(alloc);
-    let mut pieces = Pieces::new(alloc);
-    assert!(rt; pieces.as_slice().is_empty());
-    for (slot, told) in slots.iter().zip(told) {
-        expect_into(rt, &mut signals, &mut pieces, *slot, told)?;
-    }
-    Ok(())
-}
-
-#[test]
-fn puts_pieces_into_one_list(rt: HostRuntime) -> Result<(), Fail> {
-    let slots = [
-        HEAD,
-        TAIL,
-        TRAINING,
-        WHOLE_PAGE,
-        Slot::Lost,
-        EXTENSION,
-        OTHER_TRAINING,
-    ];
-    let told: [&[Told<'_>]; 7] = [
-        &[],
-        &[Told::Frame(&[0xff, 0xc8, 0x21])],
-        &[Told::Start(1)],
-        &[Told::Octets(PAGE), Told::End(true)],
-        &[Told::Gap],
-        &[],
-        &[Told::Start(2)],
-    ];
-    expect_in_one_list(&rt, rt.alloc(), &slots, &told)?;
-    Ok(())
-}
-
-/// Fails unless slots are lost between the parts of a frame and between those of an image.
-fn expect_lost(rt: &impl Abort, signals: &mut Signals) -> Result<(), NoMemory> {
-    expect_next(rt, signals, TAIL, &[])?;
-    let end = [Told::Octets(&[0xdd]), Told::End(false)];
-    expect_next(rt, signals, LAST_PART, &end)
-}
-
-/// Fails unless three slots are lost one by one.
-fn expect_lost_one_by_one(rt: &impl Abort, signals: &mut Signals) -> Result<(), NoMemory> {
-    for _ in 0..3 {
-        expect_next(rt, signals, Slot::Lost, &[Told::Gap])?;
-    }
-    expect_lost(rt, signals)
-}
-
-/// Fails unless so many are lost at once.
-fn expect_lost_at_once(rt: &impl Abort, signals: &mut Signals, count: u16) -> Result<(), NoMemory> {
-    signals.lose(count);
-    expect_lost(rt, signals)
-}
-
-#[test]
-fn loses_slots_in_a_row(rt: HostRuntime) -> Result<(), Fail> {
-    let begun = begun(rt.alloc())?;
-    expect_lost_one_by_one(&rt, &mut begun.copy())?;
-    // three at once, and the most that one datagram tells
-    for count in [3, 32_767] {
-        expect_lost_at_once(&rt, &mut begun.copy(), count)?;
-    }
-    Ok(())
-}
-
-#[test]
-fn counts_lost_slots_from_one(rt: HostRuntime) -> Result<(), Fail> {
-    for (count, whole) in [(0, true), (1, false)] {
-        let mut signals = Signals::new(rt.alloc());
-        expect_next(&rt, &mut signals, TRAINING, &[Told::Start(1)])?;
-        signals.lose(count);
-        let told = [Told::Octets(PAGE), Told::End(whole)];
-        expect_next(&rt, &mut signals, WHOLE_PAGE, &told)?;
-    }
-    Ok(())
-}
-
-/// Packets behind a training indicator of V.27 ter at 2400, and the octets of those that give octets and nothing else.
-const ALONE: &[(&[u8], Option<&[u8]>)] = &[
-    (
-        &[0xc2, 0x01, 0xe0, 0x00, 0x01, 0xaa, 0xbb],
-        Some(&[0xaa, 0xbb]),
-    ),
-    // the last octets, octets of other data, those of two fields, and an indicator
-    (&[0xc2, 0x01, 0xf0, 0x00, 0x00, 0xdd], None),
-    (&[0xc4, 0x01, 0xe0, 0x00, 0x00, 0xee], None),
-    (&[0xc2, 0x02, 0xe0, 0, 0, 1, 0xe0, 0, 0, 2], None),
-    (&[0x06], None),
-];
-
-#[test]
-fn gives_octets_alone(rt: HostRuntime) -> Result<(), Fail> {
-    for (packet, octets) in ALONE {
-        let mut signals = Signals::new(rt.alloc());
-        assert!(rt; signals.octets_in(packet).is_none());
-        expect_next(&rt, &mut signals, TRAINING, &[Told::Start(1)])?;
-        let given = signals.octets_in(packet).unwrap_or(&[]);
-        assert!(rt; given == octets.unwrap_or(&[]));
-    }
-    Ok(())
-}
-
-#[test]
-fn takes_octets_alone(rt: HostRuntime) -> Result<(), Fail> {
-    let mut signals = Signals::new(rt.alloc());
-    expect_next(&rt, &mut signals, TRAINING, &[Told::Start(1)])?;
-    signals.take_octets();
-    expect_next(&rt, &mut signals, PREAMBLE, &[Told::End(true)])?;
     Ok(())
 }

@@ -1,7 +1,7 @@
 //! Two-dimensional lines, spelt by hand with ITU-T T.4, table 4/T.4, and its tables of runs.
 use fax_bits::{BitReader, NoMemory};
 use fax_mhcode::LineFault;
-use fax_mrcode::{pass_line_2d, read_line_2d, read_line_2d_into};
+use fax_mrcode::{read_line_2d, read_line_2d_into};
 use fax_runcodes::{Row, RowBuilder, RowFault, RunFault};
 use std::alloc::Global;
 use std::process::Abort;
@@ -37,34 +37,33 @@ const LINES: [(&[u16], &[u8], u128, &[u16]); 10] = [
     ),
 ];
 
-/// The runs of the reference, the octets, how many bits the steps have that can be taken, and why the
-/// next one cannot.
-const FAULTS: [(&[u16], &[u8], u128, LineFault); 13] = [
+/// The runs of the reference, the octets, and why they begin with no line.
+const FAULTS: [(&[u16], &[u8], LineFault); 13] = [
     // pass with b2 at the width
-    (&[1728], &[0x18], 0, LineFault::BadPlace),
+    (&[1728], &[0x18], LineFault::BadPlace),
     // horizontal with white 1728 + 1
-    (&[1728], &[0x29, 0xb1, 0xc0], 0, LineFault::PastWidth),
+    (&[1728], &[0x29, 0xb1, 0xc0], LineFault::PastWidth),
     // horizontal with white 1 and black 0
-    (&[1728], &[0x23, 0x86, 0xe0], 0, LineFault::BadPlace),
+    (&[1728], &[0x23, 0x86, 0xe0], LineFault::BadPlace),
     // horizontal, and then a part of a word
-    (&[1728], &[0x20], 0, LineFault::Run(RunFault::End)),
+    (&[1728], &[0x20], LineFault::Run(RunFault::End)),
     // horizontal, and then no word
-    (&[1728], &[0x20, 0x00], 0, LineFault::Run(RunFault::NoWord)),
+    (&[1728], &[0x20, 0x00], LineFault::Run(RunFault::NoWord)),
     // the front of an extension
-    (&[1728], &[0x02], 0, LineFault::NoMode),
-    (&[1728], &[], 0, LineFault::NoMode),
+    (&[1728], &[0x02], LineFault::NoMode),
+    (&[1728], &[], LineFault::NoMode),
     // VR1 from the width
-    (&[1728], &[0x60], 0, LineFault::BadPlace),
+    (&[1728], &[0x60], LineFault::BadPlace),
     // V0, VL3
-    (&[4, 1, 1723], &[0x82], 1, LineFault::BadPlace),
+    (&[4, 1, 1723], &[0x82], LineFault::BadPlace),
     // V0, VL1
-    (&[4, 1, 1723], &[0xa0], 1, LineFault::BadPlace),
+    (&[4, 1, 1723], &[0xa0], LineFault::BadPlace),
     // V0, horizontal with black 3 and then a part of a word
-    (&[4, 1, 1723], &[0x98], 1, LineFault::Run(RunFault::End)),
+    (&[4, 1, 1723], &[0x98], LineFault::Run(RunFault::End)),
     // pass, and then no word of a mode
-    (&[4, 1, 1723], &[0x10, 0x00], 4, LineFault::NoMode),
+    (&[4, 1, 1723], &[0x10, 0x00], LineFault::NoMode),
     // horizontal with white 0 and black 3, VR1 from the width
-    (&[1728], &[0x26, 0xb3], 13, LineFault::BadPlace),
+    (&[1728], &[0x26, 0xb3], LineFault::BadPlace),
 ];
 
 /// What a call answers, and where the reader stands then.
@@ -121,7 +120,7 @@ fn reads_line_after_line_into_one_builder(rt: HostRuntime) -> Result<(), Fail> {
 #[test]
 fn says_why_it_reads_no_line(rt: HostRuntime) -> Result<(), Fail> {
     let mut line = RowBuilder::new(rt.alloc())?;
-    for (runs, octets, _, fault) in FAULTS {
+    for (runs, octets, fault) in FAULTS {
         let read = read_into(&mut line, rt.alloc(), runs, octets)?;
         assert!(rt; read == (Err(fault), 0) && line.len() == 0, "at {octets:?}");
     }
@@ -149,51 +148,4 @@ fn fault_behind_white(
 ) -> Result<Option<LineFault>, RowFault> {
     let white = Row::from_runs(alloc, &[2432])?;
     Ok(read_line_2d(alloc, reader, &white).err())
-}
-
-/// Passes a line against the row of such runs, and says where the reader stands then.
-fn pass(alloc: Global, runs: &[u16], octets: &[u8]) -> Result<Answer, RowFault> {
-    let reference = Row::from_runs(alloc, runs)?;
-    let mut reader = BitReader::new(octets);
-    let result = pass_line_2d(&mut reader, &reference.lend());
-    Ok((result, reader.place()))
-}
-
-#[test]
-fn passes_lines_without_their_rows(rt: HostRuntime) -> Result<(), Fail> {
-    for (runs, octets, bits, _) in LINES {
-        let passed = pass(rt.alloc(), runs, octets)?;
-        assert!(rt; passed == (Ok(()), bits), "at {octets:?}");
-    }
-    Ok(())
-}
-
-#[test]
-fn says_why_it_passes_no_line(rt: HostRuntime) -> Result<(), Fail> {
-    for (runs, octets, bits, fault) in FAULTS {
-        let passed = pass(rt.alloc(), runs, octets)?;
-        assert!(rt; passed == (Err(fault), bits), "at {octets:?}");
-    }
-    Ok(())
-}
-
-/// Passes a line against a row, and says where the reader stands then.
-fn pass_behind(reader: &mut BitReader, row: &Row) -> Answer {
-    let result = pass_line_2d(reader, &row.lend());
-    (result, reader.place())
-}
-
-#[test]
-fn passes_line_after_line(rt: HostRuntime) -> Result<(), Fail> {
-    // Against a white row V0, then horizontal with white 0 and black 3 and V0, then pass to the width.
-    let white = Row::from_runs(rt.alloc(), &[1728])?;
-    let mut reader = BitReader::new(&[0x93, 0x5a, 0x20]);
-    let passed = [
-        pass_behind(&mut reader, &white),
-        pass_behind(&mut reader, &white),
-        pass_behind(&mut reader, &white),
-    ];
-    let wanted = [(Ok(()), 1), (Ok(()), 15), (Err(LineFault::BadPlace), 15)];
-    assert!(rt; passed == wanted);
-    Ok(())
 }

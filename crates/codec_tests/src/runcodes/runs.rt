@@ -1,19 +1,11 @@
 //! Runs and the bits that spell them, by the tables of ITU-T T.4.
-use fax_bits::{BitReader, BitWriter, NoMemory, Octets};
+use crate::digits::{Digits, octets_of};
+use fax_bits::{BitReader, BitWriter, NoMemory};
 use fax_runcodes::Colour::{Black, White};
-use fax_runcodes::{CodeWord, Colour, LONGEST_WRITTEN_RUN, RunFault, read_run, word_at, write_run};
+use fax_runcodes::{Colour, LONGEST_WRITTEN_RUN, RunFault, read_run, write_run};
 use std::alloc::Global;
 use std::process::Abort;
 use std::test::Fail;
-
-/// The octets of the bits that a text of the digits 0 and 1 shows.
-fn octets_of(alloc: Global, digits: &str) -> Result<Octets, NoMemory> {
-    let mut writer = BitWriter::new(alloc);
-    for digit in digits.bytes() {
-        writer.put(u32::from(digit == b'1'), 1)?;
-    }
-    Ok(writer.finish())
-}
 
 /// Runs, and the digits of their words.
 const WRITTEN: &[(Colour, u16, &str)] = &[
@@ -62,7 +54,7 @@ fn expect_written(
     let mut writer = BitWriter::new(alloc);
     write_run(&mut writer, colour, run)?;
     assert!(rt; writer.bits() == digits.len() as u128, "at {run}");
-    let want = octets_of(alloc, digits)?;
+    let want = octets_of(alloc, Digits::Binary, &[digits])?;
     assert!(rt; writer.finish().as_slice() == want.as_slice(), "at {run}");
     Ok(())
 }
@@ -78,36 +70,11 @@ fn writes_the_words_of_the_tables(rt: HostRuntime) -> Result<(), Fail> {
 #[test]
 fn reads_a_run_or_says_why_not(rt: HostRuntime) -> Result<(), Fail> {
     for (colour, digits, want) in READ {
-        let octets = octets_of(rt.alloc(), digits)?;
+        let octets = octets_of(rt.alloc(), Digits::Binary, &[digits])?;
         let mut reader = BitReader::new(octets.as_slice());
         assert!(rt; read_run(&mut reader, *colour) == *want, "at {digits}");
     }
     Ok(())
-}
-
-#[test]
-fn reads_each_run_that_is_written(rt: HostRuntime) -> Result<(), Fail> {
-    for colour in [White, Black] {
-        let mut writer = BitWriter::new(rt.alloc());
-        for run in 0..=2432 {
-            write_run(&mut writer, colour, run)?;
-        }
-        let octets = writer.finish();
-        let mut reader = BitReader::new(octets.as_slice());
-        for run in 0..=2432 {
-            assert!(rt; read_run(&mut reader, colour) == Ok(run));
-        }
-        assert!(rt; reader.left() < 8);
-    }
-    Ok(())
-}
-
-#[test]
-fn looks_up_a_word(rt: HostRuntime) {
-    let window = 0b0111 << 52;
-    assert!(rt; word_at(White, window) == CodeWord { run: 2, bits: 4 });
-    assert!(rt; word_at(Black, window) == CodeWord { run: 4, bits: 3 });
-    assert!(rt; word_at(Black, 0).is_none());
 }
 
 #[test]
