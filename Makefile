@@ -2,7 +2,7 @@
 RT ?= rt
 PROGRAM = crates/faxgate/out/faxgate
 
-.PHONY: all demo test play c-tests wrong-bodies format memory crash bench load interop serve-interop tables check-docs
+.PHONY: all demo test play asked c-tests wrong-bodies format memory crash bench load interop serve-interop tables check-docs
 
 # Proves and builds the program, its crates side by side, and says where it lies. What was proved is kept in the user's cache.
 all:
@@ -12,14 +12,19 @@ all:
 demo: all
 	tools/demo $(PROGRAM)
 
-# The merge gate: every proof from nothing, the wrong bodies, the tests, the stored run.
+# The merge gate: every proof, the wrong bodies, the tests, the stored run; and the plays, on the program that was built.
 test:
 	$(RT) ci
+	$(MAKE) play
 
 # Plays the cases of tests/cases and the modules of tests/play on the program that stands there; it builds and proves nothing.
 # It wants Python 3.11, and no `rt`.
 play:
 	tools/play $(PROGRAM)
+
+# The jobs of lines whose called leg has no peer of its own, 100 times and behind a crash with 20 of them. It wants half an hour.
+asked:
+	FAXGATE_TIMES=100 FAXGATE_JOBS=20 tools/play $(PROGRAM) --slow 4 -k asked
 
 # Tests the calls for C from C, through fax_c.h: crates/fax_c/tests.c. The gate proves them, and runs none of these. It wants a C
 # compiler, and no other library.

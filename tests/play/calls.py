@@ -173,6 +173,10 @@ class Called(Machine):
     def take_page(self):
         """A whole call; it gives the text of the page as hex."""
         self.answer()
+        return self.take_page_behind_dis()
+
+    def take_page_behind_dis(self):
+        """What follows once it has said what it can; it gives the text of the page as hex."""
         self.confirm_check()
         text = self.wait_for_image()
         self.wait_for(CALLER_EOP)
