@@ -1,5 +1,5 @@
 -- WHAT THERE WAS OF A RUN, for a line of it. (This project's profile.)
-use Rattle.std.specs.Prelude.{◌≡◌, ◌≢◌, ℕ, Bool, List, length, map, Some, slice_get}
+use Rattle.std.specs.Prelude.{◌≡◌, ◌≢◌, ℕ, Bool, List, [], length, map, Some, slice_get}
 use Rattle.fax_call.specs.Writings.{Writing}
 use Rattle.fax_gateway.specs.Restored.{CallPage, call_shown}
 use Rattle.fax_gateway.specs.Setups.{AreSetWith, Setup}
