@@ -391,12 +391,12 @@ def finish(process, within=2 * LONGEST):
 
 
 def on_time(play):
-    """A play in which moments are judged: where the machine was busy it is played again, five times in all. What is wrong each
+    """A play in which moments are judged: where the machine was busy it is played again, four times in all. What is wrong each
     time is seen."""
 
     @functools.wraps(play)
     def again(self):
-        for left in reversed(range(5)):
+        for left in reversed(range(4)):
             try:
                 return play(self)
             except AssertionError:
