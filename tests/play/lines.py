@@ -245,24 +245,38 @@ class WhatIsSentAgain(Playing):
 
 class ANewCallBegins(Playing):
     def test_nothing_is_repeated_into_it(self):
-        """A ring 12 ms before the last repeat of the old call's last datagram is due: it does not come, and the new call's do."""
-        line = Line(self.ports)
-        server, _ = self.serve(line)
+        """A ring between a turn and the last repeat of the old call's last datagram: it does not come, and the new call's do. On a busy
+        machine the ring may be answered too late to see it, so it is tried on some lines."""
+        lines = [Line(self.ports, f"a{i}") for i in range(6)]
+        server, _ = self.serve(*lines)
+        client = server.client()
+        if not any(self.is_in_time(server, client, line) for line in lines):
+            self.skipTest("this machine is too busy")
+
+    def is_in_time(self, server, client, line):
+        """Plays it on a line, and says whether the ring was answered before the repeat was due."""
         leg = t38.Leg(line.calling_peer, line.calling)
         self.addCleanup(leg.close)
-        client = server.client()
         machine = t38.Calling(leg, [PAGE])
         machine.start()
         self.ring(server, line)
         machine.join(PATIENCE)
-        leg.drain()
-        octets, moments = sends_of(leg.came)[-1]
-        time.sleep(max(0, moments[0] + FULL[-1] - 0.012 - time.time()))
-        self.assertEqual(client.say("ring a1"), ["ok 1"])
+        octets, moments = until(lambda: self.last_but_one(leg), what="the repeat before the last")
+        due = moments[-1] + FULL[-1] - FULL[-2]
+        time.sleep(max(0, due - 0.016 - time.time()))
+        self.assertEqual(client.say(f"ring {line.name}"), ["ok 1"])
         rung = time.time()
         behind = until(lambda: self.came_behind(leg, rung, 2), what="the new call's DIS")
         self.assertNotIn(octets, [it[1] for it in behind])
         self.assertLessEqual(set(numbers(behind)), {0, 1, 2})
+        return rung < due - 0.002
+
+    @staticmethod
+    def last_but_one(leg):
+        """The last datagram of a leg, once it is sent again once more and no more."""
+        leg.drain()
+        octets, moments = sends_of(leg.came)[-1]
+        return (octets, moments) if len(moments) == len(FULL) else None
 
     @staticmethod
     def came_behind(leg, moment, number):
