@@ -3,10 +3,15 @@
 `make asked` plays them longer: FAXGATE_TIMES says how often a machine is called anew, FAXGATE_JOBS how many jobs wait behind a crash.
 """
 import os
+import pathlib
+import subprocess
+import sys
 import time
 
 from calls import CALLED_DIS, CED, MCF, PREAMBLE, Called, Caller
-from server import Peer, Play, address, until
+from server import LONGEST, Peer, Play, address, until
+
+TOP = pathlib.Path(__file__).resolve().parent.parent.parent
 
 TIMES = int(os.environ.get("FAXGATE_TIMES", "1"))
 JOBS = int(os.environ.get("FAXGATE_JOBS", "3"))
@@ -130,6 +135,25 @@ class Asked(Play):
         last = self.server.client()
         last.say("events")
         self.assertEqual([(it["event"], it["tag"]) for it in last.events], [("rung", "second"), ("connected", "first")])
+
+    def test_the_sample_of_a_client(self):
+        """samples/element.py rings a line, and says where its pages go once it is asked."""
+        self.a1 = self.line(calling_peer=False, called_peer=False)
+        self.server = self.serve(self.a1)
+        caller, called = Caller(self.peer(self.a1, "calling")), self.machine()
+        addresses = [address(self.a1.calling_peer), address(called.port)]
+        words = [sys.executable, str(TOP / "samples" / "element.py"), self.server.control, "a1", *addresses]
+        element = subprocess.Popen(words, stdout=subprocess.PIPE, text=True)
+        self.addCleanup(element.stdout.close)
+        self.addCleanup(element.wait)
+        self.addCleanup(element.kill)
+        self.assertEqual(caller.call(page(3)), MCF)
+        machine = Called(called)
+        machine.newest = -1
+        until(lambda: element.stdout.readline().startswith("peer a1 called"), what="the peer of the called leg")
+        machine.send(CED, PREAMBLE, CALLED_DIS)
+        self.assertEqual(rows_of(machine.take_page_behind_dis()), 3)
+        self.assertEqual(element.wait(LONGEST), 0)
 
     def test_no_ring_is_taken_while_nobody_hears(self):
         """Nobody would say where the pages of the call go; a line whose called leg has a peer of its own takes it."""

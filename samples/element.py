@@ -1,0 +1,56 @@
+#!/usr/bin/env python3
+"""A client of `faxgate serve`: it rings a line for a fax that comes in, and says where its pages go.
+
+usage: samples/element.py CONTROL_SOCKET LINE CALLER CALLED
+
+A SIP element does this for each call. CALLER is the address of the caller's T.38 media, which its SDP says; CALLED is that of the
+machine which the element calls once `dial` asks for it. It prints answers and events, and ends with 0 where the pages were delivered.
+"""
+import collections, json, socket, sys
+
+TAG = "call-1"  # what the element names the call: each event of the call's job has it
+
+
+class Client:
+    """Says words, a line each, and hears events, which come between the answers."""
+
+    def __init__(self, path):
+        self.stream = socket.socket(socket.AF_UNIX)
+        self.stream.connect(path)
+        self.lines = self.stream.makefile(encoding="utf-8", newline="\n")
+        self.events = collections.deque()
+
+    def say(self, word):
+        """The line that a word is answered with."""
+        self.stream.sendall(word.encode() + b"\n")
+        while (line := next(self.lines)).startswith("{"):
+            self.events.append(json.loads(line))
+        print(f"{word}: {line.strip()}", flush=True)
+        return line.split()[0] == "ok"
+
+    def event(self):
+        """The next event."""
+        event = self.events.popleft() if self.events else json.loads(next(self.lines))
+        print(event, flush=True)
+        return event
+
+
+def main(path, line, caller, called):
+    client = Client(path)
+    # first it is told what is on: behind a crash of either side jobs may wait (`dial`), each with its tag
+    client.say("events")
+    if not (client.say(f"peer {line} calling {caller}") and client.say(f"ring {line} {TAG}")):
+        return 1
+    while True:
+        event = client.event()
+        if event.get("tag") != TAG:
+            continue
+        if event["event"] == "dial":
+            # here the element calls the machine, offers T.38 at the line's called leg, and takes the address from its answer
+            client.say(f"peer {line} called {called}")
+        if event["event"] == "job":
+            return 0 if event["outcome"] == "Delivered" else 1
+
+
+if __name__ == "__main__":
+    sys.exit(main(*sys.argv[1:]) if len(sys.argv) == 5 else __doc__)
