@@ -89,18 +89,19 @@ class Repeats(Settings):
 
     @on_time
     def test_each_datagram_is_sent_twice(self):
-        """With `full` also those that a newer one follows 40 ms later; with the others those come once."""
+        """With `full` also those that a newer one follows 40 ms later; with `none` they come once; with `last` the one 40 ms later may
+        be due in the very turn that hands over the newer one, before it."""
         callers, called = self.serve_lines([{"repeat": "full"}, {"repeat": "last"}, {"repeat": "none"}])
         self.each(*(caller.call for caller in callers))
         self.each(*(machine.answer for machine in called))
         self.each(*(machine.wait_for_image for machine in called))
-        for machine, most in zip(called, (2, 1, 1)):
+        for machine, often in zip(called, ({2}, {1, 2}, {1})):
             numbers = [Datagram(octets).number for _, octets, _ in machine.peer.heard]
             check = [came.number for _, came in machine.came if came.packet.startswith("c201e0")]
             self.assertEqual(len(check), CHECK_PACKETS - 1)
             # A turn that comes late may send one more, or one less.
             counts = [numbers.count(number) for number in check]
-            self.assertEqual(statistics.mode(counts), most, counts)
+            self.assertIn(statistics.mode(counts), often, counts)
 
 
 class Pace(Settings):
