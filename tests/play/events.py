@@ -43,7 +43,8 @@ class Told(Play):
         server.say("ring a1")
         second = events.event("rung")["at"]
         spent = (time.monotonic() - begun) * 1000
-        self.assertTrue(1000 <= second - first <= spent, (first, second, spent))
+        # each is cut to a whole millisecond
+        self.assertTrue(999 <= second - first <= spent + 1, (first, second, spent))
 
     def test_a_slow_reader_is_told_what_it_lost(self):
         """Behind the lines that wait it loses whole ones; it is told at their place how many, and they are counted."""
