@@ -50,9 +50,9 @@ refusal_name Untrained = codes "Untrained"
 
 abbrev pub event_name : What → List ℕ
 event_name (Rung call tag) = codes "rung"
-event_name (Page kept) = codes "page"
+event_name (Page kept tag) = codes "page"
 event_name (RefusedPage call tag why) = codes "refused_page"
-event_name (Ended call how) = codes "ended"
+event_name (Ended call tag how) = codes "ended"
 event_name (Dial call tag) = codes "dial"
 event_name (Connected call tag) = codes "connected"
 event_name (Job report tag) = codes "job"
@@ -100,10 +100,11 @@ refusal_members why = text_member (codes "fault") (refusal_name why) ++ detail_m
 
 abbrev pub what_members : What → List Token
 what_members (Rung call tag) = number_member (codes "call") call ++ tag_member (option_map (λ text. text.now) tag)
-what_members (Page kept) =
-    number_member (codes "call") kept.call ++ (number_member (codes "number") kept.number ++ (format_members kept.format ++ number_member (codes "rows") kept.rows))
+what_members (Page kept tag) =
+    number_member (codes "call") kept.call ++ (tag_member (option_map (λ text. text.now) tag) ++ (number_member (codes "number") kept.number
+    ++ (format_members kept.format ++ number_member (codes "rows") kept.rows)))
 what_members (RefusedPage call tag why) = number_member (codes "call") call ++ (tag_member (option_map (λ text. text.now) tag) ++ refusal_members why)
-what_members (Ended call how) = number_member (codes "call") call ++ text_member (codes "how") (ending_name how)
+what_members (Ended call tag how) = number_member (codes "call") call ++ (tag_member (option_map (λ text. text.now) tag) ++ text_member (codes "how") (ending_name how))
 what_members (Dial call tag) = number_member (codes "call") call ++ tag_member (option_map (λ text. text.now) tag)
 what_members (Connected call tag) = number_member (codes "call") call ++ tag_member (option_map (λ text. text.now) tag)
 what_members (Job report tag) =

@@ -70,12 +70,12 @@ pub struct PageKept {
 pub enum What<'a> {
     /// The calling leg was rung: the number of the call, and its tag.
     Rung(u32, Option<&'a str>),
-    /// A page was confirmed.
-    Page(PageKept),
+    /// A page was confirmed, in the call of this tag.
+    Page(PageKept, Option<&'a str>),
     /// A page was refused (RTN): the number of its call, the tag of that, and why.
     RefusedPage(u32, Option<&'a str>, Refusal),
-    /// A call of this number ended.
-    Ended(u32, Ending),
+    /// A call ended: its number, its tag, and how.
+    Ended(u32, Option<&'a str>, Ending),
     /// The call of a job begins: the number of the call that its pages came in, and the tag of that.
     Dial(u32, Option<&'a str>),
     /// The call of a job is on, and its called leg has a peer: the number of the call that its pages came in, and the tag of that.
@@ -102,9 +102,9 @@ impl<'a> What<'a> {
     {
         match self {
             What::Rung(_, _) => "rung",
-            What::Page(_) => "page",
+            What::Page(_, _) => "page",
             What::RefusedPage(_, _, _) => "refused_page",
-            What::Ended(_, _) => "ended",
+            What::Ended(_, _, _) => "ended",
             What::Dial(_, _) => "dial",
             What::Connected(_, _) => "connected",
             What::Job(_, _) => "job",

@@ -3,7 +3,7 @@ ghost use Rattle.std.specs.Prelude.{◌≡◌, option_map, IfOk, OnOk};
 ghost use Rattle.fax_jobs.specs.ReportTexts.{resolution_name};
 ghost use Rattle.fax_events.specs.Events.{Adds, detail_members, event_line, fault_members, fault_name, format_members, refusal_members, refusal_name, row_members, number_member, tag_member, text_member, what_members};
 
-use crate::event::{Direction, Event, PageKept, What};
+use crate::event::{Direction, Ending, Event, PageKept, What};
 use fax_answer::Refusal;
 use fax_bits::NoMemory;
 use fax_control::Leg;
@@ -149,13 +149,28 @@ fn put_refused_page(
 }
 
 /// Writes what is told of a page that was confirmed.
-fn put_page(writer: &mut Writer, page: PageKept) -> Result<(), AllocError>
-    ensures { OnOk result (Adds writer.old writer.new (what_members (What.Page page))) }
+fn put_page(writer: &mut Writer, page: PageKept, tag: Option<&str>) -> Result<(), AllocError>
+    ensures { OnOk result (Adds writer.old writer.new (what_members (What.Page page tag.entry))) }
 {
     put_number(writer, "call", u64::from(page.call))?;
+    put_tag(writer, tag)?;
     put_number(writer, "number", u64::from(page.number))?;
     put_format(writer, page.format)?;
     put_number(writer, "rows", u64::from(page.rows))
+}
+
+/// Writes what is told of a call that ended.
+fn put_ended(
+    writer: &mut Writer,
+    call: u32,
+    tag: Option<&str>,
+    how: Ending,
+) -> Result<(), AllocError>
+    ensures { OnOk result (Adds writer.old writer.new (what_members (What.Ended call tag.entry how))) }
+{
+    put_number(writer, "call", u64::from(call))?;
+    put_tag(writer, tag)?;
+    put_text(writer, "how", how.name())
 }
 
 /// Writes what is told of a job that ended.
@@ -196,12 +211,9 @@ fn put_what(writer: &mut Writer, what: &What<'_>) -> Result<(), AllocError>
             put_number(writer, "call", u64::from(call))?;
             put_tag(writer, tag)
         }
-        What::Page(page) => put_page(writer, page),
+        What::Page(page, tag) => put_page(writer, page, tag),
         What::RefusedPage(call, tag, why) => put_refused_page(writer, call, tag, why),
-        What::Ended(call, how) => {
-            put_number(writer, "call", u64::from(call))?;
-            put_text(writer, "how", how.name())
-        }
+        What::Ended(call, tag, how) => put_ended(writer, call, tag, how),
         What::Job(report, tag) => put_job(writer, report, tag),
         What::Wire(leg, direction, count) => put_wire(writer, leg, direction, count),
         What::Late(span) => put_number(writer, "ms", span),

@@ -25,6 +25,16 @@ pub(crate) fn begins_to_ask(slot: usize, lines: &ServedLines) -> bool {
     false
 }
 
+/// Whether a job waits that a client is to be asked about.
+pub(crate) fn waits_to_ask(lines: &ServedLines) -> bool {
+    for slot in 0..SLOTS {
+        if begins_to_ask(slot, lines) {
+            return true;
+        }
+    }
+    false
+}
+
 /// Whether no call is on, on any line.
 pub(crate) fn no_call_is_on(lines: &ServedLines) -> bool {
     for i in 0..lines.len() {

@@ -5,7 +5,7 @@ ghost use Rattle.fax_shelf.specs.SpoolKeeping.{IsUnchanged};
 use crate::answers::{
     answer_text, counters_of, counts_of, is_idle, leg_of, report_text, status_text,
 };
-use crate::asking::{begins_to_ask, is_asked_about, no_call_is_on};
+use crate::asking::{begins_to_ask, is_asked_about, no_call_is_on, waits_to_ask};
 use crate::card::Card;
 use crate::clock::Stopwatch;
 use crate::keeper::SpoolKeeper;
@@ -459,7 +459,10 @@ impl<'a, C: Clock, I: Read + Drop, O: Write + Drop> RealPace<'a, C, I, O> {
         if !leg_of(line, Side::Calling).has_peer() {
             return Err(Refusal::NoPeer);
         }
-        if is_asked_about(line) && !self.teller.clients.tell_events() {
+        if self.asks
+            && !self.teller.clients.tell_events()
+            && (is_asked_about(line) || waits_to_ask(lines))
+        {
             return Err(Refusal::Unheard);
         }
         let tag = match tag {

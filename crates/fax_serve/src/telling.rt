@@ -90,7 +90,7 @@ impl<I: Read + Drop, O: Write + Drop> Teller<I, O> {
                 turned.gave_up.is_some(),
                 card.is_closed(),
             );
-            self.tell(card.name(), at, What::Ended(call, how));
+            self.tell(card.name(), at, What::Ended(call, card.tag(call), how));
         }
         self.tell_failures(card, line, at);
     }
@@ -137,7 +137,7 @@ impl<I: Read + Drop, O: Write + Drop> Teller<I, O> {
             format: kept.format,
             rows: kept.rows,
         };
-        self.tell(card.name(), at, What::Page(page));
+        self.tell(card.name(), at, What::Page(page, card.tag(kept.call)));
     }
 
     /// Tells a page that was refused.
