@@ -164,6 +164,20 @@ class Asked(Play):
         client = server.events()
         self.assertEqual(client.say("ring a1"), ["ok 0"])
 
+    def test_no_line_is_rung_while_a_job_waits_that_nobody_hears_of(self):
+        """Its call would let that job begin."""
+        self.a1, b1 = self.line(called_peer=False), self.line("b1")
+        self.server = self.serve(self.a1, b1, spool=True)
+        self.client, self.caller = self.server.events(), Caller(self.peer(self.a1, "calling"))
+        self.confirm(1, "first")
+        self.client.event("ended", tag="first")
+        self.server.kill()
+        self.server.start()
+        self.assertEqual(self.server.say("ring b1"), NOBODY_HEARS)
+        self.client = self.server.events()
+        self.assertEqual(self.client.say("ring b1"), ["ok 0"])
+        self.deliver("first", self.machine(), 1)
+
     def test_no_word_changes_a_peer_of_the_configuration(self):
         """But on the calling leg, whose peer calls anew from where it likes."""
         a1 = self.line()

@@ -136,8 +136,8 @@ class Kinds(Play):
         self.begin('order"7"')
         self.caller.dcs, self.called.dis = FINE_DCS, FINE_DIS
         self.assertEqual(self.caller.call(), MCF)
-        self.assert_told("page", '"call":0,"number":1,"width":1728,"resolution":"fine","rows":1')
-        self.assert_told("ended", '"call":0,"how":"Done"')
+        self.assert_told("page", '"call":0,"tag":"order\\"7\\"","number":1,"width":1728,"resolution":"fine","rows":1')
+        self.assert_told("ended", '"call":0,"tag":"order\\"7\\"","how":"Done"')
         self.assert_told("dial", '"call":0,"tag":"order\\"7\\""')
         self.called.take_page()
         self.assert_told(
@@ -161,22 +161,22 @@ class Kinds(Play):
         self.assert_told("refused_page", '"call":0,"tag":"x","fault":"NotWhole"')
         self.assertEqual(self.server.metrics()["faxgate_pages_refused_total"], 5)
         self.caller.send(PREAMBLE, CALLER_DCN)
-        self.assert_told("ended", '"call":0,"how":"Done"')
+        self.assert_told("ended", '"call":0,"tag":"x","how":"Done"')
 
     def test_ends_of_calls(self):
         """A caller says DCN, is gone, or says nothing for 6 s where a training was begun."""
         self.begin()
         self.caller.train()
         self.caller.send(PREAMBLE, CALLER_DCN)
-        self.assert_told("ended", '"call":0,"how":"Done"')
+        self.assert_told("ended", '"call":0,"tag":"x","how":"Done"')
         self.ring(1, "y")
         self.server.say("hangup a1 calling")
-        self.assert_told("ended", '"call":1,"how":"HungUp"')
+        self.assert_told("ended", '"call":1,"tag":"y","how":"HungUp"')
         self.caller.forget()
         self.ring(2, "z")
         self.caller.train()
         begun = time.monotonic()
-        self.assert_told("ended", '"call":2,"how":"GivenUp"')
+        self.assert_told("ended", '"call":2,"tag":"z","how":"GivenUp"')
         self.assertGreater(time.monotonic() - begun, 5)
         self.assert_no_more()
 

@@ -56,9 +56,9 @@ class APageGoesThrough(Playing):
         page = {"width": 1728, "resolution": "standard"}
         self.assertEqual(told, [
             {"event": "rung", "tag": "tag-1"},
-            {"event": "page", "number": 1, "rows": 2, **page},
+            {"event": "page", "tag": "tag-1", "number": 1, "rows": 2, **page},
             {"event": "dial", "tag": "tag-1"},
-            {"event": "ended", "how": "Done"},
+            {"event": "ended", "tag": "tag-1", "how": "Done"},
             {"event": "job", "tag": "tag-1", "pages": 1, "delivered": 1, "outcome": "Delivered", **page},
         ])
         self.assertEqual([event for event in events.events if event["event"] not in ("wire", "late")], [])

@@ -131,7 +131,7 @@ class Disks(Spooled):
         self.assertEqual(event_line(event), '{"event":"not_kept","line":"a1","at":N,"call":0,"tag":"tag"}')
         caller.send(PREAMBLE, CALLER_DCN)
         event = events.event("ended")
-        self.assertEqual(event_line(event), '{"event":"ended","line":"a1","at":N,"call":0,"how":"NotKept"}')
+        self.assertEqual(event_line(event), '{"event":"ended","line":"a1","at":N,"call":0,"tag":"tag","how":"NotKept"}')
         while caller.next_within(0.3) is not None:
             pass
         # The preamble before the MCF goes out, since nothing is confirmed by it.
