@@ -59,6 +59,22 @@ started a job now =
       outcome = None;
     }
 
+-- IDLE, the call of a job could not be placed: it is over as it begins, and nothing is given. (This project's profile.)
+abbrev pub not_placed : Calling → JobValue → Calling
+not_placed a job =
+    record {
+      state = Idle;
+      format = job.format;
+      formats = formats_of job;
+      pages = length job.pages;
+      counts = no_counts;
+      waiting = [];
+      t1 = None;
+      t4 = None;
+      pace = a.pace;
+      outcome = Some outcomes.NotPlaced;
+    }
+
 -- behind a move; T1 and T4 are clear while packets wait
 abbrev pub replied_with : Calling → State → Counts → List Due → Calling
 replied_with a state c due =

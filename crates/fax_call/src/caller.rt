@@ -3,7 +3,7 @@ ghost use Rattle.std.specs.Prelude.{◌≡◌, ◌≢◌, ◌<◌, ◌≤◌, Bo
 ghost use Rattle.fax_ifp.specs.Elements.{Slot as SlotShown};
 ghost use Rattle.fax_jobs.specs.Jobs.{JobValue, IsJob};
 ghost use Rattle.fax_call.specs.Writings.{Writing, IsWriting};
-ghost use Rattle.fax_call.specs.Calls.{Calling, new_calling, started, ticked};
+ghost use Rattle.fax_call.specs.Calls.{Calling, new_calling, not_placed, started, ticked};
 ghost use Rattle.fax_call.specs.Following.{IsFit, Follows, HasTextLeft, IsJobOfCall, given_by, with_turn, GivesPacket};
 ghost use Rattle.fax_call.specs.Kept.{packet_of};
 ghost use Rattle.fax_call.specs.Replies.{written};
@@ -93,6 +93,21 @@ impl Caller {
         self.signals = Signals::new(self.alloc);
         self.writer = writer_of_none(self.alloc);
         self.procedure.start(format, pages, now);
+    }
+
+    /// The call of a job of at least one page, the first of this format, could not be placed, where no call is on: it is over as
+    /// it begins, with the outcome `NotPlaced`, and gives nothing. It takes no memory.
+    pub fn fail_to_place(&mut self, format: Format, pages: u32)
+        requires idle { self.old.procedure.state ≡ State.Idle }
+        requires some { 1 ≤ pages }
+        ensures not_placed { (writes others : Writing) (job other : JobValue) (heard : List SlotShown) (core : Calling) → IsReached others other heard core self.old
+            → job.format ≡ format → length job.pages ≡ pages → IsReached writes job [] (not_placed core job) self.new }
+        ensures over { self.new.procedure.state ≡ State.Idle }
+        ensures spare { self.new.spare ≡ self.old.spare }
+    {
+        self.signals = Signals::new(self.alloc);
+        self.writer = writer_of_none(self.alloc);
+        self.procedure.fail_to_place(format, pages);
     }
 
     /// Where the call stands.

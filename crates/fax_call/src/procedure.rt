@@ -6,7 +6,7 @@ ghost use Rattle.fax_pagestore.specs.Writers.{WriterValue};
 ghost use Rattle.fax_call.specs.Writings.{Writing};
 ghost use Rattle.fax_call.specs.Replies.{turn_behind};
 ghost use Rattle.fax_call.specs.Calls.{formats_of};
-ghost use Rattle.fax_call.specs.Calls.{Calling, new_calling, started, moved, timed, came, came_all, state_when_given, outcome_when_given, t4_when_given};
+ghost use Rattle.fax_call.specs.Calls.{Calling, new_calling, not_placed, started, moved, timed, came, came_all, state_when_given, outcome_when_given, t4_when_given};
 ghost use Rattle.fax_call.specs.Due.{due_at, timer_of};
 ghost use Rattle.fax_call.specs.Kept.{move_shown, pending_of, FitsMove};
 ghost use Rattle.fax_call.specs.Following.{IsFit, Follows, HasText, IsJobOfCall, command_kept, with_turn, given_by, gives_now};
@@ -92,6 +92,29 @@ impl Procedure {
             t4: Timer::new(),
             pace: self.pace,
             outcome: None,
+        };
+    }
+
+    /// The call of a job could not be placed, whose first page has this format: it is over as it begins.
+    pub fn fail_to_place(&mut self, format: Format, pages: u32)
+        requires { 1 ≤ pages }
+        ensures fit { IsFit self.new }
+        ensures pending { self.new.pending ≡ Pending.Nothing }
+        ensures idle { self.new.state ≡ State.Idle }
+        ensures not_placed { (writes others : Writing) (job other : JobValue) (core : Calling) (writer left : WriterValue) → Follows others other core writer self.old
+            → job.format ≡ format → length job.pages ≡ pages → Follows writes job (not_placed core job) left self.new }
+    {
+        *self = Procedure {
+            state: State::Idle,
+            format,
+            turn: None,
+            pages,
+            counts: Counts::new(),
+            pending: Pending::Nothing,
+            t1: Timer::new(),
+            t4: Timer::new(),
+            pace: self.pace,
+            outcome: Some(Outcome::NotPlaced),
         };
     }
 

@@ -2,7 +2,7 @@
 use Rattle.std.specs.Prelude.{◌≡◌, ℕ, Bool, List, [], ◌∷◌, Option}
 use Rattle.fax_call.specs.Writings.{Writing}
 use Rattle.fax_gateway.specs.Setups.{Setup}
-use Rattle.fax_gateway.specs.Events.{Event, Ring, FromCalling, FromCalled, Tick, clock}
+use Rattle.fax_gateway.specs.Events.{Event, Ring, FromCalling, FromCalled, Tick, Placed, clock}
 use Rattle.fax_gateway.specs.CallingLegs.{calling_leg}
 use Rattle.fax_gateway.specs.Traces.{IsTrace}
 
@@ -17,6 +17,7 @@ part_with (Ring at number) now part = Rang now ∷ part
 part_with (FromCalling octets at decided read) now part = Came octets now ∷ part
 part_with (FromCalled octets at decided) now part = part
 part_with (Tick at given) now part = Ticked now ∷ part
+part_with (Placed at connected) now part = part
 
 abbrev pub calling_part : List Event → List Heard
 calling_part [] = []
@@ -34,6 +35,7 @@ calling_answers (Ring at number ∷ earlier) = Numbers number ∷ calling_answer
 calling_answers (FromCalling octets at decided read ∷ earlier) = Decides decided ∷ calling_answers earlier
 calling_answers (FromCalled octets at decided ∷ earlier) = calling_answers earlier
 calling_answers (Tick at given ∷ earlier) = Gives given.on_calling ∷ calling_answers earlier
+calling_answers (Placed at connected ∷ earlier) = calling_answers earlier
 
 -- Traces with one calling part have one calling leg and the same answers on it, whatever the called leg brought, and
 -- however pages are written: what an image was read as is no choice either.

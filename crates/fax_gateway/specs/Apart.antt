@@ -3,7 +3,7 @@ use Rattle.std.specs.Prelude.{◌≡◌, ℕ, ◌+◌, ◌≤◌, max, List, [],
 use Rattle.fax_timers.specs.Spans as spans
 use Rattle.fax_call.specs.Writings.{Writing}
 use Rattle.fax_gateway.specs.Setups.{Setup}
-use Rattle.fax_gateway.specs.Events.{Event, Ring, FromCalling, FromCalled, Tick, Given, clock}
+use Rattle.fax_gateway.specs.Events.{Event, Ring, FromCalling, FromCalled, Tick, Placed, Given, clock}
 use Rattle.fax_gateway.specs.Traces.{IsTrace}
 
 -- the moment of the last tick that gave a datagram on a leg
@@ -17,6 +17,7 @@ last_given leg (Ring at number ∷ earlier) = last_given leg earlier
 last_given leg (FromCalling octets at decided read ∷ earlier) = last_given leg earlier
 last_given leg (FromCalled octets at decided ∷ earlier) = last_given leg earlier
 last_given leg (Tick at given ∷ earlier) = if_given (leg given) (clock (Tick at given ∷ earlier)) (last_given leg earlier)
+last_given leg (Placed at connected ∷ earlier) = last_given leg earlier
 
 -- 40 ms at least
 abbrev pub IsApart : Option ℕ → ℕ → Type 0

@@ -11,24 +11,25 @@ use Rattle.fax_jobs.specs.Jobs.{JobValue}
 use Rattle.fax_jobs.specs.Books.{report_of}
 use Rattle.fax_call.specs.Writings.{Writing}
 use Rattle.fax_call.specs.Replies.{Packet, written}
-use Rattle.fax_call.specs.Calls.{Calling, new_calling, started, ticked, Ticked, CallEvent, Comes, Ticks, after_events}
+use Rattle.fax_call.specs.Calls.{Calling, new_calling, not_placed, started, ticked, Ticked, CallEvent, Comes, Ticks, after_events}
 use Rattle.fax_call.specs.Delivery.{is_over}
 use Rattle.fax_gateway.specs.Setups.{Setup}
 use Rattle.fax_gateway.specs.Legs.{new_pieces, decided_by, sent}
 
--- The last call: its job, the calling side before it, when it was started, and since then the pieces and ticks, the
--- datagrams that arrived and the packets given, the newest first; and whether its end was entered in the book.
+-- The last call: its job, the calling side before it, when it was started, and whether it was placed; since then the pieces and
+-- ticks, the datagrams that arrived and the packets given, the newest first; and whether its end was entered in the book.
 pub record CalledLeg : Type 0 where
   pub job : JobValue
   pub before : Calling
   pub begun : ℕ
+  pub placed : Bool
   pub events : List CallEvent
   pub arrived : List DatagramValue
   pub given : List (List ℕ)
   pub entered : Bool
 
 abbrev pub begun_core : CalledLeg → Calling
-begun_core l = started l.before l.job l.begun
+begun_core l = if l.placed then started l.before l.job l.begun else not_placed l.before l.job
 
 abbrev pub core_of : Writing → CalledLeg → Calling
 core_of writes l = after_events writes l.job (begun_core l) l.events
@@ -43,10 +44,13 @@ abbrev pub core_left : Setup → Writing → Option CalledLeg → Calling
 core_left setup writes None = new_calling setup.pause (record { width = W1728; fine = false })
 core_left setup writes (Some l) = core_of writes l
 
--- the call of a job begins
+-- the call of a job begins; one that could not be placed is over as it begins
+abbrev pub placed_leg : (connected : Bool) → JobValue → Calling → ℕ → CalledLeg
+placed_leg connected job before now =
+    record { job = job; before = before; begun = now; placed = connected; events = []; arrived = []; given = []; entered = false }
+
 abbrev pub begun_leg : JobValue → Calling → ℕ → CalledLeg
-begun_leg job before now =
-    record { job = job; before = before; begun = now; events = []; arrived = []; given = []; entered = false }
+begun_leg job before now = placed_leg true job before now
 
 -- what a tick does on the leg
 abbrev pub calls : Writing → CalledLeg → ℕ → Ticked

@@ -7,7 +7,7 @@ use Rattle.fax_answer.specs.Replies.{ConfirmedPage}
 use Rattle.fax_call.specs.Writings.{Writing}
 use Rattle.fax_gateway.specs.Restored.{RestoredCall}
 use Rattle.fax_gateway.specs.Setups.{Setup}
-use Rattle.fax_gateway.specs.Events.{Event, Ring, FromCalling, FromCalled, Tick, clock}
+use Rattle.fax_gateway.specs.Events.{Event, Ring, FromCalling, FromCalled, Tick, Placed, clock}
 use Rattle.fax_gateway.specs.CallingLegs.{CallingLeg, calling_leg, idle_after, answers, confirmed_by}
 use Rattle.fax_gateway.specs.Sides.{past_of, sides}
 use Rattle.fax_gateway.specs.Traces.{IsTrace}
@@ -30,6 +30,7 @@ calls_of setup (Ring at number ∷ earlier) = [] ∷ calls_of setup earlier
 calls_of setup (FromCalling octets at decided read ∷ earlier) = calls_of setup earlier
 calls_of setup (FromCalled octets at decided ∷ earlier) = calls_of setup earlier
 calls_of setup (Tick at given ∷ earlier) = with_confirmed (confirmed_at (calling_leg setup earlier) (clock (Tick at given ∷ earlier))) (calls_of setup earlier)
+calls_of setup (Placed at connected ∷ earlier) = calls_of setup earlier
 
 -- calls that were restored, the oldest first, and the jobs cut from the confirmations of each
 abbrev pub AreCutsOfRestored : List RestoredCall → List JobValue → Type 0

@@ -3,7 +3,7 @@ use Rattle.std.specs.Prelude.{◌≡◌, ℕ, ◌+◌, ◌*◌, ◌<◌, ◌≤�
 use Rattle.std.specs.List.{All, count_by, flat_map, list_any}
 use Rattle.fax_gateway.specs.Setups.{Setup}
 use Rattle.fax_timers.specs.Moments.{is_due}
-use Rattle.fax_gateway.specs.Events.{Event, Ring, FromCalling, FromCalled, Tick, Given, clock, rings}
+use Rattle.fax_gateway.specs.Events.{Event, Ring, FromCalling, FromCalled, Tick, Placed, Given, clock, rings}
 use Rattle.fax_call.specs.Writings.{Writing}
 use Rattle.fax_gateway.specs.Reached.{GatewayValue}
 use Rattle.fax_gateway.specs.CallingLegs.{calling_leg, decided_calling, idle_after}
@@ -50,6 +50,7 @@ receipt_of_event (Ring now number) = []
 receipt_of_event (FromCalling octets now decided read) = Came side.Calling buffer_octets octets ∷ []
 receipt_of_event (FromCalled octets now decided) = Came side.Called buffer_octets octets ∷ []
 receipt_of_event (Tick now given) = []
+receipt_of_event (Placed now connected) = []
 
 abbrev pub receipts_in : Entry → List Receipt
 receipts_in (Accepts event) = receipt_of_event event
@@ -134,6 +135,7 @@ IsFrom at now (Ring moment number) = ⊥
 IsFrom at now (FromCalling octets moment decided read) = (at ≡ side.Calling) × (moment ≡ now)
 IsFrom at now (FromCalled octets moment decided) = (at ≡ side.Called) × (moment ≡ now)
 IsFrom at now (Tick moment given) = ⊥
+IsFrom at now (Placed moment connected) = ⊥
 
 abbrev pub Comes : Side → ℕ → Entry → Type 0
 Comes at now (Accepts event) = IsFrom at now event
@@ -193,6 +195,7 @@ GoesByEvent receives (Ring now number) old new = new ≡ old
 GoesByEvent receives (FromCalling octets now decided read) old new = receives side.Calling old new
 GoesByEvent receives (FromCalled octets now decided) old new = receives side.Called old new
 GoesByEvent receives (Tick now given) old new = new ≡ old
+GoesByEvent receives (Placed now connected) old new = new ≡ old
 
 abbrev pub GoesBy : {W : Type 0} → (Side → W → W → Type 0) → (Side → List ℕ → Bool → W → W → Type 0) → Entry → W → W → Type 0
 GoesBy receives sends (Accepts event) old new = GoesByEvent receives event old new

@@ -1,6 +1,6 @@
 -- When a tick of the gateway is due: the first moment at which it may give something or change more than the clock.
 -- (This project's profile.)
-use Rattle.std.specs.Prelude.{ℕ, is_some, List, [], ◌∷◌, Option, Some, None, if◌then◌else◌}
+use Rattle.std.specs.Prelude.{ℕ, Bool, is_some, List, [], ◌∷◌, Option, Some, None, if◌then◌else◌}
 use Rattle.fax_timers.specs.Moments.{earlier}
 use Rattle.fax_jobs.specs.Jobs.{JobValue}
 use Rattle.fax_answer.specs.Due as answer
@@ -23,21 +23,21 @@ calling_due setup leg = answer.due_at (answering_of setup leg)
 abbrev pub call_due : Calling → Option ℕ
 call_due core = if is_some (outcome_of core) then Some 0 else call.due_at core
 
--- where no job is being sent: at once where one waits
-abbrev pub job_due : List JobValue → Option ℕ
-job_due [] = None
-job_due (job ∷ jobs) = Some 0
+-- where no job is being sent: at once where one waits, but where calls are asked for: then none is due until it is placed
+abbrev pub job_due : (asks : Bool) → List JobValue → Option ℕ
+job_due asks [] = None
+job_due asks (job ∷ jobs) = if asks then None else Some 0
 
 -- the called leg, with the jobs that wait
-abbrev pub called_due : Writing → Option CalledLeg → List JobValue → Option ℕ
-called_due writes None waiting = job_due waiting
-called_due writes (Some l) waiting = if l.entered then job_due waiting else call_due (core_of writes l)
+abbrev pub called_due : (asks : Bool) → Writing → Option CalledLeg → List JobValue → Option ℕ
+called_due asks writes None waiting = job_due asks waiting
+called_due asks writes (Some l) waiting = if l.entered then job_due asks waiting else call_due (core_of writes l)
 
 -- both
 abbrev pub due_at : Setup → Writing → List Event → Option ℕ
 due_at setup writes trace =
     let s : Sides = sides setup writes trace in
-    earlier (calling_due setup (calling_leg setup trace)) (called_due writes s.leg (book_of s).waiting)
+    earlier (calling_due setup (calling_leg setup trace)) (called_due setup.asks writes s.leg (book_of s).waiting)
 
 -- a tick that gives and tells nothing
 abbrev pub nothing_given : shown.Given

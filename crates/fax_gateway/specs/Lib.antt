@@ -1,6 +1,7 @@
 pub mod Alone
 pub mod Answers
 pub mod Apart
+pub mod Asking
 pub mod CalledLegs
 pub mod CallingLegs
 pub mod Chain

@@ -9,7 +9,7 @@ use Rattle.fax_answer.specs.Replies.{ConfirmedPage}
 use Rattle.fax_call.specs.Writings.{Writing, IsWriting}
 use Rattle.fax_gateway.specs.Restored.{CallPage, pages_restored}
 use Rattle.fax_gateway.specs.Setups.{Setup}
-use Rattle.fax_gateway.specs.Events.{Event, Ring, FromCalling, FromCalled, Tick, Given, clock}
+use Rattle.fax_gateway.specs.Events.{Event, Ring, FromCalling, FromCalled, Tick, Placed, Given, clock}
 use Rattle.fax_gateway.specs.CallingLegs.{CallingLeg, calling_leg, answers, confirmed_by}
 use Rattle.fax_gateway.specs.Sides.{past_of, book_of, sides, in_tick}
 use Rattle.fax_gateway.specs.Traces.{IsTrace}
@@ -36,6 +36,7 @@ pages_confirmed setup (Ring at number ∷ earlier) = pages_confirmed setup earli
 pages_confirmed setup (FromCalling octets at decided read ∷ earlier) = pages_confirmed setup earlier
 pages_confirmed setup (FromCalled octets at decided ∷ earlier) = pages_confirmed setup earlier
 pages_confirmed setup (Tick at given ∷ earlier) = pages_confirmed setup earlier ++ pages_at (calling_leg setup earlier) (clock (Tick at given ∷ earlier))
+pages_confirmed setup (Placed at connected ∷ earlier) = pages_confirmed setup earlier
 
 -- the pages that the last of some lives had, the newest of which is the first: those that it was restored with, and those
 abbrev pub pages_had : List Life → List CallPage

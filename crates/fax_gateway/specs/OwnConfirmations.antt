@@ -8,7 +8,7 @@ use Rattle.fax_call.specs.Writings.{Writing, IsWriting}
 use Rattle.fax_call.specs.Emission.{Emission, Mark, IsPageOf}
 use Rattle.fax_gateway.specs.Restored.{CallPage, pages_restored}
 use Rattle.fax_gateway.specs.Setups.{Setup}
-use Rattle.fax_gateway.specs.Events.{Event, Ring, FromCalling, FromCalled, Tick, Given, clock}
+use Rattle.fax_gateway.specs.Events.{Event, Ring, FromCalling, FromCalled, Tick, Placed, Given, clock}
 use Rattle.fax_gateway.specs.CallingLegs.{calling_leg}
 use Rattle.fax_gateway.specs.Sides.{past_of, sides}
 use Rattle.fax_gateway.specs.Traces.{IsTrace}
@@ -28,6 +28,7 @@ confirmations_in setup (Ring at number ∷ earlier) = confirmations_in setup ear
 confirmations_in setup (FromCalling octets at decided read ∷ earlier) = confirmations_in setup earlier
 confirmations_in setup (FromCalled octets at decided ∷ earlier) = confirmations_in setup earlier
 confirmations_in setup (Tick at given ∷ earlier) = confirmations_in setup earlier + one_if_some (confirmed_at (calling_leg setup earlier) (clock (Tick at given ∷ earlier)))
+confirmations_in setup (Placed at connected ∷ earlier) = confirmations_in setup earlier
 
 -- the MCF of a tick confirmed the page, in the call of this number, and before that tick just so many pages were confirmed
 pub record IsNumber (setup : Setup) (trace : List Event) (call : ℕ) (page : PageValue) (k : ℕ) : Type 0 where

@@ -6,7 +6,7 @@ use Rattle.fax_jobs.specs.Books.{last_of, kept_reports}
 use Rattle.fax_jobs.specs.Pasts.{as_list, jobs_of, AreReported}
 use Rattle.fax_call.specs.Writings.{Writing}
 use Rattle.fax_gateway.specs.Setups.{Setup}
-use Rattle.fax_gateway.specs.Events.{Event, Ring, FromCalling, FromCalled, Tick}
+use Rattle.fax_gateway.specs.Events.{Event, Ring, FromCalling, FromCalled, Tick, Placed}
 use Rattle.fax_gateway.specs.CalledLegs.{CalledLeg}
 use Rattle.fax_gateway.specs.Sides.{past_of, book_of, sides}
 use Rattle.fax_gateway.specs.Traces.{IsTrace}
@@ -22,6 +22,7 @@ reports_given (Ring at number ∷ earlier) = reports_given earlier
 reports_given (FromCalling octets at decided read ∷ earlier) = reports_given earlier
 reports_given (FromCalled octets at decided ∷ earlier) = reports_given earlier
 reports_given (Tick at given ∷ earlier) = reports_given earlier ++ report_list given.report
+reports_given (Placed at connected ∷ earlier) = reports_given earlier
 
 -- the job of the called leg's call, until its end was entered
 abbrev pub job_sent : Option CalledLeg → Option JobValue

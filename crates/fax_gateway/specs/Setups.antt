@@ -1,17 +1,19 @@
 -- How a gateway is set up. (This project's profile.)
-use Rattle.std.specs.Prelude.{◌≡◌, ℕ, ◌≤◌, List, []}
+use Rattle.std.specs.Prelude.{◌≡◌, ℕ, ◌≤◌, Bool, List, []}
 use Rattle.fax_timers.specs.Paces.{IsPause}
 use Rattle.fax_udptl.specs.Sending.{most_redundancy}
 use Rattle.fax_gateway.specs.declared.settings.Settings.{Settings}
 use Rattle.fax_gateway.specs.Restored.{RestoredCall, pages_restored, ArePages}
 
--- What is set for both legs: how many of the packets before its own each datagram has, and the pause behind a preamble. And
--- the calls that it is restored with, the oldest first: a new gateway has none.
+-- What is set for both legs: how many of the packets before its own each datagram has, and the pause behind a preamble. Whether
+-- a job's call is asked for, and begins when it is placed. And the calls that it is restored with, the oldest first: a new gateway
+-- has none.
 pub record Setup : Type 0 where
   pub redundancy : ℕ
   pub few : redundancy ≤ most_redundancy
   pub pause : ℕ
   pub is_pause : IsPause pause
+  pub asks : Bool
   pub restored : List RestoredCall
   pub are_pages : ArePages (pages_restored restored)
 
@@ -19,6 +21,7 @@ pub record Setup : Type 0 where
 pub record HasSettings (setup : Setup) (settings : Settings) : Type 0 where
   pub redundancy : settings.redundancy ≡ setup.redundancy
   pub pause : settings.preamble_ms ≡ setup.pause
+  pub asks : settings.asks ≡ setup.asks
 
 -- and it is restored with these calls
 pub record AreSetWith (setup : Setup) (settings : Settings) (calls : List RestoredCall) : Type 0 where

@@ -1,19 +1,20 @@
 -- Both sides over one book. In a tick the calling leg is served first, with what the book hears of it; then, where no job
 -- is being sent, the one that was closed first is; then the called leg is served, and a call that is over is entered. So the
--- next job starts one tick later. (This project's profile.)
-use Rattle.std.specs.Prelude.{ℕ, Bool, true, false, not, ◌&&◌, max, List, [], ◌∷◌, Option, Some, None, option_map, if◌then◌else◌}
+-- next job starts one tick later. Where calls are asked for, no tick begins one: the job that was closed first is asked for while
+-- none is being sent, and its call begins when it is placed. (This project's profile.)
+use Rattle.std.specs.Prelude.{ℕ, Bool, true, false, not, ◌&&◌, is_some, max, List, [], ◌∷◌, Option, Some, None, option_map, if◌then◌else◌}
 use Rattle.fax_jobs.specs.declared.outcome.Outcome.{Outcome}
 use Rattle.fax_jobs.specs.Jobs.{JobValue}
-use Rattle.fax_jobs.specs.Books.{Book}
+use Rattle.fax_jobs.specs.Books.{Book, next_job}
 use Rattle.fax_jobs.specs.Pasts.{Step, Confirms, CallEnds, Sends, Ends, Past, new_past, after_steps}
 use Rattle.fax_answer.specs.Replies.{ConfirmedPage}
 use Rattle.fax_call.specs.Writings.{Writing}
 use Rattle.fax_call.specs.Calls.{Calling}
 use Rattle.fax_gateway.specs.Restored.{restores}
 use Rattle.fax_gateway.specs.Setups.{Setup}
-use Rattle.fax_gateway.specs.Events.{Event, Ring, FromCalling, FromCalled, Tick, clock}
+use Rattle.fax_gateway.specs.Events.{Event, Ring, FromCalling, FromCalled, Tick, Placed, clock}
 use Rattle.fax_gateway.specs.CallingLegs.{CallingLeg, calling_leg, idle_after, answers, confirmed_by}
-use Rattle.fax_gateway.specs.CalledLegs.{CalledLeg, is_free, core_left, begun_leg, leg_ticked, hears, outcome_told, delivered_told}
+use Rattle.fax_gateway.specs.CalledLegs.{CalledLeg, is_free, core_left, placed_leg, leg_ticked, hears, outcome_told, delivered_told}
 
 -- the steps of the book, the newest first, and the called leg, none before the first job is sent
 pub record Sides : Type 0 where
@@ -40,18 +41,27 @@ heard_in_tick None now steps = steps
 heard_in_tick (Some l) now steps =
     ends_if (answers l now).ended (confirms_if l.number (confirmed_by (answers l now).given) steps)
 
--- where no job is being sent, the one that was closed first is
-abbrev pub leg_of : Option JobValue → Calling → ℕ → Option CalledLeg → Option CalledLeg
-leg_of None before now leg = leg
-leg_of (Some job) before now leg = Some (begun_leg job before now)
+-- where no job is being sent, the one that was closed first is, in a call that was placed or not
+abbrev pub leg_of : (connected : Bool) → Option JobValue → Calling → ℕ → Option CalledLeg → Option CalledLeg
+leg_of connected None before now leg = leg
+leg_of connected (Some job) before now leg = Some (placed_leg connected job before now)
 
-abbrev pub sends : Setup → Writing → ℕ → Sides → Sides
-sends setup writes now s =
+abbrev pub sends : (connected : Bool) → Setup → Writing → ℕ → Sides → Sides
+sends connected setup writes now s =
     let steps : List Step = Sends ∷ s.steps in
-    record { steps = steps; leg = leg_of (after_steps new_past steps).book.sending (core_left setup writes s.leg) now s.leg }
+    record { steps = steps; leg = leg_of connected (after_steps new_past steps).book.sending (core_left setup writes s.leg) now s.leg }
+
+-- a tick begins the next call: none is on, and none is asked for
+abbrev pub begins_next : Setup → Option CalledLeg → Bool
+begins_next setup leg = not setup.asks && is_free leg
 
 abbrev pub sends_if : Setup → Writing → ℕ → Sides → Sides
-sends_if setup writes now s = if is_free s.leg then sends setup writes now s else s
+sends_if setup writes now s = if begins_next setup s.leg then sends true setup writes now s else s
+
+-- the job whose call is asked for
+abbrev pub job_asked : (asks : Bool) → Book → Option JobValue
+job_asked false book = None
+job_asked true book = if is_some book.sending then None else next_job book
 
 -- the called leg is served, and the end of its call is entered
 abbrev pub enters : ℕ → Option Outcome → List Step → List Step
@@ -76,6 +86,7 @@ sides_after setup writes old new now (FromCalling octets at decided read) s =
     record s { steps = ends_if (not (idle_after old) && idle_after new) s.steps }
 sides_after setup writes old new now (FromCalled octets at decided) s = record s { leg = option_map (hears writes octets now) s.leg }
 sides_after setup writes old new now (Tick at given) s = serves writes now (before_serving setup writes old now s)
+sides_after setup writes old new now (Placed at connected) s = sends connected setup writes now s
 
 -- It begins with the restored calls, each of which has ended: a new gateway begins with none.
 abbrev pub sides : Setup → Writing → List Event → Sides

@@ -12,10 +12,10 @@ use Rattle.fax_call.specs.Writings.{Writing}
 use Rattle.fax_call.specs.Delivery.{is_over}
 use Rattle.fax_call.specs.Emission.{Emission, emitted_at, frame_at, Mark, Gave, Begins, gave_all, elements_given, marks_heard}
 use Rattle.fax_gateway.specs.Setups.{Setup}
-use Rattle.fax_gateway.specs.Events.{Event, Ring, FromCalling, FromCalled, Tick}
+use Rattle.fax_gateway.specs.Events.{Event, Ring, FromCalling, FromCalled, Tick, Placed}
 use Rattle.fax_gateway.specs.Legs.{new_pieces}
-use Rattle.fax_gateway.specs.CalledLegs.{CalledLeg, core_of, is_free}
-use Rattle.fax_gateway.specs.Sides.{book_of, sides, in_tick}
+use Rattle.fax_gateway.specs.CalledLegs.{CalledLeg, core_of}
+use Rattle.fax_gateway.specs.Sides.{begins_next, book_of, sides, in_tick}
 
 -- the elements of the packet that a datagram has first; a datagram that cannot be read is missing
 abbrev pub elements_read : Result DatagramValue UdptlFault → List elements.Element
@@ -64,14 +64,14 @@ heard_by writes None octets marks = marks
 heard_by writes (Some l) octets marks =
     if is_over (core_of writes l).state then marks else heard_with l (datagram_of octets) marks
 
--- a call begins in a tick, where no job was being sent and one is
-abbrev pub begun_if : (free : Bool) → Option JobValue → List Mark → List Mark
+-- a call begins in a tick that begins the next one, or where it is placed, where no job was being sent and one is
+abbrev pub begun_if : (begins : Bool) → Option JobValue → List Mark → List Mark
 begun_if true (Some job) marks = Begins ∷ marks
-begun_if free sending marks = marks
+begun_if begins sending marks = marks
 
 -- what stands before that which a tick gives
 abbrev pub marks_before : Setup → Writing → List Event → ℕ → List Mark → List Mark
-marks_before setup writes earlier at marks = begun_if (is_free (sides setup writes earlier).leg) (book_of (in_tick setup writes earlier at)).sending marks
+marks_before setup writes earlier at marks = begun_if (begins_next setup (sides setup writes earlier).leg) (book_of (in_tick setup writes earlier at)).sending marks
 
 abbrev pub leg_marks : Setup → Writing → List Event → List Mark
 leg_marks setup writes [] = []
@@ -80,6 +80,7 @@ leg_marks setup writes (FromCalling octets at decided read ∷ earlier) = leg_ma
 leg_marks setup writes (FromCalled octets at decided ∷ earlier) = heard_by writes (sides setup writes earlier).leg octets (leg_marks setup writes earlier)
 leg_marks setup writes (Tick at given ∷ earlier) =
     gave_all (elements_told given.on_called) (marks_before setup writes earlier at (leg_marks setup writes earlier))
+leg_marks setup writes (Placed at connected ∷ earlier) = begun_if true (book_of (sides setup writes (Placed at connected ∷ earlier))).sending (leg_marks setup writes earlier)
 
 -- what holds of each image that these elements end, by what stood before its end
 abbrev pub IfEmits : (List Mark → Emission → Type 0) → List Mark → Option Emission → Type 0

@@ -7,7 +7,7 @@ use Rattle.fax_answer.specs.declared.refusal.Refusal.{Refusal}
 use Rattle.fax_gateway.specs.declared.given.Kept.{Kept}
 use Rattle.fax_gateway.specs.declared.given.Refused.{Refused}
 use Rattle.fax_gateway.specs.Setups.{Setup}
-use Rattle.fax_gateway.specs.Events.{Event, Ring, FromCalling, FromCalled, Tick, clock}
+use Rattle.fax_gateway.specs.Events.{Event, Ring, FromCalling, FromCalled, Tick, Placed, clock}
 use Rattle.fax_gateway.specs.CallingLegs.{CallingLeg, answers, calling_leg, confirmed_by, core_of, is_idle}
 use Rattle.fax_gateway.specs.Reports.{report_list, reports_given}
 use Rattle.fax_gateway.specs.Reached.{CallingValue, TellsWhyOn}
@@ -55,6 +55,7 @@ pages_kept setup (Ring at number ∷ earlier) = pages_kept setup earlier
 pages_kept setup (FromCalling octets at decided read ∷ earlier) = pages_kept setup earlier
 pages_kept setup (FromCalled octets at decided ∷ earlier) = pages_kept setup earlier
 pages_kept setup (Tick at given ∷ earlier) = pages_kept setup earlier ++ kept_list (kept_at (calling_leg setup earlier) (max at (clock earlier)))
+pages_kept setup (Placed at connected ∷ earlier) = pages_kept setup earlier
 
 abbrev pub refused_list : Option Refused → List Refused
 refused_list None = []
@@ -68,6 +69,7 @@ AreRefused setup (FromCalled octets at decided ∷ earlier) told = AreRefused se
 AreRefused setup (Tick at given ∷ earlier) told =
     (before : List Refused) × (refused : Option Refused) × AreRefused setup earlier before
     × IsRefusedAt (calling_leg setup earlier) (max at (clock earlier)) refused × (told ≡ before ++ refused_list refused)
+AreRefused setup (Placed at connected ∷ earlier) told = AreRefused setup earlier told
 
 abbrev pub call_list : Option ℕ → List ℕ
 call_list None = []
@@ -79,6 +81,7 @@ calls_given_up setup (Ring at number ∷ earlier) = calls_given_up setup earlier
 calls_given_up setup (FromCalling octets at decided read ∷ earlier) = calls_given_up setup earlier
 calls_given_up setup (FromCalled octets at decided ∷ earlier) = calls_given_up setup earlier
 calls_given_up setup (Tick at given ∷ earlier) = calls_given_up setup earlier ++ call_list (given_up_at (calling_leg setup earlier) (max at (clock earlier)))
+calls_given_up setup (Placed at connected ∷ earlier) = calls_given_up setup earlier
 
 -- What the ticks told by which a trace became longer: at most one report, one page that was confirmed, one that was refused, and
 -- one call.
@@ -103,8 +106,18 @@ abbrev pub call_ended : (old new : Option ℕ) → Option ℕ
 call_ended old None = old
 call_ended old (Some number) = None
 
+-- the call of a job, where there is one
+abbrev pub call_asked : Option JobValue → Option ℕ
+call_asked None = None
+call_asked (Some job) = Some job.call
+
 -- the call of the job that is being sent, where none was
 abbrev pub call_dialled : (was_sending : Bool) → Option JobValue → Option ℕ
 call_dialled true job = None
 call_dialled false None = None
 call_dialled false (Some job) = Some job.call
+
+-- the call that is asked for, where none was
+abbrev pub call_if_new : (was_asked is_asked : Option ℕ) → Option ℕ
+call_if_new None is_asked = is_asked
+call_if_new (Some call) is_asked = None

@@ -1,11 +1,11 @@
 //! The called leg: jobs are sent there, each in a call of our own.
-ghost use Rattle.std.specs.Prelude.{◌≡◌, ◌<◌, ◌≤◌, ℕ, true, List, [], Option, Some, None, IfOk, OnOk, OnErr, option_map};
+ghost use Rattle.std.specs.Prelude.{◌≡◌, ◌<◌, ◌≤◌, ℕ, true, false, List, [], Option, Some, None, IfOk, OnOk, OnErr, option_map};
 ghost use Rattle.fax_jobs.specs.Jobs.{JobValue};
 ghost use Rattle.fax_call.specs.Writings.{IsWriting, Writing};
 ghost use Rattle.fax_call.specs.Following.{IsJobOfCall};
 ghost use Rattle.fax_call.specs.declared.pending.Pending.TheVariants as Pending;
 ghost use Rattle.fax_gateway.specs.Setups.{AreAllowed, HasSettings, Setup};
-ghost use Rattle.fax_gateway.specs.CalledLegs.{CalledLeg, begun_leg, core_left, core_of, decided_called, hears};
+ghost use Rattle.fax_gateway.specs.CalledLegs.{CalledLeg, begun_leg, placed_leg, core_left, core_of, decided_called, hears};
 ghost use Rattle.fax_gateway.specs.Due.{call_due};
 ghost use Rattle.fax_gateway.specs.Reached.{Begins, CalledHasRoom, IsCalled, IsLeg, IsServed, TicksOn, called_alone, most_octets, outcome_kept};
 
@@ -115,6 +115,34 @@ impl CalledSide {
         // what it ensures of the job is that it has a page
         let _ = job.pages();
         self.caller.start(job.format(), job.page_count(), now);
+        self.leg = leg;
+    }
+
+    /// The call of a job is placed, where no call is on, with a leg of its own: it begins, or, where the called machine could not be
+    /// reached, is over as it begins. It takes no memory.
+    pub fn place<S: RowStore>(&mut self, job: &Job<S>, connected: bool, leg: Leg, now: u64)
+        requires idle { self.old.caller.procedure.state ≡ State.Idle }
+        ensures placed { (setup : Setup) (writes : Writing) (old : Option CalledLeg) → IsLeg setup [] [] leg → IsCalled setup writes old self.old
+            → IsCalled setup writes (Some (placed_leg connected job.now (core_left setup writes old) now)) self.new }
+        ensures job { IsJobOfCall self.new.caller.procedure job.now }
+    {
+        if connected {
+            self.start(job, leg, now);
+        } else {
+            self.fail_to_place(job, leg, now);
+        }
+    }
+
+    /// The call of a job could not be placed: it is over as it begins.
+    fn fail_to_place<S: RowStore>(&mut self, job: &Job<S>, leg: Leg, now: u64)
+        requires idle { self.old.caller.procedure.state ≡ State.Idle }
+        ensures failed { (setup : Setup) (writes : Writing) (old : Option CalledLeg) → IsLeg setup [] [] leg → IsCalled setup writes old self.old
+            → IsCalled setup writes (Some (placed_leg false job.now (core_left setup writes old) now)) self.new }
+        ensures job { IsJobOfCall self.new.caller.procedure job.now }
+    {
+        // what it ensures of the job is that it has a page
+        let _ = job.pages();
+        self.caller.fail_to_place(job.format(), job.page_count());
         self.leg = leg;
     }
 

@@ -4,8 +4,9 @@ ghost use Rattle.fax_call.specs.Writings.{IsWriting, Writing};
 ghost use Rattle.fax_gateway.specs.Setups.{Setup};
 ghost use Rattle.fax_gateway.specs.Events.{Event};
 ghost use Rattle.fax_gateway.specs.Reached.{IsReachedBy};
+ghost use Rattle.fax_gateway.specs.Sides.{job_asked};
 ghost use Rattle.fax_gateway.specs.Driving.{Entry, Happens, HasMade, IsTurn, WireGoes, events, failed_in_a_row, most_failed, receipts};
-ghost use Rattle.fax_gateway.specs.Turns.{TellTicks, call_dialled, call_ended, call_kept};
+ghost use Rattle.fax_gateway.specs.Turns.{TellTicks, call_asked, call_dialled, call_ended, call_if_new, call_kept};
 
 use crate::buffer::Buffer;
 use crate::engine::Engine;
@@ -58,6 +59,7 @@ impl Driver {
         ensures goes_on { (made : List Entry) → HasMade made self.new → IsTrue result.goes_on ↔ (failed_in_a_row (receipts made) < most_failed) }
         ensures ended { result.ended ≡ call_ended (call_kept gateway.old.calling) (call_kept gateway.new.calling) }
         ensures dialled { result.dialled ≡ call_dialled (is_some gateway.old.book.sending) gateway.new.book.sending }
+        ensures asked { result.asked ≡ call_if_new (call_asked (job_asked gateway.old.settings.asks gateway.old.book)) (call_asked (job_asked gateway.new.settings.asks gateway.new.book)) }
     {
         self.engine.turn(&mut self.buffer, gateway, wire, now)
     }

@@ -4,9 +4,10 @@ ghost use Rattle.fax_call.specs.Writings.{IsWriting, Writing};
 ghost use Rattle.fax_gateway.specs.Setups.{Setup};
 ghost use Rattle.fax_gateway.specs.Events.{Event};
 ghost use Rattle.fax_gateway.specs.Reached.{IsReachedBy};
+ghost use Rattle.fax_gateway.specs.Sides.{job_asked};
 ghost use Rattle.fax_gateway.specs.declared.side.Side.{Side as SideShown};
 ghost use Rattle.fax_gateway.specs.Driving.{AreReceives, Carries, Comes, Entry, FailsToReceive, Happens, HasMade, IsHanded, IsReceive, IsSent, IsTick, IsTurn, IsWanting, Steps, WireGoes, events, failed_in_a_row, most_failed, receipts};
-ghost use Rattle.fax_gateway.specs.Turns.{TellTicks, call_dialled, call_ended, call_kept};
+ghost use Rattle.fax_gateway.specs.Turns.{TellTicks, call_asked, call_dialled, call_ended, call_if_new, call_kept};
 
 use crate::buffer::Buffer;
 use crate::driven::Driven;
@@ -75,9 +76,11 @@ impl Engine {
         ensures goes_on { (made : List Entry) → HasMade made self.new → IsTrue result.goes_on ↔ (failed_in_a_row (receipts made) < most_failed) }
         ensures ended { result.ended ≡ call_ended (call_kept gateway.old.calling) (call_kept gateway.new.calling) }
         ensures dialled { result.dialled ≡ call_dialled (is_some gateway.old.book.sending) gateway.new.book.sending }
+        ensures asked { result.asked ≡ call_if_new (call_asked (job_asked gateway.old.settings.asks gateway.old.book)) (call_asked (job_asked gateway.new.settings.asks gateway.new.book)) }
     {
         let call = gateway.call();
         let was_sending = gateway.sending().is_some();
+        let was_asked = gateway.asked();
         self.serve(Side::Calling, buffer, gateway, wire, now);
         self.serve(Side::Called, buffer, gateway, wire, now);
         let told = self.tick(gateway, wire, now);
@@ -89,6 +92,7 @@ impl Engine {
             ended: call_ended(call, gateway.call()),
             gave_up: told.gave_up,
             dialled: call_dialled(was_sending, gateway.sending()),
+            asked: call_if_new(was_asked, gateway.asked()),
         }
     }
 
@@ -232,6 +236,13 @@ fn call_dialled<S: RowStore>(was_sending: bool, job: Option<&Job<S>>) -> Option<
         Some(job) if !was_sending => Some(job.call()),
         _ => None,
     }
+}
+
+/// The call that is asked for, where none was.
+fn call_if_new(was_asked: Option<u32>, is_asked: Option<u32>) -> Option<u32>
+    ensures { result ≡ call_if_new was_asked is_asked }
+{
+    if was_asked.is_some() { None } else { is_asked }
 }
 
 /// Hands a datagram of a leg on to the gateway. It answers whether it was accepted.

@@ -1,4 +1,4 @@
-//! Why a ring is refused.
+//! Why a ring is refused, and why a call is not placed.
 ghost use Rattle.std.specs.Prelude.{◌≡◌};
 
 use fax_bits::NoMemory;
@@ -29,6 +29,27 @@ impl RingFault {
             RingFault::NoNumber => 2,
             RingFault::NoMemory => 3,
         }
+    }
+}
+
+/// Why the call of a job is not placed (this project's profile). Where both causes hold, the first is told.
+#[derive(Clone, Copy, PartialEq, Eq, Debug, Error)]
+pub enum PlaceFault {
+    /// No call is asked for.
+    #[error("no call is asked for")]
+    NotAsked,
+    #[error("out of memory")]
+    NoMemory,
+}
+
+impl From<NoMemory> for PlaceFault {
+    ghost use Rattle.std.specs.Prelude.{◌≡◌};
+    ghost use Rattle.fax_gateway.specs.declared.fault.PlaceFault.TheVariants as place_faults;
+
+    ghost from_gives = { λ _ e. e ≡ place_faults.NoMemory };
+
+    fn from(_: NoMemory) -> Self {
+        PlaceFault::NoMemory
     }
 }
 

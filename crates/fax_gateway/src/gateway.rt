@@ -9,17 +9,17 @@ ghost use Rattle.fax_call.specs.Writings.{IsWriting, Writing};
 ghost use Rattle.fax_udptl.specs.Sending.{most_redundancy};
 ghost use Rattle.fax_gateway.specs.Restored.{ArePages, call_shown, confirmation_shown, confirmed_all, pages_restored, pages_with, restored_to};
 ghost use Rattle.fax_gateway.specs.Setups.{AreAllowed, AreSet, AreSetWith, Setup};
-ghost use Rattle.fax_gateway.specs.Events.{Event, Ring, FromCalled, Tick, clock, rings};
+ghost use Rattle.fax_gateway.specs.Events.{Event, Ring, FromCalled, Tick, Placed, clock, rings};
 ghost use Rattle.fax_gateway.specs.CallingLegs.{CallingLeg, calling_leg, decided_calling, idle_after, told_calling};
 ghost use Rattle.fax_gateway.specs.CalledLegs.{decided_called};
-ghost use Rattle.fax_gateway.specs.Sides.{book_of, sides};
+ghost use Rattle.fax_gateway.specs.Sides.{book_of, job_asked, sides};
 ghost use Rattle.fax_gateway.specs.Due.{called_due, due_at, job_due, nothing_given};
 ghost use Rattle.fax_gateway.specs.Reached.{CallingHasRoom, HasRoom, HearsFrom, IsCalling, IsLeg, IsReachedBy, IsServed, alone, closed_if, confirmed_if, confirmed_on, ended_if, ended_on, given_shown, most_octets, outcome_kept, report_if, ticked_on};
-ghost use Rattle.fax_gateway.specs.Turns.{IsRefusedAt, Refuses, call_if, call_kept, call_on, given_up_at, kept_at, kept_if, refused_if};
+ghost use Rattle.fax_gateway.specs.Turns.{IsRefusedAt, Refuses, call_asked, call_if, call_kept, call_on, given_up_at, kept_at, kept_if, refused_if};
 
 use crate::called::CalledSide;
 use crate::calling::CallingSide;
-use crate::fault::RingFault;
+use crate::fault::{PlaceFault, RingFault};
 use crate::given::{Given, Kept, Refused};
 use crate::leg::Leg;
 use crate::restored::RestoredCall;
@@ -63,13 +63,14 @@ impl<S: RowStore> Gateway<S> {
     /// legs and for the reports of jobs.
     pub fn new(alloc: Global, redundancy: u8) -> Result<Self, NoMemory>
         requires { redundancy ≤ most_redundancy }
-        ensures { IfOk result (λ gateway. (setup : Setup) (writes : Writing) → AreSet setup (record { redundancy = redundancy; preamble_ms = 40 }) → IsReachedBy setup writes [] gateway) }
+        ensures { IfOk result (λ gateway. (setup : Setup) (writes : Writing) → AreSet setup (record { redundancy = redundancy; preamble_ms = 40; asks = false }) → IsReachedBy setup writes [] gateway) }
     {
         Gateway::with_settings(
             alloc,
             Settings {
                 redundancy,
                 preamble_ms: PREAMBLE_MS,
+                asks: false,
             },
         )
     }
@@ -169,10 +170,87 @@ impl<S: RowStore> Gateway<S> {
         Ok(decided)
     }
 
+    /// The call of the job that is asked for is placed: the called machine has answered, and the job's call begins, with all its
+    /// timers. The next tick gives the tone of a calling terminal. It takes memory for the leg. An `Err` changes nothing.
+    pub fn connect(&mut self, now: u64) -> Result<(), PlaceFault>
+        ensures placed { OnOk result ((setup : Setup) (writes : Writing) (trace : List Event) → IsReachedBy setup writes trace self.old
+            → IsReachedBy setup writes (Placed now true ∷ trace) self.new) }
+        ensures not_asked { (setup : Setup) (writes : Writing) (trace : List Event) → IsReachedBy setup writes trace self.old
+            → result ≡ Err PlaceFault.NotAsked ↔ (job_asked setup.asks (book_of (sides setup writes trace)) ≡ None) }
+        ensures err { OnErr result (self.new ≡ self.old) }
+    {
+        self.place(true, now)
+    }
+
+    /// The called machine of the job that is asked for could not be reached: its call is over as it begins, and the next tick
+    /// reports the job as `NotPlaced`. It takes memory for the leg. An `Err` changes nothing.
+    pub fn not_connected(&mut self, now: u64) -> Result<(), PlaceFault>
+        ensures placed { OnOk result ((setup : Setup) (writes : Writing) (trace : List Event) → IsReachedBy setup writes trace self.old
+            → IsReachedBy setup writes (Placed now false ∷ trace) self.new) }
+        ensures not_asked { (setup : Setup) (writes : Writing) (trace : List Event) → IsReachedBy setup writes trace self.old
+            → result ≡ Err PlaceFault.NotAsked ↔ (job_asked setup.asks (book_of (sides setup writes trace)) ≡ None) }
+        ensures err { OnErr result (self.new ≡ self.old) }
+    {
+        self.place(false, now)
+    }
+
+    /// The call of the job that is asked for is placed, or could not be.
+    fn place(&mut self, connected: bool, now: u64) -> Result<(), PlaceFault>
+        ensures placed { OnOk result ((setup : Setup) (writes : Writing) (trace : List Event) → IsReachedBy setup writes trace self.old
+            → IsReachedBy setup writes (Placed now connected ∷ trace) self.new) }
+        ensures not_asked { (setup : Setup) (writes : Writing) (trace : List Event) → IsReachedBy setup writes trace self.old
+            → result ≡ Err PlaceFault.NotAsked ↔ (job_asked setup.asks (book_of (sides setup writes trace)) ≡ None) }
+        ensures err { OnErr result (self.new ≡ self.old) }
+    {
+        if self.job_asked().is_none() {
+            return Err(PlaceFault::NotAsked);
+        }
+        let leg = Leg::with_room(self.alloc, self.settings.redundancy)?;
+        self.begin_asked(connected, leg, now);
+        Ok(())
+    }
+
+    /// The same with this leg, where a job's call is asked for. It takes no memory.
+    fn begin_asked(&mut self, connected: bool, leg: Leg, now: u64)
+        requires asked { IsSome (job_asked self.old.settings.asks self.old.book) }
+        ensures placed { (setup : Setup) (writes : Writing) (trace : List Event) → IsLeg setup [] [] leg → IsReachedBy setup writes trace self.old
+            → IsReachedBy setup writes (Placed now connected ∷ trace) self.new }
+    {
+        let moment = self.clock.read(now);
+        self.jobs.next();
+        match self.jobs.sending() {
+            None => unreachable!(),
+            Some(job) => self.called.place(job, connected, leg, moment),
+        }
+    }
+
+    /// The job whose call is asked for.
+    fn job_asked(&self) -> Option<&Job<S>>
+        ensures { option_copied result ≡ job_asked self.now.settings.asks self.now.book }
+    {
+        if !self.settings.asks || self.jobs.sending().is_some() {
+            return None;
+        }
+        self.jobs.first_waiting()
+    }
+
+    /// The number of the call whose job is asked for: it waits for its own call to be placed. `None`: none is, and where calls are
+    /// not asked for none ever is.
+    pub fn asked(&self) -> Option<u32>
+        ensures asked { result ≡ call_asked (job_asked self.now.settings.asks self.now.book) }
+        ensures told { (setup : Setup) (writes : Writing) (trace : List Event) → IsReachedBy setup writes trace self.now
+            → result ≡ call_asked (job_asked setup.asks (book_of (sides setup writes trace))) }
+    {
+        match self.job_asked() {
+            None => None,
+            Some(job) => Some(job.call()),
+        }
+    }
+
     /// Time goes on, on both legs. It answers what is given: on the calling leg the answering side's next datagram, whose
     /// page joins the book where it confirms one; on the called leg that of the job that is being sent, or of the one that
-    /// was closed first where none is; and the report of a job whose call has ended, behind which the next one waits for the
-    /// next tick. It tells the page that it confirms, the one that it refuses and why, and the call of the calling leg that it
+    /// was closed first where none is and calls are not asked for; and the report of a job whose call has ended, behind which
+    /// the next one waits for the next tick. It tells the page that it confirms, the one that it refuses and why, and the call of the calling leg that it
     /// gives up. Before the moment of `next_due` the clock is read, and nothing else is done. It takes memory for the datagrams,
     /// and for a page. An `Err` changes nothing but the memory that is reserved.
     pub fn tick(&mut self, now: u64) -> Result<Given, NoMemory>
@@ -200,12 +278,15 @@ impl<S: RowStore> Gateway<S> {
         if self.jobs.sending().is_some() {
             return self.tick_in_call(now);
         }
+        if self.settings.asks {
+            return Ok(self.tick_at_rest(now));
+        }
         let leg = Leg::with_room(self.alloc, self.settings.redundancy)?;
         Ok(self.tick_between(leg, now))
     }
 
     /// The first moment at which a tick may give something or change more than the clock: an earlier one does neither. It is 0
-    /// where a job is to begin, and where a call is over whose end the book does not know yet. `None`: nothing is due until
+    /// where a tick is to begin a job, and where a call is over whose end the book does not know yet. `None`: nothing is due until
     /// something comes.
     pub fn next_due(&self) -> Option<u64>
         ensures { (setup : Setup) (writes : Writing) (trace : List Event) → IsReachedBy setup writes trace self.now
@@ -217,10 +298,11 @@ impl<S: RowStore> Gateway<S> {
     /// The same of the called leg, and of the jobs that wait.
     fn called_due(&self) -> Option<u64>
         ensures { (setup : Setup) (writes : Writing) (trace : List Event) → IsReachedBy setup writes trace self.now
-            → result ≡ called_due writes (sides setup writes trace).leg (book_of (sides setup writes trace)).waiting }
+            → result ≡ called_due setup.asks writes (sides setup writes trace).leg (book_of (sides setup writes trace)).waiting }
     {
         match self.jobs.sending() {
             Some(_) => self.called.next_due(),
+            None if self.settings.asks => None,
             None => at_once(&self.jobs),
         }
     }
@@ -270,10 +352,37 @@ impl<S: RowStore> Gateway<S> {
         })
     }
 
+    /// A tick while no job is being sent and calls are asked for: the calling leg alone is served. It takes no memory.
+    fn tick_at_rest(&mut self, now: u64) -> Given
+        requires room { HasRoom self.old }
+        requires none { self.old.book.sending ≡ None }
+        requires asks { self.old.settings.asks ≡ true }
+        ensures ticked { (setup : Setup) (writes : Writing) (trace : List Event) → IsReachedBy setup writes trace self.old
+            → IsReachedBy setup writes (Tick now (given_shown result) ∷ trace) self.new }
+        ensures confirmed { (setup : Setup) (writes : Writing) (trace : List Event) → IsReachedBy setup writes trace self.old
+            → result.kept ≡ kept_at (calling_leg setup trace) (max now (clock trace)) }
+        ensures refused { (setup : Setup) (writes : Writing) (trace : List Event) → IsReachedBy setup writes trace self.old
+            → IsRefusedAt (calling_leg setup trace) (max now (clock trace)) result.refused }
+        ensures given_up { (setup : Setup) (writes : Writing) (trace : List Event) → IsReachedBy setup writes trace self.old
+            → result.gave_up ≡ given_up_at (calling_leg setup trace) (max now (clock trace)) }
+    {
+        let moment = self.clock.read(now);
+        let served = serve_calling(&mut self.calling, &mut self.jobs, moment);
+        Given {
+            calling: served.packet,
+            called: None,
+            report: None,
+            kept: served.kept,
+            refused: served.refused,
+            gave_up: served.gave_up,
+        }
+    }
+
     /// A tick while no job is being sent: where one waits, its call begins, with a leg of its own. It takes no memory.
     fn tick_between(&mut self, leg: Leg, now: u64) -> Given
         requires room { HasRoom self.old }
         requires none { self.old.book.sending ≡ None }
+        requires asks { self.old.settings.asks ≡ false }
         requires datagram { most_octets < leg.sender.spare }
         ensures ticked { (setup : Setup) (writes : Writing) (trace : List Event) → IsWriting writes → IsLeg setup [] [] leg → IsReachedBy setup writes trace self.old
             → IsReachedBy setup writes (Tick now (given_shown result) ∷ trace) self.new }
@@ -355,7 +464,7 @@ pub(crate) fn next_number(rings: u64) -> Result<u32, RingFault>
 
 /// At once, which is moment 0, where jobs wait.
 fn at_once<S: RowStore>(jobs: &Jobs<S>) -> Option<u64>
-    ensures { result ≡ job_due jobs.now.book.waiting }
+    ensures { result ≡ job_due false jobs.now.book.waiting }
 {
     if jobs.waiting() == 0 { None } else { Some(0) }
 }

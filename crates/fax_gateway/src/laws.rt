@@ -1,9 +1,10 @@
 //! Laws of the gateway: functions that do nothing, each of whose contracts is a theorem. Each is told of every trace: any
-//! rings, datagrams of both legs and ticks, with the answers of a gateway, from its beginning on. A gateway that was restored behind
+//! rings, datagrams of both legs, ticks, and calls that are placed or not, with the answers of a gateway, from its beginning on. A gateway that was restored behind
 //! a crash has the restored pages before those that it confirms in its trace; a new one has none.
 ghost use Rattle.fax_gateway.specs.Alone.{IsServedAlone};
 ghost use Rattle.fax_gateway.specs.Answers.{EachMcfAnswers};
 ghost use Rattle.fax_gateway.specs.Apart.{DatagramsAreApart};
+ghost use Rattle.fax_gateway.specs.Asking.{AskedJobsStay, CallsBeginWherePlaced, GivesInPlacedCalls, UnplacedJobsAreTold};
 ghost use Rattle.fax_gateway.specs.Chain.{ChainsHear, ChainsRelay};
 ghost use Rattle.fax_gateway.specs.Cuts.{JobsAreCut};
 ghost use Rattle.fax_gateway.specs.Forwards.{ForwardsWhatItConfirmed};
@@ -123,6 +124,29 @@ pub fn reports_the_refusal()
 /// that very call, has both, and it receives.
 pub fn none_is_lacking()
     ensures { NoneIsLacking }
+{}
+
+/// Where calls are asked for, each call on the called leg was placed, or could not be: it began there, with the job that was
+/// asked for, and no other was placed since.
+pub fn calls_begin_where_placed()
+    ensures { CallsBeginWherePlaced }
+{}
+
+/// Where calls are asked for, a datagram is given on the called leg in a call alone that was placed and has not ended: none
+/// between the end of a job and the moment at which the next one's call is placed.
+pub fn gives_in_placed_calls()
+    ensures { GivesInPlacedCalls }
+{}
+
+/// A job that is asked for stays the next one, whatever comes, until its call is placed or could not be.
+pub fn asked_jobs_stay()
+    ensures { AskedJobsStay }
+{}
+
+/// A job whose call could not be placed is reported as `NotPlaced` by the next tick, with no page delivered, and nothing is given
+/// on the called leg.
+pub fn unplaced_jobs_are_told()
+    ensures { UnplacedJobsAreTold }
 {}
 
 /// What is answered to rings and to datagrams of the calling leg, and what is given there, is fixed by these events and the

@@ -27,7 +27,7 @@ pub use buffer::Buffer;
 pub use driven::Driven;
 pub use driver::Driver;
 pub use engine::Engine;
-pub use fault::RingFault;
+pub use fault::{PlaceFault, RingFault};
 pub use gateway::Gateway;
 pub use given::{Given, Kept, Refused};
 pub use restored::RestoredCall;

@@ -4,7 +4,7 @@ ghost use Rattle.std.specs.Prelude.{◌≡◌};
 /// The pause behind a preamble that is usual: the pace of each other packet.
 pub(crate) const PREAMBLE_MS: u16 = 40;
 
-/// What is set for a gateway, on both legs.
+/// What is set for a gateway, on both legs, and of the calls on the called one.
 #[derive(Clone, Copy, PartialEq, Eq, Debug)]
 pub struct Settings {
     /// How many of the packets before its own each datagram has: at most 8.
@@ -12,17 +12,20 @@ pub struct Settings {
     /// How long the packet behind a preamble waits, in milliseconds: from 40, as behind each other packet, to 2,000. Behind a
     /// media gateway, which replays each signal over a modem, a called machine wants 1,000 (ITU-T T.30, 5.3.1).
     pub preamble_ms: u16,
+    /// Whether the call of a job is asked for, and begins when it is placed. Where not, a tick begins it by itself.
+    pub asks: bool,
 }
 
 impl Default for Settings {
-    ghost use Rattle.std.specs.Prelude.{◌≡◌};
+    ghost use Rattle.std.specs.Prelude.{◌≡◌, false};
 
-    ghost is_default = { λ settings. settings ≡ record { redundancy = 3; preamble_ms = 40 } };
+    ghost is_default = { λ settings. settings ≡ record { redundancy = 3; preamble_ms = 40; asks = false } };
 
     fn default() -> Self {
         Settings {
             redundancy: 3,
             preamble_ms: PREAMBLE_MS,
+            asks: false,
         }
     }
 }

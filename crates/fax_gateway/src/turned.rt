@@ -20,4 +20,6 @@ pub struct Turned {
     pub gave_up: Option<u32>,
     /// The call of a job began on the called leg: the number of the call that its pages came in.
     pub dialled: Option<u32>,
+    /// The call of a job is asked for, and was not before: the number of the call that its pages came in.
+    pub asked: Option<u32>,
 }

@@ -57,6 +57,9 @@ abbrev pub first_of : List JobValue → Option JobValue
 first_of [] = None
 first_of (job ∷ jobs) = Some job
 
+abbrev pub next_job : Book → Option JobValue
+next_job book = first_of book.waiting
+
 abbrev pub taken : Book → Book
 taken book = record book { waiting = drop 1 book.waiting; sending = first_of book.waiting }
 

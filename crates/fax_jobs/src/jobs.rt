@@ -1,6 +1,6 @@
 //! The book of jobs.
 ghost use Rattle.std.specs.Prelude.{◌≡◌, ◌≤◌, None, length, slice_get, option_copied, IfOk, IfErr, OnOk, OnErr, IsSome};
-ghost use Rattle.fax_jobs.specs.Books.{new_book, opened, added, closed, taken, ended, confirmed, joins, TakesPage};
+ghost use Rattle.fax_jobs.specs.Books.{new_book, next_job, opened, added, closed, taken, ended, confirmed, joins, TakesPage};
 ghost use Rattle.fax_jobs.specs.Newest.{newest_job, newest_page};
 
 use crate::{Job, Outcome, Report};
@@ -217,6 +217,13 @@ impl<S: RowStore> Jobs<S> {
         ensures { result ≡ length self.now.book.waiting }
     {
         self.waiting.len()
+    }
+
+    /// The job that was closed first of those that wait: it is sent next.
+    pub fn first_waiting(&self) -> Option<&Job<S>>
+        ensures { option_copied result ≡ next_job self.now.book }
+    {
+        self.waiting.front()
     }
 
     /// The page that joined last, for as long as its job is open, waits or is being sent.

@@ -24,13 +24,15 @@ pub enum Outcome {
     PageRefused,
     /// The called machine ended the call.
     HungUp,
+    /// The called machine could not be reached: its call was not placed.
+    NotPlaced,
 }
 
 impl Outcome {
     ghost use Rattle.std.specs.Prelude.{◌≡◌};
     ghost use Rattle.fax_jobs.specs.Outcomes.{outcome_number, outcome_name};
 
-    /// The outcome's number: 0 for `Delivered`, 1 to 8 for the others.
+    /// The outcome's number: 0 for `Delivered`, 1 to 9 for the others.
     pub fn number(self) -> u8
         ensures { result ≡ outcome_number self }
     {
@@ -44,6 +46,7 @@ impl Outcome {
             Outcome::NoReply => 6,
             Outcome::PageRefused => 7,
             Outcome::HungUp => 8,
+            Outcome::NotPlaced => 9,
         }
     }
 
@@ -61,6 +64,7 @@ impl Outcome {
             Outcome::NoReply => "NoReply",
             Outcome::PageRefused => "PageRefused",
             Outcome::HungUp => "HungUp",
+            Outcome::NotPlaced => "NotPlaced",
         }
     }
 }
