@@ -6,10 +6,9 @@ use Rattle.fax_ifp.specs.Packets.{packet_of}
 use Rattle.fax_jobs.specs.Jobs.{JobValue, IsJob}
 use Rattle.fax_call.specs.Writings.{Writing, IsWriting}
 use Rattle.fax_call.specs.Replies.{Packet, written}
-use Rattle.fax_call.specs.Calls.{Ticks}
+use Rattle.fax_call.specs.Calls.{Calling, Ticks, after_events, started, ticked}
 use Rattle.fax_call.specs.Emission.{Emission, Mark, Gave, emitted_at, elements_given, gave_all, marks_given, marks_after, frame_at, is_command, Reply, Unasked, Asked, Answered, reply_given, reply_or, replied, IsPageOf, IsAnswered, EmitsBy, Emits}
-use Rattle.fax_call.specs.Refusals.{Allows, EndsImage}
-use Rattle.fax_call.proofs.Emitted.{emits_the_pages}
+use Rattle.fax_call.specs.Refusals.{Allows, EndsImage, dis_taken}
 use Rattle.fax_call.proofs.Lacking.{none_is_lacking}
 use Rattle.fax_gateway.specs.Setups.{Setup}
 use Rattle.fax_gateway.specs.Events.{Tick, Given, clock}
@@ -23,6 +22,7 @@ use Rattle.fax_gateway.proofs.Forwarding.{each_emission}
 use Rattle.fax_gateway.proofs.Held.{IfHolds, held}
 use Rattle.fax_gateway.proofs.Confirmed.{tick_holds}
 use Rattle.fax_gateway.proofs.InCalls.{InCall, IfInCall, before_call, in_call}
+use Rattle.fax_gateway.proofs.Unplaced.{as_begun, emits_in, from_begun, gives_placed}
 
 same_page : (pages : List PageValue) (n : ℕ) (p q : PageValue) → slice_get pages n ≡ Some p → slice_get pages n ≡ Some q → p ≡ q
 same_page pages n p q a b = let e : Some p ≡ Some q = sym a ∙ b in cc
@@ -111,13 +111,18 @@ packet_allowed writes l now old packet w is given =
     let marks : List Mark = marks_after writes l.job old (begun_core l) l.events in
     let es : List elements.Element = elements.elements_in (packet_of (written packet)) in
     let after : List Mark = marks_after writes l.job old (begun_core l) (Ticks now ∷ l.events) in
-    let e = emits_the_pages writes l.job old l.before l.begun (Ticks now ∷ l.events) w is in
+    let placed : l.placed ≡ true = gives_placed writes l now packet given in
+    let begun_gives : (ticked writes l.job (after_events writes l.job (started l.before l.job l.begun) l.events) now).given ≡ Some packet =
+    from_begun (λ (a : Calling). (ticked writes l.job (after_events writes l.job a l.events) now).given ≡ Some packet) l placed given in
+    let e = emits_in writes l old (Ticks now ∷ l.events) placed w is in
     let here : after ≡ gave_all es marks = ap (λ (o : Option Packet). marks_given o marks) given in
     each_emission (IsLast l.job e.0 (EndsImage es marks)) (IsAllowed writes (Some l)) marks es
     (λ ms x k.
-    let r = none_is_lacking writes l.job old l.before l.begun l.events now packet k.n w is given k.ends (subst (λ (o : Option ℕ). Emits l.job after o) k.is_last e.1) in
+    let r = none_is_lacking writes l.job old l.before l.begun l.events now packet k.n w is begun_gives
+    (from_begun (λ (a : Calling). EndsImage es (marks_after writes l.job old a l.events)) l placed k.ends)
+    (from_begun (λ (a : Calling). Emits l.job (marks_after writes l.job old a (Ticks now ∷ l.events)) (Some k.n)) l placed (subst (λ (o : Option ℕ). Emits l.job after o) k.is_last e.1)) in
     let same : r.0 ≡ k.is_page.page = same_page l.job.pages k.n r.0 k.is_page.page r.1 k.is_page.is_page in
-    record { l = l; is_leg = refl; n = k.n; is_page = k.is_page; dis = r.2; taken = r.3; allows = subst (λ (p : PageValue). Allows r.2 p.format) same r.4 })
+    record { l = l; is_leg = refl; n = k.n; is_page = k.is_page; dis = r.2; taken = as_begun (λ (a : Calling). dis_taken writes l.job a l.events ≡ Some r.2) l placed r.3; allows = subst (λ (p : PageValue). Allows r.2 p.format) same r.4 })
     (each_is_last l.job e.0 (EndsImage es marks) es marks (λ k. k) (subst (λ (ms : List Mark). Emits l.job ms e.0) here e.1))
 
 in_call_allowed : (setup : Setup) (writes : Writing) (l : CalledLeg) (now : ℕ) (sending : Option JobValue) (marks : List Mark) → IsWriting writes → IsJob l.job → InCall writes l sending marks →

@@ -9,22 +9,23 @@ use Rattle.fax_pagestore.specs.Pages.{PageValue}
 use Rattle.fax_jobs.specs.Jobs.{JobValue}
 use Rattle.fax_call.specs.Writings.{Writing, IsWriting}
 use Rattle.fax_call.specs.Replies.{Packet, written}
-use Rattle.fax_call.specs.Calls.{Calling, CallEvent, Comes}
+use Rattle.fax_call.specs.Calls.{Calling, started, ticked, CallEvent, Comes, after_events}
 use Rattle.fax_call.specs.Delivery.{is_over}
 use Rattle.fax_call.specs.Given as call
 use Rattle.fax_call.proofs.ClosedPackets.{gives_closed_packets}
 use Rattle.fax_gateway.specs.Setups.{Setup}
-use Rattle.fax_gateway.specs.Events.{Event, Ring, FromCalling, FromCalled, Tick, clock}
+use Rattle.fax_gateway.specs.Events.{Event, Ring, FromCalling, FromCalled, Tick, Placed, clock}
 use Rattle.fax_gateway.specs.Legs.{new_pieces}
 use Rattle.fax_gateway.specs.CallingLegs.{calling_leg}
-use Rattle.fax_gateway.specs.CalledLegs.{CalledLeg, begun_core, core_of, is_free, core_left, calls, packets_given, with_tick, leg_ticked, comes_to, leg_with, hears}
+use Rattle.fax_gateway.specs.CalledLegs.{CalledLeg, begun_core, core_of, core_left, calls, packets_given, with_tick, leg_ticked, comes_to, leg_with, hears}
 use Rattle.fax_gateway.specs.Forwards.{WasConfirmed}
-use Rattle.fax_gateway.specs.Sides.{Sides, book_of, heard_in_tick, leg_of, sends, sends_if, sides, in_tick}
+use Rattle.fax_gateway.specs.Sides.{Sides, begins_next, book_of, heard_in_tick, leg_of, sends, sends_if, sides, in_tick}
 use Rattle.fax_gateway.specs.Traces.{IsTrace}
 use Rattle.fax_gateway.specs.Chain.{ChainsHear}
-use Rattle.fax_gateway.proofs.Confirmed.{was_later, tick_holds}
+use Rattle.fax_gateway.proofs.Confirmed.{was_later, steps_hold, tick_holds}
 use Rattle.fax_gateway.proofs.Held.{EachPage, Holds, IfHolds, BookHolds, held}
 use Rattle.fax_gateway.proofs.SentPages.{leg_confirms_signals, leg_hears_sent_frames}
+use Rattle.fax_gateway.proofs.Unplaced.{begun_placed, gives_placed}
 
 -- the packets that a call gave
 abbrev pub call_packets : Writing → CalledLeg → List CallEvent → List Packet
@@ -40,20 +41,24 @@ abbrev IfKept : Writing → (ℕ → PageValue → Type 0) → Option CalledLeg 
 IfKept writes P None = Unit {0}
 IfKept writes P (Some l) = KeptLeg writes P l
 
-begins : (writes : Writing) (P : ℕ → PageValue → Type 0) (o : Option JobValue) (leg : Option CalledLeg) (before : Calling) (now : ℕ) → IfHolds P o → IfKept writes P leg → IfKept writes P (leg_of o before now leg)
-begins writes P None leg before now h c = c
-begins writes P (Some job) leg before now h c = record { holds = h; given_is = refl; closed = tt }
+begins : (connected : Bool) (writes : Writing) (P : ℕ → PageValue → Type 0) (o : Option JobValue) (leg : Option CalledLeg) (before : Calling) (now : ℕ) → IfHolds P o → IfKept writes P leg → IfKept writes P (leg_of connected o before now leg)
+begins connected writes P None leg before now h c = c
+begins connected writes P (Some job) leg before now h c = record { holds = h; given_is = refl; closed = tt }
 
 sends_kept : (setup : Setup) (P : ℕ → PageValue → Type 0) (writes : Writing) (now : ℕ) (s : Sides) → IfHolds P (book_of (sends_if setup writes now s)).sending → IfKept writes P s.leg → IfKept writes P (sends_if setup writes now s).leg
-sends_kept setup P writes now s h c = by (is_free s.leg) h
+sends_kept setup P writes now s h c = by (begins_next setup s.leg) h
   where
-    by : (b : Bool) → IfHolds P (book_of (if◌then◌else◌ {A = Sides} b (sends setup writes now s) s)).sending → IfKept writes P (if◌then◌else◌ {A = Sides} b (sends setup writes now s) s).leg
-    by true k = begins writes P (book_of (sends setup writes now s)).sending s.leg (core_left setup writes s.leg) now k c
+    by : (b : Bool) → IfHolds P (book_of (if◌then◌else◌ {A = Sides} b (sends true setup writes now s) s)).sending → IfKept writes P (if◌then◌else◌ {A = Sides} b (sends true setup writes now s) s).leg
+    by true k = begins true writes P (book_of (sends true setup writes now s)).sending s.leg (core_left setup writes s.leg) now k c
     by false k = c
 
 one_closed : (writes : Writing) (l : CalledLeg) (now : ℕ) (o : Option Packet) (P : ℕ → PageValue → Type 0) → IsWriting writes → KeptLeg writes P l → (calls writes l now).given ≡ o → AreClosed (packets_given o l.given)
 one_closed writes l now None P w c e = c.closed
-one_closed writes l now (Some packet) P w c e = (gives_closed_packets writes l.job l.before l.begun now l.events packet w c.holds.is_job e, c.closed)
+one_closed writes l now (Some packet) P w c e =
+    let is : begun_core l ≡ started l.before l.job l.begun = begun_placed l (gives_placed writes l now packet e) in
+    let given : (ticked writes l.job (after_events writes l.job (started l.before l.job l.begun) l.events) now).given ≡ Some packet =
+    subst (λ (a : Calling). (ticked writes l.job (after_events writes l.job a l.events) now).given ≡ Some packet) is e in
+    (gives_closed_packets writes l.job l.before l.begun now l.events packet w c.holds.is_job given, c.closed)
 
 one_given : (o : Option Packet) (given : List (List ℕ)) (packets : List Packet) → given ≡ map written packets → packets_given o given ≡ map written (call.packets_with o packets)
 one_given None given packets e = e
@@ -119,6 +124,12 @@ if_kept setup writes (e ∷ earlier) w t = by e t (later_kept writes (WasConfirm
     by (Ring at n) t c = c
     by (FromCalling octets at decided read) t c = c
     by (FromCalled octets at decided) t c = hears_kept (WasConfirmed setup (FromCalled octets at decided ∷ earlier)) writes (sides setup writes earlier).leg octets (clock (FromCalled octets at decided ∷ earlier)) c
+    by (Placed at connected) t c =
+        let trace : List Event = Placed at connected ∷ earlier in
+        let s : Sides = sides setup writes earlier in
+        let P : ℕ → PageValue → Type 0 = WasConfirmed setup trace in
+        let h : BookHolds P (book_of (sides setup writes trace)) = held P (sides setup writes trace).steps (steps_hold setup writes trace t) in
+        begins connected writes P (book_of (sides setup writes trace)).sending s.leg (core_left setup writes s.leg) (clock trace) h.sending c
     by (Tick at given) t c =
         let now : ℕ = max at (clock earlier) in
         let s : Sides = sides setup writes earlier in

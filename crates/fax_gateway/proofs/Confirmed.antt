@@ -12,10 +12,10 @@ use Rattle.fax_answer.specs.Replies.{ConfirmedPage, Waiting, mcf_packet}
 use Rattle.fax_answer.proofs.Confirmations.{gives_confirmations}
 use Rattle.fax_call.specs.Writings.{Writing}
 use Rattle.fax_gateway.specs.Setups.{Setup}
-use Rattle.fax_gateway.specs.Events.{Event, Ring, FromCalling, FromCalled, Tick, Given, clock}
+use Rattle.fax_gateway.specs.Events.{Event, Ring, FromCalling, FromCalled, Tick, Placed, Given, clock}
 use Rattle.fax_gateway.specs.CallingLegs.{CallingLeg, core_of, calling_leg, idle_after, answers, told_calling, confirmed_by}
-use Rattle.fax_gateway.specs.CalledLegs.{is_free, outcome_told, delivered_told}
-use Rattle.fax_gateway.specs.Sides.{Sides, confirms_if, ends_if, heard_in_tick, sends, sends_if, enters, sides, in_tick}
+use Rattle.fax_gateway.specs.CalledLegs.{outcome_told, delivered_told}
+use Rattle.fax_gateway.specs.Sides.{Sides, begins_next, confirms_if, ends_if, heard_in_tick, sends, sends_if, enters, sides, in_tick}
 use Rattle.fax_gateway.specs.Traces.{IsTrace}
 use Rattle.fax_gateway.specs.Told.{gives_mcf}
 use Rattle.fax_gateway.specs.Restored.{pages_restored}
@@ -108,9 +108,9 @@ tick_hold setup writes earlier at given (Some l) steps t is h =
     (or_own (pages_restored setup.restored) l.number c.page (WasConfirmedIn setup trace l.number c.page) w, page_is setup trace l.number c.page w)) h)
 
 sends_hold : (setup : Setup) (P : ℕ → PageValue → Type 0) (writes : Writing) (now : ℕ) (s : Sides) → StepsHold P s.steps → StepsHold P (sends_if setup writes now s).steps
-sends_hold setup P writes now s h = by (is_free s.leg)
+sends_hold setup P writes now s h = by (begins_next setup s.leg)
   where
-    by : (b : Bool) → StepsHold P (if◌then◌else◌ {A = Sides} b (sends setup writes now s) s).steps
+    by : (b : Bool) → StepsHold P (if◌then◌else◌ {A = Sides} b (sends true setup writes now s) s).steps
     by true = h
     by false = h
 
@@ -133,6 +133,7 @@ event_holds setup writes (Ring at n) earlier t h = h
 event_holds setup writes (FromCalling octets at decided read) earlier t h =
     ends_hold (WasConfirmed setup (FromCalling octets at decided read ∷ earlier)) (not (idle_after (calling_leg setup earlier)) && idle_after (calling_leg setup (FromCalling octets at decided read ∷ earlier))) (sides setup writes earlier).steps h
 event_holds setup writes (FromCalled octets at decided) earlier t h = h
+event_holds setup writes (Placed at connected) earlier t h = h
 event_holds setup writes (Tick at given) earlier t h =
     let P : ℕ → PageValue → Type 0 = WasConfirmed setup (Tick at given ∷ earlier) in
     let now : ℕ = max at (clock earlier) in

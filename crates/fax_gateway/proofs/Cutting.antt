@@ -13,10 +13,10 @@ use Rattle.fax_answer.specs.Calls.{Answering, Ticked}
 use Rattle.fax_call.specs.Writings.{Writing}
 use Rattle.fax_gateway.specs.Restored.{RestoredCall}
 use Rattle.fax_gateway.specs.Setups.{Setup}
-use Rattle.fax_gateway.specs.Events.{Event, Ring, FromCalling, FromCalled, Tick, Given, clock, rings}
+use Rattle.fax_gateway.specs.Events.{Event, Ring, FromCalling, FromCalled, Tick, Placed, Given, clock, rings}
 use Rattle.fax_gateway.specs.CallingLegs.{CallingLeg, core_of, is_idle, idle_after, leg_with, calling_after, calling_leg, answers, confirmed_by}
-use Rattle.fax_gateway.specs.CalledLegs.{is_free, outcome_told, delivered_told}
-use Rattle.fax_gateway.specs.Sides.{Sides, past_of, confirms_if, ends_if, heard_in_tick, sends, sends_if, enters, sides, in_tick}
+use Rattle.fax_gateway.specs.CalledLegs.{outcome_told, delivered_told}
+use Rattle.fax_gateway.specs.Sides.{Sides, begins_next, past_of, confirms_if, ends_if, heard_in_tick, sends, sends_if, enters, sides, in_tick}
 use Rattle.fax_gateway.specs.Traces.{IsTrace}
 use Rattle.fax_gateway.specs.Cuts.{confirmed_at, with_confirmed, calls_of, AreCutsOfRestored, AreCutsOf, IsBookOf, JobsAreCut}
 use Rattle.fax_gateway.proofs.IdleLegs.{IfRests, rests_of, idle_tick, busy_tick}
@@ -120,9 +120,9 @@ heard_so setup None now at given calls steps r s = s
 heard_so setup (Some l) now at given calls steps r s = tick_so setup.restored l now calls steps r s
 
 if_sends_so : (setup : Setup) (writes : Writing) (now : ℕ) (s : Sides) (on : Bool) (calls : List (List Confirmation)) (number : ℕ) → So setup.restored on calls (past_of s) number → So setup.restored on calls (past_of (sends_if setup writes now s)) number
-if_sends_so setup writes now s on calls number k = by (is_free s.leg)
+if_sends_so setup writes now s on calls number k = by (begins_next setup s.leg)
   where
-    by : (b : Bool) → So setup.restored on calls (past_of (if◌then◌else◌ {A = Sides} b (sends setup writes now s) s)) number
+    by : (b : Bool) → So setup.restored on calls (past_of (if◌then◌else◌ {A = Sides} b (sends true setup writes now s) s)) number
     by true = sends_so setup.restored on calls (past_of s) number k
     by false = k
 
@@ -159,6 +159,7 @@ rings_are setup [] = refl
 rings_are setup (Ring at n ∷ earlier) = let e : rings earlier ≡ length (calls_of setup earlier) = rings_are setup earlier in omega arith
 rings_are setup (FromCalling octets at d read ∷ earlier) = rings_are setup earlier
 rings_are setup (FromCalled octets at d ∷ earlier) = rings_are setup earlier
+rings_are setup (Placed at connected ∷ earlier) = rings_are setup earlier
 rings_are setup (Tick at given ∷ earlier) = rings_are setup earlier ∙ sym (by (confirmed_at (calling_leg setup earlier) (clock (Tick at given ∷ earlier))) (calls_of setup earlier))
   where
     by : (o : Option ConfirmedPage) (calls : List (List Confirmation)) → length (with_confirmed o calls) ≡ length calls
@@ -190,6 +191,13 @@ book_so setup writes (FromCalled octets at decided ∷ earlier) t = by (calling_
         So setup.restored (not (idle_after new)) (calls_of setup earlier) (past_of (sides setup writes earlier)) (number_of new)
     by None s = s
     by (Some l) s = s
+book_so setup writes (Placed at connected ∷ earlier) t = by (calling_leg setup earlier) (book_so setup writes earlier t.1)
+  where
+    by : (o : Option CallingLeg) → So setup.restored (not (idle_after o)) (calls_of setup earlier) (past_of (sides setup writes earlier)) (number_of o) →
+        let new : Option CallingLeg = calling_after setup o (clock (Placed at connected ∷ earlier)) (Placed at connected) in
+        So setup.restored (not (idle_after new)) (calls_of setup earlier) (past_of (sides setup writes (Placed at connected ∷ earlier))) (number_of new)
+    by None s = sends_so setup.restored false (calls_of setup earlier) (past_of (sides setup writes earlier)) 0 s
+    by (Some l) s = sends_so setup.restored (not (idle_after (Some l))) (calls_of setup earlier) (past_of (sides setup writes earlier)) l.number s
 book_so setup writes (Tick at given ∷ earlier) t =
     let now : ℕ = max at (clock earlier) in
     let o : Option CallingLeg = calling_leg setup earlier in

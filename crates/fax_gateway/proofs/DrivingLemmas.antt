@@ -17,7 +17,7 @@ use Rattle.fax_gateway.specs.declared.side.Side.TheVariants as side
 use Rattle.fax_gateway.specs.declared.wire.WireFault.{WireFault}
 use Rattle.fax_gateway.specs.declared.fault.RingFault.{RingFault}
 use Rattle.fax_gateway.specs.declared.fault.RingFault.TheVariants as ring_faults
-use Rattle.fax_gateway.specs.Events.{Event, Ring, FromCalling, FromCalled, Tick, rings}
+use Rattle.fax_gateway.specs.Events.{Event, Ring, FromCalling, FromCalled, Tick, Placed, rings}
 use Rattle.fax_call.specs.Writings.{Writing}
 use Rattle.fax_gateway.specs.Reached.{GatewayValue}
 use Rattle.fax_gateway.specs.CallingLegs.{calling_leg, decided_calling, idle_after}
@@ -119,6 +119,7 @@ pub wire_came : {W : Type 0} (receives : Side → W → W → Type 0) (sends : S
 wire_came receives sends at now (Accepts (Ring moment number)) a b comes by = absurd comes
 wire_came receives sends at now (Accepts (FromCalling octets moment decided read)) a b comes by = (a, refl, subst (λ (s : Side). receives s a b) comes.0 by)
 wire_came receives sends at now (Accepts (FromCalled octets moment decided)) a b comes by = (a, refl, subst (λ (s : Side). receives s a b) comes.0 by)
+wire_came receives sends at now (Accepts (Placed moment connected)) a b comes by = absurd comes
 wire_came receives sends at now (Accepts (Tick moment given)) a b comes by = absurd comes
 wire_came receives sends at now (RefusesRing fault) a b comes by = absurd comes
 wire_came receives sends at now (RefusesDatagram on octets) a b comes by = (a, refl, subst (λ (s : Side). receives s a b) (sym comes) by)
@@ -133,6 +134,7 @@ by_event_shown : {W V : Type 0} (shown : W → V) (receives : Side → W → W �
 by_event_shown shown receives receives' (Ring now number) a b on_receive by = ap shown by
 by_event_shown shown receives receives' (FromCalling octets now decided read) a b on_receive by = on_receive side.Calling a b by
 by_event_shown shown receives receives' (FromCalled octets now decided) a b on_receive by = on_receive side.Called a b by
+by_event_shown shown receives receives' (Placed now connected) a b on_receive by = ap shown by
 by_event_shown shown receives receives' (Tick now given) a b on_receive by = ap shown by
 
 by_shown : {W V : Type 0} (shown : W → V) (receives : Side → W → W → Type 0) (sends : Side → List ℕ → Bool → W → W → Type 0) (receives' : Side → V → V → Type 0) (sends' : Side → List ℕ → Bool → V → V → Type 0)

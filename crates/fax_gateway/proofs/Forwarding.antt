@@ -10,22 +10,22 @@ use Rattle.fax_ifp.specs.Packets.{packet_of}
 use Rattle.fax_jobs.specs.Jobs.{JobValue, IsJob}
 use Rattle.fax_jobs.specs.Books.{Book}
 use Rattle.fax_call.specs.Writings.{Writing, IsWriting}
-use Rattle.fax_call.specs.Replies.{Signals, written, calling_tone}
+use Rattle.fax_call.specs.Replies.{Packet, Signals, written, calling_tone}
 use Rattle.fax_call.specs.Calls.{Calling, started, Ticked, given_first, Ticks}
 use Rattle.fax_call.specs.Emission.{Emission, Mark, Gave, emitted_at, elements_given, gave_all, marks_given, marks_after, IsPageOf, IsAnswered, replied, EmitsBy, Emits}
-use Rattle.fax_call.proofs.Emitted.{emits_the_pages}
 use Rattle.fax_gateway.specs.Setups.{Setup}
 use Rattle.fax_gateway.specs.Events.{Event, Given, clock}
 use Rattle.fax_gateway.specs.Legs.{sent}
 use Rattle.fax_gateway.specs.CallingLegs.{calling_leg}
 use Rattle.fax_gateway.specs.CalledLegs.{CalledLeg, begun_core, core_of, is_free, core_left, begun_leg, calls, told_by, told_called}
-use Rattle.fax_gateway.specs.Sides.{Sides, book_of, heard_in_tick, leg_of, sends, sends_if, sides, in_tick}
+use Rattle.fax_gateway.specs.Sides.{Sides, begins_next, book_of, heard_in_tick, leg_of, sends, sends_if, sides, in_tick}
 use Rattle.fax_gateway.specs.Told.{elements_told, leg_marks, begun_if, marks_before, IfEmits, EachEmission}
 use Rattle.fax_gateway.specs.Forwards.{WasConfirmed, IsForwarded, ForwardsWhatItConfirmed}
 use Rattle.fax_gateway.proofs.Fitting.{FitTick, ticked_fits, marks_back, told_back}
 use Rattle.fax_gateway.proofs.Held.{Holds, IfHolds, page_at, held}
 use Rattle.fax_gateway.proofs.Confirmed.{steps_hold}
-use Rattle.fax_gateway.proofs.InCalls.{InCall, IfInCall, heard_sends, in_call}
+use Rattle.fax_gateway.proofs.InCalls.{InCall, IfInCall, begins_free, heard_sends, in_call}
+use Rattle.fax_gateway.proofs.Unplaced.{emits_in, gives_none}
 
 -- what is known of each image among these elements
 record IsSent (job : JobValue) (marks : List Mark) (emission : Emission) : Type 0 where
@@ -64,13 +64,17 @@ each_emission P Q marks (e ∷ es) f p = (if_emits P Q marks (emitted_at (elemen
 -- what a tick gives in the call of a job
 in_order : (setup : Setup) (writes : Writing) (l : CalledLeg) (now : ℕ) (sending : Option JobValue) (marks : List Mark) → IsWriting writes → IsJob l.job → InCall writes l sending marks →
     EachEmission (IsSent l.job) marks (elements_told (told_by setup l.given (calls writes l now).given))
-in_order setup writes l now sending marks w is i =
-    let t : Ticked = calls writes l now in
-    let f : FitTick t = ticked_fits writes l.job (core_of writes l) now i.fits in
-    let same : gave_all (elements_told (told_by setup l.given t.given)) marks ≡ marks_given t.given (marks_after writes l.job i.old (begun_core l) l.events) =
-    marks_back setup l.given t.given marks i.short f.given ∙ ap (marks_given t.given) i.marks_are in
-    let e = emits_the_pages writes l.job i.old l.before l.begun (Ticks now ∷ l.events) w is in
-    (sent_all l.job (elements_told (told_by setup l.given t.given)) marks e.0 (subst (λ (ms : List Mark). Emits l.job ms e.0) (sym same) e.1)).each
+in_order setup writes l now sending marks w is i = by l.placed refl
+  where
+    by : (b : Bool) → l.placed ≡ b → EachEmission (IsSent l.job) marks (elements_told (told_by setup l.given (calls writes l now).given))
+    by true placed =
+        let t : Ticked = calls writes l now in
+        let f : FitTick t = ticked_fits writes l.job (core_of writes l) now i.fits in
+        let same : gave_all (elements_told (told_by setup l.given t.given)) marks ≡ marks_given t.given (marks_after writes l.job i.old (begun_core l) l.events) =
+        marks_back setup l.given t.given marks i.short f.given ∙ ap (marks_given t.given) i.marks_are in
+        let e = emits_in writes l i.old (Ticks now ∷ l.events) placed w is in
+        (sent_all l.job (elements_told (told_by setup l.given t.given)) marks e.0 (subst (λ (ms : List Mark). Emits l.job ms e.0) (sym same) e.1)).each
+    by false unplaced = subst (λ (o : Option Packet). EachEmission (IsSent l.job) marks (elements_told (told_by setup l.given o))) (sym (gives_none writes l now unplaced)) tt
 
 -- the job was being sent before the tick
 goes_on : (setup : Setup) (writes : Writing) (earlier : List Event) (now : ℕ) (l : CalledLeg) (book : Book) (marks : List Mark) → IsWriting writes → book.sending ≡ Some l.job →
@@ -118,7 +122,7 @@ begins_none setup P writes job before now marks = by (pace_allows before.pace.la
     by false = tt
 
 pub free_none : (setup : Setup) (P : List Mark → Emission → Type 0) (writes : Writing) (leg : Option CalledLeg) (o : Option JobValue) (now : ℕ) (marks : List Mark) → is_free leg ≡ true →
-    EachEmission P marks (elements_told (told_called setup writes (leg_of o (core_left setup writes leg) now leg) now))
+    EachEmission P marks (elements_told (told_called setup writes (leg_of true o (core_left setup writes leg) now leg) now))
 free_none setup P writes leg (Some job) now marks f = begins_none setup P writes job (core_left setup writes leg) now marks
 free_none setup P writes None None now marks f = tt
 free_none setup P writes (Some l) None now marks f =
@@ -127,13 +131,14 @@ free_none setup P writes (Some l) None now marks f =
 -- a tick
 at_tick : (setup : Setup) (writes : Writing) (earlier : List Event) (now : ℕ) (s : Sides) (old : List Mark) → IsWriting writes →
     IfHolds (WasConfirmed setup earlier) (book_of s).sending → IfInCall writes s.leg (book_of s).sending old →
-    EachEmission (IsForwarded setup earlier (book_of (sends_if setup writes now s))) (begun_if (is_free s.leg) (book_of (sends_if setup writes now s)).sending old) (elements_told (told_called setup writes (sends_if setup writes now s).leg now))
-at_tick setup writes earlier now s old w h i = by (is_free s.leg) refl
+    EachEmission (IsForwarded setup earlier (book_of (sends_if setup writes now s))) (begun_if (begins_next setup s.leg) (book_of (sends_if setup writes now s)).sending old) (elements_told (told_called setup writes (sends_if setup writes now s).leg now))
+at_tick setup writes earlier now s old w h i = by (begins_next setup s.leg) refl
   where
-    by : (b : Bool) → is_free s.leg ≡ b →
-        let z : Sides = if◌then◌else◌ {A = Sides} b (sends setup writes now s) s in
+    by : (b : Bool) → begins_next setup s.leg ≡ b →
+        let z : Sides = if◌then◌else◌ {A = Sides} b (sends true setup writes now s) s in
         EachEmission (IsForwarded setup earlier (book_of z)) (begun_if b (book_of z).sending old) (elements_told (told_called setup writes z.leg now))
-    by true e = free_none setup (IsForwarded setup earlier (book_of (sends setup writes now s))) writes s.leg (book_of (sends setup writes now s)).sending now (begun_if true (book_of (sends setup writes now s)).sending old) e
+    by true e = free_none setup (IsForwarded setup earlier (book_of (sends true setup writes now s))) writes s.leg (book_of (sends true setup writes now s)).sending now (begun_if true (book_of (sends true setup writes now s)).sending old)
+        (begins_free setup.asks (is_free s.leg) e)
     by false e = still setup writes earlier now s.leg (book_of s) old w h i
 
 pub forwards : ForwardsWhatItConfirmed

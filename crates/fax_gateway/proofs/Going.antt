@@ -29,4 +29,5 @@ goes_on setup writes earlier t =
             report = told_report writes (in_tick setup writes earlier at).leg now;
           } in
           (given, (refl, t));
+      placed = λ at connected asked. (asked, t);
     }

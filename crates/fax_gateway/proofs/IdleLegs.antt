@@ -15,7 +15,7 @@ use Rattle.fax_answer.specs.Readings.{comes_all}
 use Rattle.fax_answer.specs.Following.{Rests}
 use Rattle.fax_answer.proofs.Rests.{rests_after, ticked_rests}
 use Rattle.fax_gateway.specs.Setups.{Setup}
-use Rattle.fax_gateway.specs.Events.{Event, Ring, FromCalling, FromCalled, Tick, clock}
+use Rattle.fax_gateway.specs.Events.{Event, Ring, FromCalling, FromCalled, Tick, Placed, clock}
 use Rattle.fax_gateway.specs.Legs.{new_pieces}
 use Rattle.fax_gateway.specs.CallingLegs.{CallingLeg, core_of, is_idle, leg_with, calling_after, calling_leg}
 
@@ -38,6 +38,7 @@ step_rests : (setup : Setup) (o : Option CallingLeg) (now : ℕ) (e : Event) →
 step_rests setup None now (Ring at number) n = tt
 step_rests setup None now (FromCalling octets at decided read) n = tt
 step_rests setup None now (FromCalled octets at decided) n = tt
+step_rests setup None now (Placed at connected) n = tt
 step_rests setup None now (Tick at given) n = tt
 step_rests setup (Some l) now (Ring at number) n = tt
 step_rests setup (Some l) now (FromCalling octets at decided read) n = by (is_idle (core_of l).state)
@@ -46,6 +47,7 @@ step_rests setup (Some l) now (FromCalling octets at decided read) n = by (is_id
     by true = n
     by false = leg_rests l now read (datagram_of octets) n
 step_rests setup (Some l) now (FromCalled octets at decided) n = n
+step_rests setup (Some l) now (Placed at connected) n = n
 step_rests setup (Some l) now (Tick at given) n = ticked_rests (core_of l) now n
 
 pub rests_of : (setup : Setup) (trace : List Event) → IfRests (calling_leg setup trace)

@@ -1,12 +1,12 @@
 -- The book sends the job of the called leg's call, and what is read off the answers is what the call heard and gave.
-use Rattle.std.proofs.Common.{◌≡◌, ℕ, max, Bool, true, false, not, ◌&&◌, is_some, List, [], ◌∷◌, Option, Some, None, Result, Ok, Err, option_map, refl, sym, ◌∙◌, ap, subst, arith, if◌then◌else◌}
+use Rattle.std.proofs.Common.{◌≡◌, ℕ, max, Bool, true, false, not, ◌&&◌, is_some, IsSome, List, [], ◌∷◌, Option, Some, None, Result, Ok, Err, option_map, refl, sym, ◌∙◌, ap, subst, arith, if◌then◌else◌}
 use Rattle.fax_udptl.specs.declared.fault.UdptlFault.{UdptlFault}
 use Rattle.fax_udptl.specs.Datagrams.{DatagramValue, datagram_of}
 use Rattle.fax_udptl.specs.Sending.{AreShort}
 use Rattle.fax_ifp.specs.Pieces.{Piece}
 use Rattle.fax_jobs.specs.declared.outcome.Outcome.{Outcome}
 use Rattle.fax_jobs.specs.Jobs.{JobValue}
-use Rattle.fax_jobs.specs.Books.{Book, joins, added, opened, closed, with_page}
+use Rattle.fax_jobs.specs.Books.{Book, joins, added, next_job, opened, closed, with_page}
 use Rattle.fax_jobs.specs.Pasts.{Step, Sends, Past, new_past, ended_if, after_steps}
 use Rattle.fax_pagestore.specs.Pages.{PageValue}
 use Rattle.fax_answer.specs.Replies.{ConfirmedPage}
@@ -15,11 +15,11 @@ use Rattle.fax_call.specs.Calls.{Calling, heard, Ticked, CallEvent, Comes, after
 use Rattle.fax_call.specs.Delivery.{is_over}
 use Rattle.fax_call.specs.Emission.{Mark, gave_all, marks_heard, marks_given, marks_after}
 use Rattle.fax_gateway.specs.Setups.{Setup}
-use Rattle.fax_gateway.specs.Events.{Event, Ring, FromCalling, FromCalled, Tick, Given, clock}
+use Rattle.fax_gateway.specs.Events.{Event, Ring, FromCalling, FromCalled, Tick, Placed, Given, clock}
 use Rattle.fax_gateway.specs.Legs.{new_pieces}
 use Rattle.fax_gateway.specs.CallingLegs.{CallingLeg, calling_leg, idle_after, answers, confirmed_by}
-use Rattle.fax_gateway.specs.CalledLegs.{CalledLeg, begun_core, core_of, is_free, core_left, calls, outcome_of, with_tick, leg_ticked, comes_to, leg_with, hears, told_by, told_called, outcome_told, delivered_told}
-use Rattle.fax_gateway.specs.Sides.{Sides, book_of, confirms_if, ends_if, heard_in_tick, leg_of, sends, sends_if, enters, serves, sides, in_tick}
+use Rattle.fax_gateway.specs.CalledLegs.{CalledLeg, begun_core, core_of, is_free, core_left, placed_leg, calls, outcome_of, with_tick, leg_ticked, comes_to, leg_with, hears, told_by, told_called, outcome_told, delivered_told}
+use Rattle.fax_gateway.specs.Sides.{Sides, begins_next, book_of, confirms_if, ends_if, heard_in_tick, job_asked, leg_of, sends, sends_if, enters, serves, sides, in_tick}
 use Rattle.fax_gateway.specs.Traces.{IsTrace}
 use Rattle.fax_gateway.specs.Told.{elements_told, heard_all, heard_with, heard_by, begun_if, marks_before, leg_marks}
 use Rattle.fax_gateway.proofs.Restoring.{restored_sends}
@@ -80,17 +80,34 @@ free_sends writes None sending marks f i = i
 free_sends writes (Some l) sending marks f i = i.sends ∙ ap (λ (b : Bool). if◌then◌else◌ {A = Option JobValue} b None (Some l.job)) f
 
 -- a job's call begins
-begins_call : (setup : Setup) (writes : Writing) (leg : Option CalledLeg) (o : Option JobValue) (now : ℕ) (marks : List Mark) → IfInCall writes leg None marks → IfInCall writes (leg_of o (core_left setup writes leg) now leg) o (begun_if true o marks)
-begins_call setup writes leg None now marks i = i
-begins_call setup writes leg (Some job) now marks i = record { sends = refl; old = marks; marks_are = refl; fits = (omega arith, tt); short = tt }
+begins_call : (connected : Bool) (setup : Setup) (writes : Writing) (leg : Option CalledLeg) (o : Option JobValue) (now : ℕ) (marks : List Mark) → IfInCall writes leg None marks → IfInCall writes (leg_of connected o (core_left setup writes leg) now leg) o (begun_if true o marks)
+begins_call connected setup writes leg None now marks i = i
+begins_call true setup writes leg (Some job) now marks i = record { sends = refl; old = marks; marks_are = refl; fits = (omega arith, tt); short = tt }
+begins_call false setup writes leg (Some job) now marks i = record { sends = refl; old = marks; marks_are = refl; fits = tt; short = tt }
+
+-- a tick begins the next call only where none is on
+pub begins_free : (asks : Bool) (b : Bool) → (not asks && b) ≡ true → b ≡ true
+begins_free false b e = e
+begins_free true b e = cc
+
+-- a job is asked for only where none is being sent
+pub asked_sends : (asks : Bool) (book : Book) → IsSome (job_asked asks book) → book.sending ≡ None
+asked_sends false book h = cc
+asked_sends true book h = by book.sending h
+  where
+    by : (o : Option JobValue) → IsSome (if◌then◌else◌ {A = Option JobValue} (is_some o) None (next_job book)) → o ≡ None
+    by None k = refl
+    by (Some job) k = cc
 
 pub sends_call : (setup : Setup) (writes : Writing) (now : ℕ) (s : Sides) (marks : List Mark) → IfInCall writes s.leg (book_of s).sending marks →
-    IfInCall writes (sends_if setup writes now s).leg (book_of (sends_if setup writes now s)).sending (begun_if (is_free s.leg) (book_of (sends_if setup writes now s)).sending marks)
-sends_call setup writes now s marks i = by (is_free s.leg) refl
+    IfInCall writes (sends_if setup writes now s).leg (book_of (sends_if setup writes now s)).sending (begun_if (begins_next setup s.leg) (book_of (sends_if setup writes now s)).sending marks)
+sends_call setup writes now s marks i = by (begins_next setup s.leg) refl
   where
-    by : (b : Bool) → is_free s.leg ≡ b →
-        IfInCall writes (if◌then◌else◌ {A = Sides} b (sends setup writes now s) s).leg (book_of (if◌then◌else◌ {A = Sides} b (sends setup writes now s) s)).sending (begun_if b (book_of (if◌then◌else◌ {A = Sides} b (sends setup writes now s) s)).sending marks)
-    by true e = begins_call setup writes s.leg (sending_of (Sends ∷ s.steps)) now marks (subst (λ (o : Option JobValue). IfInCall writes s.leg o marks) (free_sends writes s.leg (book_of s).sending marks e i) i)
+    by : (b : Bool) → begins_next setup s.leg ≡ b →
+        IfInCall writes (if◌then◌else◌ {A = Sides} b (sends true setup writes now s) s).leg (book_of (if◌then◌else◌ {A = Sides} b (sends true setup writes now s) s)).sending (begun_if b (book_of (if◌then◌else◌ {A = Sides} b (sends true setup writes now s) s)).sending marks)
+    by true e =
+        begins_call true setup writes s.leg (sending_of (Sends ∷ s.steps)) now marks
+        (subst (λ (o : Option JobValue). IfInCall writes s.leg o marks) (free_sends writes s.leg (book_of s).sending marks (begins_free setup.asks (is_free s.leg) e) i) i)
     by false e = i
 
 -- the called leg is served
@@ -178,6 +195,11 @@ in_call setup writes (FromCalling octets at decided read ∷ earlier) t =
     (ends_sends (not (idle_after (calling_leg setup earlier)) && idle_after (calling_leg setup (FromCalling octets at decided read ∷ earlier))) s.steps) (in_call setup writes earlier t.1)
 in_call setup writes (FromCalled octets at decided ∷ earlier) t =
     let s : Sides = sides setup writes earlier in hears_call writes s.leg (clock (FromCalled octets at decided ∷ earlier)) octets (book_of s).sending (leg_marks setup writes earlier) (in_call setup writes earlier t.1)
+in_call setup writes (Placed at connected ∷ earlier) t =
+    let s : Sides = sides setup writes earlier in
+    let marks : List Mark = leg_marks setup writes earlier in
+    begins_call connected setup writes s.leg (sending_of (Sends ∷ s.steps)) (clock (Placed at connected ∷ earlier)) marks
+    (subst (λ (o : Option JobValue). IfInCall writes s.leg o marks) (asked_sends setup.asks (book_of s) t.0) (in_call setup writes earlier t.1))
 in_call setup writes (Tick at given ∷ earlier) t =
     let now : ℕ = max at (clock earlier) in
     let z : Sides = in_tick setup writes earlier at in

@@ -22,13 +22,13 @@ use Rattle.fax_call.specs.Calls as call
 use Rattle.fax_call.specs.Calls.{Calling, moved, Taken, taken, after_giving}
 use Rattle.fax_call.specs.Delivery.{is_over}
 use Rattle.fax_gateway.specs.Setups.{Setup}
-use Rattle.fax_gateway.specs.Events.{Event, Ring, FromCalling, FromCalled, Tick, Given, clock}
+use Rattle.fax_gateway.specs.Events.{Event, Ring, FromCalling, FromCalled, Tick, Placed, Given, clock}
 use Rattle.fax_gateway.specs.Legs.{new_pieces}
 use Rattle.fax_gateway.specs.CallingLegs as calling_legs
 use Rattle.fax_gateway.specs.CallingLegs.{CallingLeg, calling_leg, calling_after, is_idle, answers, told_calling}
 use Rattle.fax_gateway.specs.CalledLegs as called_legs
-use Rattle.fax_gateway.specs.CalledLegs.{CalledLeg, is_free, core_left, begun_core, calls, comes_to, leg_ticked, hears, with_tick, told_called}
-use Rattle.fax_gateway.specs.Sides.{Sides, heard_in_tick, leg_of, sends, sends_if, book_of, sides, in_tick}
+use Rattle.fax_gateway.specs.CalledLegs.{CalledLeg, core_left, begun_core, calls, comes_to, leg_ticked, hears, with_tick, told_called}
+use Rattle.fax_gateway.specs.Sides.{Sides, begins_next, heard_in_tick, leg_of, sends, sends_if, book_of, sides, in_tick}
 use Rattle.fax_gateway.specs.Traces.{IsTrace}
 use Rattle.fax_gateway.specs.Apart.{if_given, last_given, IsApart, DatagramsAreApart}
 
@@ -136,6 +136,10 @@ rung_pace : (setup : Setup) (o : Option CallingLeg) (now at number : ℕ) → pa
 rung_pace setup None now at number = refl
 rung_pace setup (Some l) now at number = refl
 
+placed_pace : (setup : Setup) (o : Option CallingLeg) (now at : ℕ) (connected : Bool) → pace_on setup (calling_after setup o now (Placed at connected)) ≡ pace_on setup o
+placed_pace setup None now at connected = refl
+placed_pace setup (Some l) now at connected = refl
+
 other_pace : (setup : Setup) (o : Option CallingLeg) (now : ℕ) (octets : List ℕ) (at : ℕ) (decided : Bool) → pace_on setup (calling_after setup o now (FromCalled octets at decided)) ≡ pace_on setup o
 other_pace setup None now octets at decided = refl
 other_pace setup (Some l) now octets at decided = refl
@@ -158,6 +162,8 @@ calling_paced setup writes (FromCalling octets at decided read ∷ earlier) t =
     subst (λ (p : PaceValue). IsPaced setup p (last_given (λ g. g.on_calling) earlier)) (sym (heard_pace setup (calling_leg setup earlier) (clock (FromCalling octets at decided read ∷ earlier)) octets at decided read)) (calling_paced setup writes earlier t.1)
 calling_paced setup writes (FromCalled octets at decided ∷ earlier) t =
     subst (λ (p : PaceValue). IsPaced setup p (last_given (λ g. g.on_calling) earlier)) (sym (other_pace setup (calling_leg setup earlier) (clock (FromCalled octets at decided ∷ earlier)) octets at decided)) (calling_paced setup writes earlier t.1)
+calling_paced setup writes (Placed at connected ∷ earlier) t =
+    subst (λ (p : PaceValue). IsPaced setup p (last_given (λ g. g.on_calling) earlier)) (sym (placed_pace setup (calling_leg setup earlier) (clock (Placed at connected ∷ earlier)) at connected)) (calling_paced setup writes earlier t.1)
 calling_paced setup writes (Tick at given ∷ earlier) t =
     paced_on setup (pace_on setup (calling_leg setup earlier)) (pace_on setup (calling_leg setup (Tick at given ∷ earlier))) (max at (clock earlier)) (last_given (λ g. g.on_calling) earlier) given.on_calling
     (calling_moves setup writes earlier at given t) (calling_paced setup writes earlier t.1)
@@ -211,15 +217,16 @@ called_moves_by setup writes (Some l) now = by l.entered
     by true = refl
     by false = subst (λ (b : Bool). Moves b (called_legs.core_of writes l).pace now (calls writes l now).core.pace) (sym (same_packet setup l.given (calls writes l now).given)) (calls_move writes l now)
 
-begun_pace : (setup : Setup) (writes : Writing) (o : Option JobValue) (now : ℕ) (leg : Option CalledLeg) → pace_left setup writes (leg_of o (core_left setup writes leg) now leg) ≡ pace_left setup writes leg
-begun_pace setup writes None now leg = refl
-begun_pace setup writes (Some job) now leg = refl
+begun_pace : (connected : Bool) (setup : Setup) (writes : Writing) (o : Option JobValue) (now : ℕ) (leg : Option CalledLeg) → pace_left setup writes (leg_of connected o (core_left setup writes leg) now leg) ≡ pace_left setup writes leg
+begun_pace connected setup writes None now leg = refl
+begun_pace true setup writes (Some job) now leg = refl
+begun_pace false setup writes (Some job) now leg = refl
 
 served_pace : (setup : Setup) (writes : Writing) (now : ℕ) (s : Sides) → pace_left setup writes (sends_if setup writes now s).leg ≡ pace_left setup writes s.leg
-served_pace setup writes now s = by (is_free s.leg)
+served_pace setup writes now s = by (begins_next setup s.leg)
   where
-    by : (b : Bool) → pace_left setup writes (if◌then◌else◌ {A = Sides} b (sends setup writes now s) s).leg ≡ pace_left setup writes s.leg
-    by true = begun_pace setup writes (book_of (sends setup writes now s)).sending now s.leg
+    by : (b : Bool) → pace_left setup writes (if◌then◌else◌ {A = Sides} b (sends true setup writes now s) s).leg ≡ pace_left setup writes s.leg
+    by true = begun_pace true setup writes (book_of (sends true setup writes now s)).sending now s.leg
     by false = refl
 
 called_moves : (setup : Setup) (writes : Writing) (earlier : List Event) (at : ℕ) (given : Given) → IsTrace setup writes (Tick at given ∷ earlier) →
@@ -259,6 +266,10 @@ called_paced setup writes (Ring at n ∷ earlier) t = called_paced setup writes 
 called_paced setup writes (FromCalling octets at decided read ∷ earlier) t = called_paced setup writes earlier t.1
 called_paced setup writes (FromCalled octets at decided ∷ earlier) t =
     subst (λ (p : PaceValue). IsPaced setup p (last_given (λ g. g.on_called) earlier)) (sym (hears_pace setup writes octets (clock (FromCalled octets at decided ∷ earlier)) (sides setup writes earlier).leg)) (called_paced setup writes earlier t.1)
+called_paced setup writes (Placed at connected ∷ earlier) t =
+    let s : Sides = sides setup writes earlier in
+    subst (λ (p : PaceValue). IsPaced setup p (last_given (λ g. g.on_called) earlier))
+    (sym (begun_pace connected setup writes (book_of (sides setup writes (Placed at connected ∷ earlier))).sending (clock (Placed at connected ∷ earlier)) s.leg)) (called_paced setup writes earlier t.1)
 called_paced setup writes (Tick at given ∷ earlier) t =
     paced_on setup (pace_left setup writes (sides setup writes earlier).leg) (pace_left setup writes (sides setup writes (Tick at given ∷ earlier)).leg) (max at (clock earlier)) (last_given (λ g. g.on_called) earlier) given.on_called
     (called_moves setup writes earlier at given t) (called_paced setup writes earlier t.1)

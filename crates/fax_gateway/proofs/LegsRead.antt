@@ -8,7 +8,7 @@ use Rattle.fax_answer.specs.Confirmation.{AreRead, IsRead}
 use Rattle.fax_answer.proofs.Readings.{calls_are_read}
 use Rattle.fax_call.specs.Writings.{Writing}
 use Rattle.fax_gateway.specs.Setups.{Setup}
-use Rattle.fax_gateway.specs.Events.{Event, Ring, FromCalling, FromCalled, Tick, Given, clock}
+use Rattle.fax_gateway.specs.Events.{Event, Ring, FromCalling, FromCalled, Tick, Placed, Given, clock}
 use Rattle.fax_gateway.specs.Legs.{new_pieces}
 use Rattle.fax_gateway.specs.CallingLegs.{CallingLeg, core_of, is_idle, leg_with, asked_by, question, calling_after, calling_leg}
 use Rattle.fax_gateway.specs.Traces.{IsTrace}
@@ -38,6 +38,10 @@ called_read : (setup : Setup) (o : Option CallingLeg) (now : ℕ) (octets : List
 called_read setup None now octets at decided h = tt
 called_read setup (Some l) now octets at decided h = h
 
+placed_read : (setup : Setup) (o : Option CallingLeg) (now at : ℕ) (connected : Bool) → LegRead o → LegRead (calling_after setup o now (Placed at connected))
+placed_read setup None now at connected h = tt
+placed_read setup (Some l) now at connected h = h
+
 tick_read : (setup : Setup) (o : Option CallingLeg) (now at : ℕ) (given : Given) → LegRead o → LegRead (calling_after setup o now (Tick at given))
 tick_read setup None now at given h = tt
 tick_read setup (Some l) now at given h = h
@@ -49,6 +53,7 @@ read_of setup writes (FromCalling octets at decided read ∷ earlier) t =
     step_read setup (calling_leg setup earlier) (clock (FromCalling octets at decided read ∷ earlier)) octets at decided read t.0.1 (read_of setup writes earlier t.1)
 read_of setup writes (FromCalled octets at decided ∷ earlier) t =
     called_read setup (calling_leg setup earlier) (clock (FromCalled octets at decided ∷ earlier)) octets at decided (read_of setup writes earlier t.1)
+read_of setup writes (Placed at connected ∷ earlier) t = placed_read setup (calling_leg setup earlier) (clock (Placed at connected ∷ earlier)) at connected (read_of setup writes earlier t.1)
 read_of setup writes (Tick at given ∷ earlier) t = tick_read setup (calling_leg setup earlier) (clock (Tick at given ∷ earlier)) at given (read_of setup writes earlier t.1)
 
 -- the same, where the leg is known

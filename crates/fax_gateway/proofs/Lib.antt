@@ -29,6 +29,7 @@ mod States
 mod Steps
 mod Ticking
 mod Turning
+mod Unplaced
 mod WholeCall
 mod Chained
 mod Relayed

@@ -8,7 +8,7 @@ use Rattle.fax_call.specs.Writings.{Writing}
 use Rattle.fax_call.specs.Emission.{Mark}
 use Rattle.fax_gateway.specs.Restored.{CallPage, pages_restored}
 use Rattle.fax_gateway.specs.Setups.{Setup}
-use Rattle.fax_gateway.specs.Events.{Event, Ring, FromCalling, FromCalled, Tick, Given, clock}
+use Rattle.fax_gateway.specs.Events.{Event, Ring, FromCalling, FromCalled, Tick, Placed, Given, clock}
 use Rattle.fax_gateway.specs.CallingLegs.{CallingLeg, calling_leg, idle_after, answers, confirmed_by}
 use Rattle.fax_gateway.specs.CalledLegs.{outcome_told, delivered_told}
 use Rattle.fax_gateway.specs.Sides.{Sides, past_of, book_of, confirms_if, heard_in_tick, sides, in_tick}
@@ -48,6 +48,8 @@ confirmed_here setup writes (FromCalling octets at decided read ∷ earlier) t =
     later_pages setup (FromCalling octets at decided read) earlier (pages_confirmed setup earlier) (confirmed_here setup writes earlier t.1)
 confirmed_here setup writes (FromCalled octets at decided ∷ earlier) t =
     later_pages setup (FromCalled octets at decided) earlier (pages_confirmed setup earlier) (confirmed_here setup writes earlier t.1)
+confirmed_here setup writes (Placed at connected ∷ earlier) t =
+    later_pages setup (Placed at connected) earlier (pages_confirmed setup earlier) (confirmed_here setup writes earlier t.1)
 confirmed_here setup writes (Tick at given ∷ earlier) t =
     each_both (WasConfirmedIn setup (Tick at given ∷ earlier)) (pages_confirmed setup earlier) (pages_at (calling_leg setup earlier) (max at (clock earlier)))
     (later_pages setup (Tick at given) earlier (pages_confirmed setup earlier) (confirmed_here setup writes earlier t.1))
@@ -104,6 +106,7 @@ told_are setup writes (Ring at number ∷ earlier) = told_are setup writes earli
 told_are setup writes (FromCalling octets at decided read ∷ earlier) =
     ends_told (not (idle_after (calling_leg setup earlier)) && idle_after (calling_leg setup (FromCalling octets at decided read ∷ earlier))) (sides setup writes earlier).steps ∙ told_are setup writes earlier
 told_are setup writes (FromCalled octets at decided ∷ earlier) = told_are setup writes earlier
+told_are setup writes (Placed at connected ∷ earlier) = told_are setup writes earlier
 told_are setup writes (Tick at given ∷ earlier) =
     let now : ℕ = max at (clock earlier) in
     let s : Sides = sides setup writes earlier in

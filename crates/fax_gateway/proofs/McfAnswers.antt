@@ -11,8 +11,8 @@ use Rattle.fax_call.specs.Writings.{Writing}
 use Rattle.fax_gateway.specs.Setups.{Setup}
 use Rattle.fax_gateway.specs.Events.{Event, Given, clock}
 use Rattle.fax_gateway.specs.CallingLegs.{CallingLeg, core_of, calling_leg, answers, told_calling, confirmed_by}
-use Rattle.fax_gateway.specs.CalledLegs.{is_free, outcome_told, delivered_told}
-use Rattle.fax_gateway.specs.Sides.{Sides, confirms_if, ends_if, heard_in_tick, sends, sends_if, enters, serves, before_serving, sides}
+use Rattle.fax_gateway.specs.CalledLegs.{outcome_told, delivered_told}
+use Rattle.fax_gateway.specs.Sides.{Sides, begins_next, confirms_if, ends_if, heard_in_tick, sends, sends_if, enters, serves, before_serving, sides}
 use Rattle.fax_gateway.specs.Traces.{IsTrace}
 use Rattle.fax_gateway.specs.Told.{gives_mcf}
 use Rattle.fax_gateway.specs.Answers.{AddsNoPage, ConfirmsNow, GivesAgain, EachMcfAnswers}
@@ -29,9 +29,9 @@ ends_none true old steps a = record { later = CallEnds ∷ a.later; no_page = a.
 ends_none false old steps a = a
 
 sends_none : (setup : Setup) (writes : Writing) (now : ℕ) (s : Sides) (old : List Step) → AddsNoPage old s.steps → AddsNoPage old (sends_if setup writes now s).steps
-sends_none setup writes now s old a = by (is_free s.leg)
+sends_none setup writes now s old a = by (begins_next setup s.leg)
   where
-    by : (b : Bool) → AddsNoPage old (if◌then◌else◌ {A = Sides} b (sends setup writes now s) s).steps
+    by : (b : Bool) → AddsNoPage old (if◌then◌else◌ {A = Sides} b (sends true setup writes now s) s).steps
     by true = record { later = Sends ∷ a.later; no_page = a.no_page; steps_are = ap (λ (x : List Step). Sends ∷ x) a.steps_are }
     by false = a
 

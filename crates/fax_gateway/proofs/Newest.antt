@@ -15,12 +15,12 @@ use Rattle.fax_gateway.specs.Setups.{Setup}
 use Rattle.fax_gateway.specs.Events.{Event, Tick, Given, clock}
 use Rattle.fax_gateway.specs.CallingLegs.{CallingLeg, calling_leg, answers, confirmed_by}
 use Rattle.fax_gateway.specs.CalledLegs.{CalledLeg, begun_leg, is_free, core_left, calls, outcome_of, outcome_told, delivered_told}
-use Rattle.fax_gateway.specs.Sides.{Sides, book_of, confirms_if, ends_if, heard_in_tick, leg_of, sends, sends_if, enters, serves, before_serving, sides}
+use Rattle.fax_gateway.specs.Sides.{Sides, begins_next, book_of, confirms_if, ends_if, heard_in_tick, leg_of, sends, sends_if, enters, serves, before_serving, sides}
 use Rattle.fax_gateway.specs.Traces.{IsTrace}
 use Rattle.fax_gateway.specs.Told.{leg_marks}
 use Rattle.fax_gateway.specs.Cuts.{confirmed_at}
 use Rattle.fax_gateway.specs.Newest.{ConfirmsTheNewest}
-use Rattle.fax_gateway.proofs.InCalls.{IfInCall, free_sends, heard_sends, in_call}
+use Rattle.fax_gateway.proofs.InCalls.{IfInCall, begins_free, free_sends, heard_sends, in_call}
 
 abbrev book_behind : List Step → Book
 book_behind steps = (after_steps new_past steps).book
@@ -48,7 +48,7 @@ first_tick writes job before now = by (pace_allows before.pace.last now)
     by true = refl
     by false = refl
 
-begun_tells_none : (writes : Writing) (o : Option JobValue) (before : Calling) (now : ℕ) (leg : Option CalledLeg) → is_free leg ≡ true → outcome_told writes (leg_of o before now leg) now ≡ None
+begun_tells_none : (writes : Writing) (o : Option JobValue) (before : Calling) (now : ℕ) (leg : Option CalledLeg) → is_free leg ≡ true → outcome_told writes (leg_of true o before now leg) now ≡ None
 begun_tells_none writes (Some job) before now leg free = first_tick writes job before now
 begun_tells_none writes None before now None free = refl
 begun_tells_none writes None before now (Some l) free = ap (λ (b : Bool). if◌then◌else◌ {A = Option Outcome} b None (outcome_of (calls writes l now).core)) free
@@ -75,11 +75,12 @@ sends_newest steps page none e =
 -- what a tick does behind that
 served_newest : (setup : Setup) (writes : Writing) (now : ℕ) (s : Sides) (page : PageValue) → (is_free s.leg ≡ true → (book_of s).sending ≡ None) → own_page (book_of s) ≡ Some page →
     newest_page (book_of (serves writes now (sends_if setup writes now s))) ≡ Some page
-served_newest setup writes now s page none e = by (is_free s.leg) refl
+served_newest setup writes now s page none e = by (begins_next setup s.leg) refl
   where
-    by : (b : Bool) → is_free s.leg ≡ b → newest_page (book_of (serves writes now (if◌then◌else◌ {A = Sides} b (sends setup writes now s) s))) ≡ Some page
-    by true free =
-        let z : Sides = sends setup writes now s in
+    by : (b : Bool) → begins_next setup s.leg ≡ b → newest_page (book_of (serves writes now (if◌then◌else◌ {A = Sides} b (sends true setup writes now s) s))) ≡ Some page
+    by true begins =
+        let free : is_free s.leg ≡ true = begins_free setup.asks (is_free s.leg) begins in
+        let z : Sides = sends true setup writes now s in
         enters_nothing (delivered_told writes z.leg now) (outcome_told writes z.leg now) z.steps page
         (begun_tells_none writes (book_behind (Sends ∷ s.steps)).sending (core_left setup writes s.leg) now s.leg free) (sends_newest s.steps page (none free) e)
     by false busy =

@@ -13,10 +13,10 @@ use Rattle.fax_call.specs.Writings.{Writing, IsWriting}
 use Rattle.fax_call.specs.Emission.{Emission, Mark, IsPageOf}
 use Rattle.fax_gateway.specs.Restored.{RestoredCall, CallPage, pages_with, pages_restored, confirms_all, restores}
 use Rattle.fax_gateway.specs.Setups.{Setup}
-use Rattle.fax_gateway.specs.Events.{Event, Ring, FromCalling, FromCalled, Tick, Given, clock}
+use Rattle.fax_gateway.specs.Events.{Event, Ring, FromCalling, FromCalled, Tick, Placed, Given, clock}
 use Rattle.fax_gateway.specs.CallingLegs.{CallingLeg, core_of, calling_leg, idle_after, answers, told_calling, confirmed_by}
 use Rattle.fax_gateway.specs.CalledLegs.{is_free, core_left, told_called, outcome_told, delivered_told}
-use Rattle.fax_gateway.specs.Sides.{Sides, past_of, book_of, confirms_if, ends_if, heard_in_tick, leg_of, sends, sends_if, enters, sides, in_tick}
+use Rattle.fax_gateway.specs.Sides.{Sides, begins_next, past_of, book_of, confirms_if, ends_if, heard_in_tick, leg_of, sends, sends_if, enters, sides, in_tick}
 use Rattle.fax_gateway.specs.Traces.{IsTrace}
 use Rattle.fax_gateway.specs.Told.{gives_mcf, elements_told, leg_marks, marks_before, EachEmission}
 use Rattle.fax_gateway.specs.Forwards.{WasConfirmedIn, IsForwarded}
@@ -25,7 +25,7 @@ use Rattle.fax_gateway.specs.Lives.{pages_in, pages_of_jobs}
 use Rattle.fax_gateway.specs.OwnConfirmations.{one_if_some, confirmations_in, IsNumber, HasNumber, HasItsOwn, EachPageHasItsOwnConfirmation}
 use Rattle.fax_gateway.proofs.Confirmed.{given_with}
 use Rattle.fax_gateway.proofs.Forwarding.{each_emission, free_none, forwards}
-use Rattle.fax_gateway.proofs.InCalls.{heard_sends}
+use Rattle.fax_gateway.proofs.InCalls.{begins_free, heard_sends}
 use Rattle.fax_gateway.proofs.LegsRead.{leg_is_read}
 use Rattle.fax_gateway.proofs.Replied.{IfNeat, neat_of, ticked_neat, told_mcf}
 use Rattle.fax_gateway.proofs.Restoring.{EachAt, each_number, number_behind, number_map}
@@ -269,9 +269,9 @@ ends_told true steps = refl
 ends_told false steps = refl
 
 pub sends_told : (setup : Setup) (writes : Writing) (now : ℕ) (s : Sides) → confirmed_told (sends_if setup writes now s).steps ≡ confirmed_told s.steps
-sends_told setup writes now s = by (is_free s.leg)
+sends_told setup writes now s = by (begins_next setup s.leg)
   where
-    by : (b : Bool) → confirmed_told (if◌then◌else◌ {A = Sides} b (sends setup writes now s) s).steps ≡ confirmed_told s.steps
+    by : (b : Bool) → confirmed_told (if◌then◌else◌ {A = Sides} b (sends true setup writes now s) s).steps ≡ confirmed_told s.steps
     by true = refl
     by false = refl
 
@@ -299,6 +299,7 @@ count_is setup writes (Ring at number ∷ earlier) = count_is setup writes earli
 count_is setup writes (FromCalling octets at decided read ∷ earlier) =
     ap (λ (x : List Told). length x) (ends_told (not (idle_after (calling_leg setup earlier)) && idle_after (calling_leg setup (FromCalling octets at decided read ∷ earlier))) (sides setup writes earlier).steps) ∙ count_is setup writes earlier
 count_is setup writes (FromCalled octets at decided ∷ earlier) = count_is setup writes earlier
+count_is setup writes (Placed at connected ∷ earlier) = count_is setup writes earlier
 count_is setup writes (Tick at given ∷ earlier) =
     let now : ℕ = max at (clock earlier) in
     let s : Sides = sides setup writes earlier in
@@ -398,9 +399,9 @@ heard_number setup writes earlier at given (Some l) t is h =
     (confirms_number P l.number (confirmed_by a.given) steps (λ c e. number_now setup writes earlier at given l c t is e) h)
 
 sends_number : (setup : Setup) (P : ℕ → ℕ → PageValue → Type 0) (writes : Writing) (now : ℕ) (s : Sides) → Numbered P s.steps → Numbered P (sends_if setup writes now s).steps
-sends_number setup P writes now s h = by (is_free s.leg)
+sends_number setup P writes now s h = by (begins_next setup s.leg)
   where
-    by : (b : Bool) → Numbered P (if◌then◌else◌ {A = Sides} b (sends setup writes now s) s).steps
+    by : (b : Bool) → Numbered P (if◌then◌else◌ {A = Sides} b (sends true setup writes now s) s).steps
     by true = h
     by false = h
 
@@ -415,6 +416,7 @@ event_number setup writes (Ring at n) earlier t h = h
 event_number setup writes (FromCalling octets at decided read) earlier t h =
     ends_number (NumberOf setup (FromCalling octets at decided read ∷ earlier)) (not (idle_after (calling_leg setup earlier)) && idle_after (calling_leg setup (FromCalling octets at decided read ∷ earlier))) (sides setup writes earlier).steps h
 event_number setup writes (FromCalled octets at decided) earlier t h = h
+event_number setup writes (Placed at connected) earlier t h = h
 event_number setup writes (Tick at given) earlier t h =
     let P : ℕ → ℕ → PageValue → Type 0 = NumberOf setup (Tick at given ∷ earlier) in
     let now : ℕ = max at (clock earlier) in
@@ -441,27 +443,27 @@ own_of setup writes earlier marks emission job n t is p =
     let i : NumberOf setup earlier k job.call p.page = at_place (NumberOf setup earlier) steps k (told_of job.call p.page) (numbered setup writes earlier t) (place_of steps job n p.page is p.is_page) in
     record { job = job; is_sending = is; n = n; is_page = p; confirmed = i }
 
-at_tick : (setup : Setup) (writes : Writing) (earlier : List Event) (at : ℕ) (given : Given) → IsWriting writes → IsTrace setup writes (Tick at given ∷ earlier) → (free : Bool) → is_free (sides setup writes earlier).leg ≡ free →
+at_tick : (setup : Setup) (writes : Writing) (earlier : List Event) (at : ℕ) (given : Given) → IsWriting writes → IsTrace setup writes (Tick at given ∷ earlier) → (begins : Bool) → begins_next setup (sides setup writes earlier).leg ≡ begins →
     EachEmission (HasItsOwn setup writes earlier) (marks_before setup writes earlier at (leg_marks setup writes earlier)) (elements_told given.on_called)
 at_tick setup writes earlier at given w t true e =
     let now : ℕ = max at (clock earlier) in
     let s : Sides = sides setup writes earlier in
     let z : Sides = record s { steps = heard_in_tick (calling_leg setup earlier) now s.steps } in
     let marks : List Mark = marks_before setup writes earlier at (leg_marks setup writes earlier) in
-    let o : Option JobValue = (book_of (sends setup writes now z)).sending in
-    let told : given.on_called ≡ told_called setup writes (leg_of o (core_left setup writes s.leg) now s.leg) now =
-    ap (λ (g : Given). g.on_called) t.0 ∙ ap (λ (b : Bool). told_called setup writes (if◌then◌else◌ {A = Sides} b (sends setup writes now z) z).leg now) e in
+    let o : Option JobValue = (book_of (sends true setup writes now z)).sending in
+    let told : given.on_called ≡ told_called setup writes (leg_of true o (core_left setup writes s.leg) now s.leg) now =
+    ap (λ (g : Given). g.on_called) t.0 ∙ ap (λ (b : Bool). told_called setup writes (if◌then◌else◌ {A = Sides} b (sends true setup writes now z) z).leg now) e in
     subst (λ (x : Option (List ℕ)). EachEmission (HasItsOwn setup writes earlier) marks (elements_told x)) (sym told)
-    (free_none setup (HasItsOwn setup writes earlier) writes s.leg o now marks e)
+    (free_none setup (HasItsOwn setup writes earlier) writes s.leg o now marks (begins_free setup.asks (is_free s.leg) e))
 at_tick setup writes earlier at given w t false e =
     let now : ℕ = max at (clock earlier) in
     let s : Sides = sides setup writes earlier in
     let z : Sides = record s { steps = heard_in_tick (calling_leg setup earlier) now s.steps } in
     let marks : List Mark = marks_before setup writes earlier at (leg_marks setup writes earlier) in
     let same : (book_of (in_tick setup writes earlier at)).sending ≡ (book_of s).sending =
-    ap (λ (b : Bool). (book_of (if◌then◌else◌ {A = Sides} b (sends setup writes now z) z)).sending) e ∙ heard_sends (calling_leg setup earlier) now s.steps in
+    ap (λ (b : Bool). (book_of (if◌then◌else◌ {A = Sides} b (sends true setup writes now z) z)).sending) e ∙ heard_sends (calling_leg setup earlier) now s.steps in
     each_emission (IsForwarded setup earlier (book_of (in_tick setup writes earlier at))) (HasItsOwn setup writes earlier) marks (elements_told given.on_called)
     (λ ms x p. own_of setup writes earlier ms x p.job p.n t.1 (sym same ∙ p.is_sending) p.is_page) (forwards setup writes earlier at given w t)
 
 pub has_its_own : EachPageHasItsOwnConfirmation
-has_its_own setup writes earlier at given w t = at_tick setup writes earlier at given w t (is_free (sides setup writes earlier).leg) refl
+has_its_own setup writes earlier at given w t = at_tick setup writes earlier at given w t (begins_next setup (sides setup writes earlier).leg) refl

@@ -1,5 +1,5 @@
 -- A job for which a DIS leaves no choice is reported with that refusal.
-use Rattle.std.proofs.Common.{◌≡◌, ℕ, max, Bool, true, false, List, [], ◌∷◌, ◌++◌, ◌⊎◌, inl, inr, Option, Some, None, refl, sym, ◌∙◌, ap, subst, if◌then◌else◌}
+use Rattle.std.proofs.Common.{◌≡◌, ℕ, max, Bool, true, false, List, [], ◌∷◌, ◌++◌, slice_get, ◌⊎◌, inl, inr, Option, Some, None, refl, sym, ◌∙◌, ap, subst, if◌then◌else◌}
 use Rattle.fax_frames.specs.declared.choice.Refusal.{Refusal}
 use Rattle.fax_ifp.specs.Pieces as pieces
 use Rattle.fax_pagestore.specs.Pages.{PageValue}
@@ -8,7 +8,7 @@ use Rattle.fax_jobs.specs.declared.report.Report.{Report}
 use Rattle.fax_jobs.specs.Jobs.{JobValue, IsJob}
 use Rattle.fax_jobs.specs.Books.{Book, report_of}
 use Rattle.fax_call.specs.declared.state.State.{State}
-use Rattle.fax_call.specs.declared.state.State.TheVariants.{Idle, Closing}
+use Rattle.fax_call.specs.declared.state.State.TheVariants.{Idle, AwaitDis, Closing}
 use Rattle.fax_call.specs.Writings.{Writing}
 use Rattle.fax_call.specs.Calls.{Calling, CallEvent, Comes, Ticks, after_events}
 use Rattle.fax_call.specs.Delivery.{is_over}
@@ -25,6 +25,7 @@ use Rattle.fax_gateway.specs.Refused.{Refused, ReportsTheRefusal}
 use Rattle.fax_gateway.proofs.Held.{IfHolds, held}
 use Rattle.fax_gateway.proofs.Confirmed.{tick_holds}
 use Rattle.fax_gateway.proofs.InCalls.{InCall, IfInCall, before_call, in_call}
+use Rattle.fax_gateway.proofs.Unplaced.{as_begun, awaits_placed, from_begun}
 
 abbrev ended_so : State → Option Outcome → Option Outcome
 ended_so state o = if◌then◌else◌ {A = Option Outcome} (is_over state) o None
@@ -39,7 +40,14 @@ end_is state o wanted outcome (inr idle) e =
 call_refused : (writes : Writing) (l : CalledLeg) (now : ℕ) (refusal : Refusal) (outcome : Outcome) → IsJob l.job → Refused writes l refusal → outcome_of (calls writes l now).core ≡ Some outcome → outcome ≡ table.outcome_of refusal
 call_refused writes l now refusal outcome is r e =
     let behind : List CallEvent → Calling = λ es. after_events writes l.job (begun_core l) (Ticks now ∷ es) in
-    let ends = ends_by_refusal writes l.job l.before l.begun (Ticks now ∷ r.later) r.events r.now r.octets r.dis r.page refusal is r.awaits r.waits_not r.frame r.due r.none in
+    let placed : l.placed ≡ true = awaits_placed writes l r.events r.awaits in
+    let at : List CallEvent → Calling → Calling = λ es a. after_events writes l.job a es in
+    let begun = ends_by_refusal writes l.job l.before l.begun (Ticks now ∷ r.later) r.events r.now r.octets r.dis r.page refusal is
+    (from_begun (λ (a : Calling). (at r.events a).state ≡ AwaitDis) l placed r.awaits)
+    (from_begun (λ (a : Calling). (at r.events a).waiting ≡ []) l placed r.waits_not) r.frame
+    (from_begun (λ (a : Calling). slice_get l.job.pages (at r.events a).counts.page ≡ Some r.page) l placed r.due) r.none in
+    let over : List CallEvent = Ticks now ∷ (r.later ++ Comes (pieces.Frame r.octets) r.now ∷ r.events) in
+    let ends = as_begun (λ (a : Calling). ((at over a).state ≡ Closing (table.outcome_of refusal)) ⊎ (((at over a).state ≡ Idle) × ((at over a).outcome ≡ Some (table.outcome_of refusal)))) l placed begun in
     let here : ((behind l.events).state ≡ Closing (table.outcome_of refusal)) ⊎ (((behind l.events).state ≡ Idle) × ((behind l.events).outcome ≡ Some (table.outcome_of refusal))) =
     subst (λ (es : List CallEvent). ((behind es).state ≡ Closing (table.outcome_of refusal)) ⊎ (((behind es).state ≡ Idle) × ((behind es).outcome ≡ Some (table.outcome_of refusal)))) (sym r.split) ends in
     end_is (behind l.events).state (behind l.events).outcome (table.outcome_of refusal) outcome here e

@@ -1,5 +1,5 @@
 -- Each page that a second gateway confirms of a call of a first is a page that the first confirmed and emitted there, in order.
-use Rattle.std.proofs.Common.{◌≡◌, ℕ, zero, suc, ◌<◌, ◌≤◌, false, inl, inr, List, [], ◌∷◌, ◌++◌, length, map, reverse, slice_get, Option, Some, None, refl, ◌∙◌, ap, subst, arith}
+use Rattle.std.proofs.Common.{◌≡◌, ℕ, zero, suc, ◌<◌, ◌≤◌, Bool, true, false, inl, inr, List, [], ◌∷◌, ◌++◌, length, map, reverse, slice_get, Option, Some, None, refl, sym, ◌∙◌, ap, subst, arith}
 use Rattle.std.specs.Prelude.{IfSome, Contains}
 use Rattle.std.specs.List.{list_any}
 use Rattle.fax_runcodes.specs.declared.format.Format.{Format}
@@ -37,11 +37,13 @@ use Rattle.fax_gateway.specs.CalledLegs.{CalledLeg, begun_core}
 use Rattle.fax_gateway.specs.Forwards.{WasConfirmed}
 use Rattle.fax_gateway.specs.Sides.{book_of, sides}
 use Rattle.fax_gateway.specs.Told.{leg_marks}
-use Rattle.fax_gateway.specs.Chain.{IsOfTheFirst, history_of, is_begin, IsRelayed, RelaysBy, Relays, ChainsRelay}
+use Rattle.fax_gateway.specs.CallingLegs.{CallingLeg}
+use Rattle.fax_gateway.specs.Chain.{HasNoEom, IsJoined, IsOfTheFirst, history_of, is_begin, IsRelayed, RelaysBy, Relays, ChainsRelay}
 use Rattle.fax_gateway.proofs.Chained.{call_packets, KeptLeg, kept_leg, chains_hear}
 use Rattle.fax_gateway.proofs.Held.{page_at}
 use Rattle.fax_gateway.proofs.InCalls.{InCall, IfInCall, in_call}
 use Rattle.fax_gateway.proofs.ServedAlone.{same_page}
+use Rattle.fax_gateway.proofs.Unplaced.{as_begun, from_begun, packets_none}
 use Rattle.fax_gateway.proofs.Zeros.{zeros_mean_none}
 
 -- THE DCS UNDER WHICH THE SECOND READS was heard
@@ -146,6 +148,7 @@ place_within (p ∷ pages) (suc n) page e = let l : n ≤ length pages = place_w
 -- ONE CALL OF THE FIRST, without EOM: `old` stood before it, and its DCS have one coding
 record Call (setup : Setup) (writes : Writing) (first : List Event) (leg : CalledLeg) : Type 0 where
   are_texts : IsWriting writes
+  placed : leg.placed ≡ true
   kept : KeptLeg writes (WasConfirmed setup first) leg
   old : List Mark
   marks_are : leg_marks setup writes first ≡ marks_after writes leg.job old (begun_core leg) leg.events
@@ -157,8 +160,10 @@ Signal setup writes first leg c place octets = IsEnded (CheckOrImage writes leg.
 
 signal_is : (setup : Setup) (writes : Writing) (first : List Event) (leg : CalledLeg) (c : Call setup writes first leg) (place : ℕ) (octets : List ℕ) → signal_at (reverse leg.given) place ≡ Some octets → Signal setup writes first leg c place octets
 signal_is setup writes first leg c place octets h =
-    signal_given writes leg.job c.old leg.before leg.begun leg.events place octets c.are_texts c.kept.holds.is_job
-    (subst (λ (packets : List (List ℕ)). signal_at (reverse packets) place ≡ Some octets) c.kept.given_is h)
+    as_begun (λ (a : Calling). IsEnded (CheckOrImage writes leg.job c.old a leg.events) (call.packets_given writes leg.job a leg.events) place octets) leg c.placed
+    (signal_given writes leg.job c.old leg.before leg.begun leg.events place octets c.are_texts c.kept.holds.is_job
+    (from_begun (λ (a : Calling). signal_at (reverse (map written (call.packets_given writes leg.job a leg.events))) place ≡ Some octets) leg c.placed
+    (subst (λ (packets : List (List ℕ)). signal_at (reverse packets) place ≡ Some octets) c.kept.given_is h)))
 
 abbrev ImageOf : (setup : Setup) (writes : Writing) (first : List Event) (leg : CalledLeg) (c : Call setup writes first leg) (place : ℕ) (octets : List ℕ) → Signal setup writes first leg c place octets → Type 0
 ImageOf setup writes first leg c place octets x = Behind writes leg.job c.old (begun_core leg) leg.events x.older octets
@@ -178,7 +183,8 @@ image_relayed : (setup : Setup) (writes : Writing) (first : List Event) (leg : C
 image_relayed setup writes first leg c octets page dcs i k m =
     let f : Format = leg.job.format in
     let n : Coding = c.one.coding in
-    let own : IsOfKind f n i.dcs = image_kind (IsOfKind f n) writes leg.job c.old (begun_core leg) leg.events octets i c.one.given in
+    let own : IsOfKind f n i.dcs = image_kind (IsOfKind f n) writes leg.job c.old (begun_core leg) leg.events octets i
+    (as_begun (λ (a : Calling). EachDcs (IsOfKind f n) (call.packets_given writes leg.job a leg.events)) leg c.placed c.one.given) in
     let same : i.means.page ≡ page = same_page f n octets i.means.page page (means_as f n i.dcs octets i.means.page own i.means.means) (means_as f n dcs octets page k m) in
     let is : slice_get leg.job.pages i.page ≡ Some page = i.means.is_page ∙ ap (λ (p : PageValue). Some p) same in
     let on : MarksOn (marks_after writes leg.job c.old (begun_core leg) (i.later ++ Ticks i.now ∷ i.before)) (marks_after writes leg.job c.old (begun_core leg) (Ticks i.now ∷ i.before)) =
@@ -225,19 +231,50 @@ rises_relay setup writes first leg c (e ∷ h) bound next k f r =
     by None go r = go bound next f r
     by (Some page) go r = step setup writes first leg c h page r.0 bound next older f r.1 r.2 (λ n before. go r.0 n before r.3)
 
-pub chains_relay : ChainsRelay
-chains_relay setup other writes others first second leg l w j none =
-    let kept : KeptLeg writes (WasConfirmed setup first) leg = kept_leg setup writes first leg w j.is_first j.is_leg in
-    let hears : IsOfTheFirst leg l = chains_hear setup other writes others first second leg l w j in
+-- of a call that was placed
+relay : (setup other : Setup) (writes others : Writing) (first second : List Event) (leg : CalledLeg) (l : CallingLeg) → IsWriting writes → IsJoined setup other writes others first second leg l → HasNoEom (reverse leg.given)
+    → leg.placed ≡ true → KeptLeg writes (WasConfirmed setup first) leg → IsOfTheFirst leg l → Relays setup writes first leg (history_of l) (length leg.job.pages)
+relay setup other writes others first second leg l w j none placed kept hears =
     let i : InCall writes leg (book_of (sides setup writes first)).sending (leg_marks setup writes first) =
     subst (λ (o : Option CalledLeg). IfInCall writes o (book_of (sides setup writes first)).sending (leg_marks setup writes first)) j.is_leg (in_call setup writes first j.is_first) in
     let slots : slots_of (reverse leg.given) ≡ map Some (map written (call_packets writes leg leg.events)) =
     map_back leg.given ∙ ap (λ (packets : List (List ℕ)). let ss : List Slot = map Some packets in ss) kept.given_is in
     let one : OneKind writes leg.job leg.before leg.begun leg.events =
-    one_kind writes leg.job leg.before leg.begun leg.events w kept.holds.is_job (subst (λ (ss : List Slot). list_any is_eom_frame (pieces.pieces ss) ≡ false) slots none) in
-    let c : Call setup writes first leg = record { are_texts = w; kept = kept; old = i.old; marks_are = i.marks_are; one = one } in
+    one_kind writes leg.job leg.before leg.begun leg.events w kept.holds.is_job
+    (from_begun (λ (a : Calling). list_any is_eom_frame (pieces.pieces (map Some (map written (call.packets_given writes leg.job a leg.events)))) ≡ false) leg placed
+    (subst (λ (ss : List Slot). list_any is_eom_frame (pieces.pieces ss) ≡ false) slots none)) in
+    let c : Call setup writes first leg = record { are_texts = w; placed = placed; kept = kept; old = i.old; marks_are = i.marks_are; one = one } in
     rises_relay setup writes first leg c (history_of l) (length (reverse leg.given)) (length leg.job.pages)
     (λ octets dcs has says. one.heard octets dcs
-    (subst (λ (ss : List Slot). Contains (pieces.pieces ss) (pieces.Frame octets)) slots (hears.frames octets (contains (pieces_heard (history_of l)) octets has))) says)
+    (from_begun (λ (a : Calling). Contains (pieces.pieces (map Some (map written (call.packets_given writes leg.job a leg.events)))) (pieces.Frame octets)) leg placed
+    (subst (λ (ss : List Slot). Contains (pieces.pieces ss) (pieces.Frame octets)) slots (hears.frames octets (contains (pieces_heard (history_of l)) octets has)))) says)
     (λ place octets x b m. place_within leg.job.pages b.image.page b.image.means.page b.image.means.is_page)
     hears.signals
+
+-- a call that was not placed gave nothing, so that no page is of it
+none_rises : (setup : Setup) (writes : Writing) (first : List Event) (leg : CalledLeg) (h : List Entry) (bound next : ℕ) → bound ≡ 0
+    → Rises (reverse leg.given) h bound → Relays setup writes first leg h next
+none_rises setup writes first leg [] bound next none r = tt
+none_rises setup writes first leg (e ∷ h) bound next none r = by (page_accepted e.decision) (none_rises setup writes first leg h bound next none) r
+  where
+    by : (o : Option PageValue) → (Rises (reverse leg.given) h bound → Relays setup writes first leg h next) → RisesBy (reverse leg.given) h o bound (Rises (reverse leg.given) h)
+        → RelaysBy setup writes first leg o next (Relays setup writes first leg h)
+    by None earlier k = earlier k
+    by (Some page) earlier k = let l : k.0 < bound = k.1 in absurd (omega (arith, none, l))
+
+given_none : (writes : Writing) (leg : CalledLeg) → leg.placed ≡ false → leg.given ≡ map written (call_packets writes leg leg.events) → length (reverse leg.given) ≡ 0
+given_none writes leg unplaced given =
+    ap (λ (packets : List (List ℕ)). length (reverse packets)) (given ∙ ap (λ (packets : List Packet). map written packets) (packets_none writes leg unplaced))
+
+pub chains_relay : ChainsRelay
+chains_relay setup other writes others first second leg l w j none = by leg.placed refl
+  where
+    kept : KeptLeg writes (WasConfirmed setup first) leg
+    kept = kept_leg setup writes first leg w j.is_first j.is_leg
+
+    hears : IsOfTheFirst leg l
+    hears = chains_hear setup other writes others first second leg l w j
+
+    by : (b : Bool) → leg.placed ≡ b → Relays setup writes first leg (history_of l) (length leg.job.pages)
+    by false unplaced = none_rises setup writes first leg (history_of l) (length (reverse leg.given)) (length leg.job.pages) (given_none writes leg unplaced kept.given_is) hears.signals
+    by true placed = relay setup other writes others first second leg l w j none placed kept hears

@@ -24,7 +24,7 @@ use Rattle.fax_answer.specs.Calls.{Answering, rung, dis_reply, says_goodbye, ide
 use Rattle.fax_answer.specs.Readings.{comes_all}
 use Rattle.fax_call.specs.Emission.{ended_frame}
 use Rattle.fax_gateway.specs.Setups.{Setup}
-use Rattle.fax_gateway.specs.Events.{Event, Ring, FromCalling, FromCalled, Tick, clock}
+use Rattle.fax_gateway.specs.Events.{Event, Ring, FromCalling, FromCalled, Tick, Placed, clock}
 use Rattle.fax_gateway.specs.Legs.{new_pieces}
 use Rattle.fax_gateway.specs.CallingLegs.{CallingLeg, core_of, is_idle, answers, rung_leg, leg_with, packets_with, calling_after, calling_leg, told_by}
 use Rattle.fax_answer.specs.EachRtn.{rtn_packet}
@@ -170,6 +170,7 @@ step_neat : (setup : Setup) (o : Option CallingLeg) (now : ℕ) (e : Event) → 
 step_neat setup None now (Ring at number) n = rung_neat _ now number
 step_neat setup None now (FromCalling octets at decided read) n = tt
 step_neat setup None now (FromCalled octets at decided) n = tt
+step_neat setup None now (Placed at connected) n = tt
 step_neat setup None now (Tick at given) n = tt
 step_neat setup (Some l) now (Ring at number) n = rung_neat (core_of l) now number
 step_neat setup (Some l) now (FromCalling octets at decided read) n = by (is_idle (core_of l).state)
@@ -178,6 +179,7 @@ step_neat setup (Some l) now (FromCalling octets at decided read) n = by (is_idl
     by true = n
     by false = with_neat l now read (datagram_of octets) n
 step_neat setup (Some l) now (FromCalled octets at decided) n = n
+step_neat setup (Some l) now (Placed at connected) n = n
 step_neat setup (Some l) now (Tick at given) n =
     let t : NeatTick (answers l now) = ticked_neat (core_of l) now n.core in
     record { core = t.core; short = short_with (answers l now).given l.given t.given n.short }

@@ -1,5 +1,5 @@
 -- Each report is of the job that was being sent, and tells what was delivered of it.
-use Rattle.std.proofs.Common.{◌≡◌, ℕ, ◌≤◌, max, Bool, true, false, List, [], ◌∷◌, ◌++◌, length, Option, Some, None, option_map, refl, sym, ◌∙◌, ap, subst, arith, if◌then◌else◌}
+use Rattle.std.proofs.Common.{◌≡◌, ℕ, ◌<◌, ◌≤◌, max, Bool, true, false, List, [], ◌∷◌, ◌++◌, inl, length, Option, Some, None, option_map, refl, sym, ◌∙◌, ap, subst, arith, if◌then◌else◌}
 use Rattle.fax_frames.specs.declared.frame.Frame.{Frame}
 use Rattle.fax_frames.specs.declared.frame.Frame.TheVariants as frames
 use Rattle.fax_frames.specs.Frames.{frame_of}
@@ -8,6 +8,7 @@ use Rattle.fax_ifp.specs.Packets.{packet_of}
 use Rattle.fax_ifp.specs.Pieces as pieces
 use Rattle.fax_pagestore.specs.Pages.{PageValue}
 use Rattle.fax_jobs.specs.declared.outcome.Outcome.{Outcome}
+use Rattle.fax_jobs.specs.declared.outcome.Outcome.TheVariants.{NotPlaced}
 use Rattle.fax_jobs.specs.declared.report.Report.{Report}
 use Rattle.fax_jobs.specs.Jobs.{JobValue, IsJob}
 use Rattle.fax_jobs.specs.Books.{Book, report_of}
@@ -15,7 +16,7 @@ use Rattle.fax_call.specs.declared.state.State.{State}
 use Rattle.fax_call.specs.declared.state.State.TheVariants.{Idle, AwaitDis, AwaitCfr, AwaitMcf, Closing}
 use Rattle.fax_call.specs.Writings.{Writing, IsWriting}
 use Rattle.fax_call.specs.Replies.{Packet, written}
-use Rattle.fax_call.specs.Calls.{Calling, ticked, CallEvent, Comes, Ticks, after_events}
+use Rattle.fax_call.specs.Calls.{Calling, not_placed, Ticked, ticked, CallEvent, Comes, Ticks, after_events}
 use Rattle.fax_call.specs.Emission.{Mark, Gave, Acknowledged, Refused, Begins, gave_all, elements_given, acknowledged_by, marks_heard, marks_given, marks_after}
 use Rattle.fax_call.specs.Delivery.{is_over, marks_until_over, IsTold}
 use Rattle.fax_call.proofs.Told.{tells_what_was_answered}
@@ -28,6 +29,7 @@ use Rattle.fax_gateway.specs.ReportsTold.{AreHeard, IsReported, ReportsTheJob}
 use Rattle.fax_gateway.proofs.Held.{IfHolds, held}
 use Rattle.fax_gateway.proofs.Confirmed.{tick_holds}
 use Rattle.fax_gateway.proofs.InCalls.{InCall, IfInCall, before_call, in_call}
+use Rattle.fax_gateway.proofs.Unplaced.{as_begun, begun_unplaced, from_begun, stays_over, ticks_over}
 
 -- what a call heard and gave behind its end
 abbrev NoBegins : List Mark → Type 0
@@ -112,6 +114,77 @@ ended_so false o outcome e = cc
 same_outcome : (o : Option Outcome) (x y : Outcome) → o ≡ Some x → o ≡ Some y → x ≡ y
 same_outcome o x y e f = let q : Some x ≡ Some y = sym e ∙ f in cc
 
+-- what is told of a call that is over, whether it was placed or not
+abbrev ToldIn : Writing → CalledLeg → List Mark → List CallEvent → Calling → Type 0
+ToldIn writes l old events a =
+    let over : Calling = after_events writes l.job a events in
+    let marks : List Mark = marks_until_over writes l.job old a events in
+    (outcome : Outcome) × (over.outcome ≡ Some outcome) × IsTold l.job outcome over.counts.delivered events marks × (elements_given (marks_after writes l.job old a events) ≡ elements_given marks)
+
+-- one that was not placed gave nothing, and nothing was heard in it while it was on
+none_until : (writes : Writing) (a : Calling) (job : JobValue) (old : List Mark) (events : List CallEvent) → marks_until_over writes job old (not_placed a job) events ≡ Begins ∷ old
+none_until writes a job old [] = refl
+none_until writes a job old (e ∷ before) =
+    ap (λ (c : Calling). if◌then◌else◌ {A = List Mark} (is_over c.state) (marks_until_over writes job old (not_placed a job) before) (marks_after writes job old (not_placed a job) (e ∷ before))) (stays_over writes a job before)
+    ∙ none_until writes a job old before
+
+heard_gives_none : (p : pieces.Piece) (marks : List Mark) → elements_given (marks_heard p marks) ≡ elements_given marks
+heard_gives_none (pieces.Frame octets) marks = by (frame_of octets)
+  where
+    by : (o : Option Frame) → elements_given (acknowledged_by o marks) ≡ elements_given marks
+    by None = refl
+    by (Some frames.Mcf) = refl
+    by (Some frames.Rtp) = refl
+    by (Some frames.Rtn) = refl
+    by (Some frame) = refl
+heard_gives_none (pieces.Start kind) marks = refl
+heard_gives_none (pieces.Octets octets) marks = refl
+heard_gives_none (pieces.End whole) marks = refl
+heard_gives_none pieces.Gap marks = refl
+
+none_after : (writes : Writing) (a : Calling) (job : JobValue) (old : List Mark) (events : List CallEvent) → elements_given (marks_after writes job old (not_placed a job) events) ≡ elements_given (Begins ∷ old)
+none_after writes a job old [] = refl
+none_after writes a job old (Comes piece now ∷ before) = heard_gives_none piece (marks_after writes job old (not_placed a job) before) ∙ none_after writes a job old before
+none_after writes a job old (Ticks now ∷ before) =
+    ap (λ (c : Calling). elements_given (marks_given (ticked writes job c now).given (marks_after writes job old (not_placed a job) before))) (stays_over writes a job before)
+    ∙ ap (λ (t : Ticked). elements_given (marks_given t.given (marks_after writes job old (not_placed a job) before))) (ticks_over writes a job now)
+    ∙ none_after writes a job old before
+
+some_pages : (job : JobValue) → IsJob job → 0 ≡ length job.pages → ⊥
+some_pages job is e = let some : 0 < length job.pages = is.some in omega (arith, some, e)
+
+unplaced_told : (writes : Writing) (l : CalledLeg) (old : List Mark) (events : List CallEvent) → IsJob l.job → ToldIn writes l old events (not_placed l.before l.job)
+unplaced_told writes l old events is =
+    let a : Calling = not_placed l.before l.job in
+    let begins : IsTold l.job NotPlaced 0 events (Begins ∷ old) =
+    record {
+      last = None;
+      emits = tt;
+      behind = refl;
+      counts = inl refl;
+      pages = inl refl;
+      asks = inl tt;
+      most = omega arith;
+      all_if = λ e. cc;
+      if_all = λ e. absurd (some_pages l.job is e);
+    } in
+    let until = sym (none_until writes l.before l.job old events) in (
+      NotPlaced,
+      ap (λ (c : Calling). c.outcome) (stays_over writes l.before l.job events),
+      subst (λ (marks : List Mark). IsTold l.job NotPlaced (after_events writes l.job a events).counts.delivered events marks) until
+      (subst (λ (c : Calling). IsTold l.job NotPlaced c.counts.delivered events (Begins ∷ old)) (sym (stays_over writes l.before l.job events)) begins),
+      none_after writes l.before l.job old events ∙ ap elements_given until,
+    )
+
+told_in : (writes : Writing) (l : CalledLeg) (old : List Mark) (events : List CallEvent) → IsWriting writes → IsJob l.job → (after_events writes l.job (begun_core l) events).state ≡ Idle → ToldIn writes l old events (begun_core l)
+told_in writes l old events w is over = by l.placed refl
+  where
+    by : (b : Bool) → l.placed ≡ b → ToldIn writes l old events (begun_core l)
+    by true placed =
+        as_begun (ToldIn writes l old events) l placed
+        (tells_what_was_answered writes l.job old l.before l.begun events w is (from_begun (λ (a : Calling). (after_events writes l.job a events).state ≡ Idle) l placed over))
+    by false unplaced = subst (ToldIn writes l old events) (sym (begun_unplaced l unplaced)) (unplaced_told writes l old events is)
+
 -- the call of the job ends in this tick
 ends_here : (writes : Writing) (now : ℕ) (l : CalledLeg) (book : Book) (after : Option JobValue) (marks : List Mark) (outcome : Outcome) → IsWriting writes → IsJob l.job → book.sending ≡ Some l.job →
     InCall writes (with_tick (calls writes l now) now l) after marks → outcome_of (calls writes l now).core ≡ Some outcome →
@@ -120,7 +193,7 @@ ends_here writes now l book after marks outcome w is s i e =
     let core : Calling = (calls writes l now).core in
     let events : List CallEvent = Ticks now ∷ l.events in
     let p = ended_so (is_over core.state) core.outcome outcome e in
-    let r = tells_what_was_answered writes l.job i.old l.before l.begun events w is (over_idle core.state p.0) in
+    let r = told_in writes l i.old events w is (over_idle core.state p.0) in
     let until : List Mark = marks_until_over writes l.job i.old (begun_core l) events in
     let b : Behind until (marks_after writes l.job i.old (begun_core l) events) = behind_end writes l.job i.old (begun_core l) events in
     record {

@@ -35,7 +35,7 @@ use Rattle.fax_gateway.specs.Reports.{job_sent}
 use Rattle.fax_gateway.specs.Turns.{IsRefusedAt, call_if, given_up_at, kept_at, kept_if}
 use Rattle.fax_gateway.specs.Reached.{Begins, CallingValue, GatewayValue, IsCalled, IsCalling, IsLeg, IsReachedBy, TicksOn, answering_of, closed_if, confirmed_if, confirmed_on, ended_if, ended_on, given_shown, outcome_kept, report_if, ticked_on}
 use Rattle.fax_gateway.specs.Due.{call_due, called_due, calling_due, due_at, job_due, nothing_given}
-use Rattle.fax_gateway.proofs.Ticking.{IsHeard, Served, job_is, same_served, sent_off, sent_on, serves_off, serves_on, ticks}
+use Rattle.fax_gateway.proofs.Ticking.{IsHeard, Served, job_is, same_served, sent_off, sent_on, serves_at_rest, serves_off, serves_on, ticks}
 
 -- ---- THE CALLING LEG
 
@@ -124,15 +124,15 @@ no_outcome setup writes l now side e r =
 
 -- ---- while no job is sent
 
-free_due : (writes : Writing) (leg : Option CalledLeg) (waiting : List JobValue) → is_free leg ≡ true → called_due writes leg waiting ≡ job_due waiting
-free_due writes None waiting e = refl
-free_due writes (Some l) waiting e = ap (λ (b : Bool). if b then job_due waiting else call_due (core_of writes l)) e
+free_due : (asks : Bool) (writes : Writing) (leg : Option CalledLeg) (waiting : List JobValue) → is_free leg ≡ true → called_due asks writes leg waiting ≡ job_due asks waiting
+free_due asks writes None waiting e = refl
+free_due asks writes (Some l) waiting e = ap (λ (b : Bool). if b then job_due asks waiting else call_due (core_of writes l)) e
 
-on_due : (writes : Writing) (leg : Option CalledLeg) (l : CalledLeg) (waiting : List JobValue) → leg ≡ Some l → l.entered ≡ false → called_due writes leg waiting ≡ call_due (core_of writes l)
-on_due writes leg l waiting is e =
-    ap (λ (x : Option CalledLeg). called_due writes x waiting) is ∙ ap (λ (b : Bool). if b then job_due waiting else call_due (core_of writes l)) e
+on_due : (asks : Bool) (writes : Writing) (leg : Option CalledLeg) (l : CalledLeg) (waiting : List JobValue) → leg ≡ Some l → l.entered ≡ false → called_due asks writes leg waiting ≡ call_due (core_of writes l)
+on_due asks writes leg l waiting is e =
+    ap (λ (x : Option CalledLeg). called_due asks writes x waiting) is ∙ ap (λ (b : Bool). if b then job_due asks waiting else call_due (core_of writes l)) e
 
-none_waits : (waiting : List JobValue) (now : ℕ) → is_due (job_due waiting) now ≡ false → waiting ≡ []
+none_waits : (waiting : List JobValue) (now : ℕ) → is_due (job_due false waiting) now ≡ false → waiting ≡ []
 none_waits [] now e = refl
 none_waits (job ∷ jobs) now e = let k : true ≡ false = sym (from_the_first now) ∙ e in cc
 
@@ -152,7 +152,7 @@ heard_same setup trace now old fits e =
     ∙ ap (λ (o : Option ConfirmedPage). confirmed_if n o old.book) (leg_confirms setup leg now fits e))
 
 served : (setup : Setup) (writes : Writing) (trace : List Event) (at : ℕ) (old : GatewayValue) → IsReachedBy setup writes trace old → max at (clock trace) < 2 ^ 64
-    → is_due (calling_due setup (calling_leg setup trace)) (max at (clock trace)) ≡ false → is_due (called_due writes (sides setup writes trace).leg (book_of (sides setup writes trace)).waiting) (max at (clock trace)) ≡ false
+    → is_due (calling_due setup (calling_leg setup trace)) (max at (clock trace)) ≡ false → is_due (called_due setup.asks writes (sides setup writes trace).leg (book_of (sides setup writes trace)).waiting) (max at (clock trace)) ≡ false
     → Served setup writes (max at (clock trace)) (in_tick setup writes trace at) old.called None None old.book
 served setup writes trace at old r fits calling called = by old.book.sending refl
   where
@@ -172,7 +172,7 @@ served setup writes trace at old r fits calling called = by old.book.sending ref
     leg = (sides setup writes trace).leg
 
     call_at : (l : CalledLeg) → leg ≡ Some l → l.entered ≡ false → is_due (call_due (core_of writes l)) now ≡ false
-    call_at l is on = subst (λ (x : Option ℕ). is_due x now ≡ false) (on_due writes leg l (book_of (sides setup writes trace)).waiting is on) called
+    call_at l is on = subst (λ (x : Option ℕ). is_due x now ≡ false) (on_due setup.asks writes leg l (book_of (sides setup writes trace)).waiting is on) called
 
     over : (x : Option CalledLeg) (job : JobValue) → leg ≡ x → job_sent x ≡ Some job → IsCalled setup writes x old.called → o ≡ None
     over None job is e k = cc
@@ -181,10 +181,22 @@ served setup writes trace at old r fits calling called = by old.book.sending ref
     free : old.book.sending ≡ None → is_free leg ≡ true
     free none = sent_off leg (job_is setup writes trace old r ∙ none)
 
-    empty : old.book.sending ≡ None → old.book.waiting ≡ []
-    empty none =
+    empty : setup.asks ≡ false → old.book.sending ≡ None → old.book.waiting ≡ []
+    empty asks none =
         ap (λ (b : Book). b.waiting) r.book
-        ∙ none_waits (book_of (sides setup writes trace)).waiting now (subst (λ (x : Option ℕ). is_due x now ≡ false) (free_due writes leg (book_of (sides setup writes trace)).waiting (free none)) called)
+        ∙ none_waits (book_of (sides setup writes trace)).waiting now
+        (subst (λ (b : Bool). is_due (job_due b (book_of (sides setup writes trace)).waiting) now ≡ false) asks
+        (subst (λ (x : Option ℕ). is_due x now ≡ false) (free_due setup.asks writes leg (book_of (sides setup writes trace)).waiting (free none)) called))
+
+    at_rest : (b : Bool) → setup.asks ≡ b → old.book.sending ≡ None → Served setup writes now (in_tick setup writes trace at) old.called None None old.book
+    at_rest true asks e = serves_at_rest setup writes trace at old old.book asks r e heard
+    at_rest false asks e =
+        let b : Book = old.book in
+        let no : b.waiting ≡ [] = empty asks e in
+        same_served setup writes now (in_tick setup writes trace at) (in_tick setup writes trace at) old.called None (report_if (taken b).sending o d) None (ended_if (taken b).sending o d (taken b)) b refl
+        (sym (ap (λ (ws : List JobValue). report_if (first_of ws) o d) no)) (sym (ap (λ (ws : List JobValue). ended_if (first_of ws) o d (taken b)) no ∙ none_taken b no e))
+        (serves_off setup writes trace at old old.called None b asks r e heard
+        (subst (λ (ws : List JobValue). Begins setup writes leg (first_of ws) now None old.called old.called) (sym no) (refl, refl)))
 
     by : (s : Option JobValue) → old.book.sending ≡ s → Served setup writes now (in_tick setup writes trace at) old.called None None old.book
     by (Some job) e =
@@ -192,20 +204,14 @@ served setup writes trace at old r fits calling called = by old.book.sending ref
         same_served setup writes now (in_tick setup writes trace at) (in_tick setup writes trace at) old.called None (report_if (Some job) o d) None (ended_if (Some job) o d old.book) old.book refl
         (sym (ap (λ (x : Option Outcome). report_if (Some job) x d) none)) (sym (ap (λ (x : Option Outcome). ended_if (Some job) x d old.book) none))
         (serves_on setup writes trace at old job old.called None old.book r e heard (λ l is on same k. call_rests setup writes l now old.called fits (call_at l is on) k))
-    by None e =
-        let b : Book = old.book in
-        let no : b.waiting ≡ [] = empty e in
-        same_served setup writes now (in_tick setup writes trace at) (in_tick setup writes trace at) old.called None (report_if (taken b).sending o d) None (ended_if (taken b).sending o d (taken b)) b refl
-        (sym (ap (λ (ws : List JobValue). report_if (first_of ws) o d) no)) (sym (ap (λ (ws : List JobValue). ended_if (first_of ws) o d (taken b)) no ∙ none_taken b no e))
-        (serves_off setup writes trace at old old.called None b r e heard
-        (subst (λ (ws : List JobValue). Begins setup writes leg (first_of ws) now None old.called old.called) (sym no) (refl, refl)))
+    by None e = at_rest setup.asks refl e
 
 pub rests : (setup : Setup) (writes : Writing) (trace : List Event) (at : ℕ) (old : GatewayValue) → IsReachedBy setup writes trace old → max at (clock trace) < 2 ^ 64
     → is_due (due_at setup writes trace) (max at (clock trace)) ≡ false → IsReachedBy setup writes (Tick at (given_shown nothing_given) ∷ trace) (record old { clock = max at old.clock })
 rests setup writes trace at old r fits e =
     let now : ℕ = max at (clock trace) in
     let leg : Option CallingLeg = calling_leg setup trace in
-    let two = neither (calling_due setup leg) (called_due writes (sides setup writes trace).leg (book_of (sides setup writes trace)).waiting) now e in
+    let two = neither (calling_due setup leg) (called_due setup.asks writes (sides setup writes trace).leg (book_of (sides setup writes trace)).waiting) now e in
     ticks setup writes trace at (given_shown nothing_given) old (record old { clock = max at old.clock }) r refl refl refl
     (leg_rests setup leg now old.calling fits two.0 r.calling) (sym (leg_tells setup leg now fits two.0))
     (served setup writes trace at old r fits two.0 two.1)
@@ -213,17 +219,17 @@ rests setup writes trace at old r fits e =
 pub keeps_none : (setup : Setup) (writes : Writing) (trace : List Event) (now : ℕ) → now < 2 ^ 64 → is_due (due_at setup writes trace) now ≡ false → None ≡ kept_at (calling_leg setup trace) now
 keeps_none setup writes trace now fits e =
     let leg : Option CallingLeg = calling_leg setup trace in
-    sym (leg_keeps setup leg now fits (neither (calling_due setup leg) (called_due writes (sides setup writes trace).leg (book_of (sides setup writes trace)).waiting) now e).0)
+    sym (leg_keeps setup leg now fits (neither (calling_due setup leg) (called_due setup.asks writes (sides setup writes trace).leg (book_of (sides setup writes trace)).waiting) now e).0)
 
 pub refuses_none : (setup : Setup) (writes : Writing) (trace : List Event) (now : ℕ) → now < 2 ^ 64 → is_due (due_at setup writes trace) now ≡ false → IsRefusedAt (calling_leg setup trace) now None
 refuses_none setup writes trace now fits e =
     let leg : Option CallingLeg = calling_leg setup trace in
-    leg_refuses setup leg now fits (neither (calling_due setup leg) (called_due writes (sides setup writes trace).leg (book_of (sides setup writes trace)).waiting) now e).0
+    leg_refuses setup leg now fits (neither (calling_due setup leg) (called_due setup.asks writes (sides setup writes trace).leg (book_of (sides setup writes trace)).waiting) now e).0
 
 pub gives_none_up : (setup : Setup) (writes : Writing) (trace : List Event) (now : ℕ) → now < 2 ^ 64 → is_due (due_at setup writes trace) now ≡ false → None ≡ given_up_at (calling_leg setup trace) now
 gives_none_up setup writes trace now fits e =
     let leg : Option CallingLeg = calling_leg setup trace in
-    sym (leg_gives_up setup leg now fits (neither (calling_due setup leg) (called_due writes (sides setup writes trace).leg (book_of (sides setup writes trace)).waiting) now e).0)
+    sym (leg_gives_up setup leg now fits (neither (calling_due setup leg) (called_due setup.asks writes (sides setup writes trace).leg (book_of (sides setup writes trace)).waiting) now e).0)
 
 -- ---- what is kept tells when that is
 
@@ -236,26 +242,31 @@ due_on setup writes l side r e =
     ap (λ (o : Option Outcome). if is_some o then Some 0 else call_due_at.due_at (core_of writes l)) (e ∙ outcome_is_kept setup writes l side r)
 
 pub due_sent : (setup : Setup) (writes : Writing) (trace : List Event) (old : GatewayValue) (job : JobValue) (due : Option ℕ) → IsReachedBy setup writes trace old → old.book.sending ≡ Some job
-    → ((l : CalledLeg) → IsCalled setup writes (Some l) old.called → due ≡ call_due (core_of writes l)) → due ≡ called_due writes (sides setup writes trace).leg (book_of (sides setup writes trace)).waiting
+    → ((l : CalledLeg) → IsCalled setup writes (Some l) old.called → due ≡ call_due (core_of writes l)) → due ≡ called_due setup.asks writes (sides setup writes trace).leg (book_of (sides setup writes trace)).waiting
 due_sent setup writes trace old job due r sends f = by (sides setup writes trace).leg (job_is setup writes trace old r ∙ sends) r.called
   where
-    by : (leg : Option CalledLeg) → job_sent leg ≡ Some job → IsCalled setup writes leg old.called → due ≡ called_due writes leg (book_of (sides setup writes trace)).waiting
+    by : (leg : Option CalledLeg) → job_sent leg ≡ Some job → IsCalled setup writes leg old.called → due ≡ called_due setup.asks writes leg (book_of (sides setup writes trace)).waiting
     by None e k = cc
-    by (Some l) e k = f l k ∙ sym (on_due writes (Some l) l (book_of (sides setup writes trace)).waiting refl (sent_on l.entered l.job job e).0)
+    by (Some l) e k = f l k ∙ sym (on_due setup.asks writes (Some l) l (book_of (sides setup writes trace)).waiting refl (sent_on l.entered l.job job e).0)
 
 pub due_free : (setup : Setup) (writes : Writing) (trace : List Event) (old : GatewayValue) (due : Option ℕ) → IsReachedBy setup writes trace old → old.book.sending ≡ None
-    → due ≡ job_due old.book.waiting → due ≡ called_due writes (sides setup writes trace).leg (book_of (sides setup writes trace)).waiting
+    → due ≡ job_due setup.asks old.book.waiting → due ≡ called_due setup.asks writes (sides setup writes trace).leg (book_of (sides setup writes trace)).waiting
 due_free setup writes trace old due r none is =
-    is ∙ ap (λ (b : Book). job_due b.waiting) r.book
-    ∙ sym (free_due writes (sides setup writes trace).leg (book_of (sides setup writes trace)).waiting (sent_off (sides setup writes trace).leg (job_is setup writes trace old r ∙ none)))
+    is ∙ ap (λ (b : Book). job_due setup.asks b.waiting) r.book
+    ∙ sym (free_due setup.asks writes (sides setup writes trace).leg (book_of (sides setup writes trace)).waiting (sent_off (sides setup writes trace).leg (job_is setup writes trace old r ∙ none)))
 
-pub none_due : (waiting : List JobValue) → length waiting ≡ 0 → None ≡ job_due waiting
+pub none_due : (waiting : List JobValue) → length waiting ≡ 0 → None ≡ job_due false waiting
 none_due [] e = refl
 none_due (job ∷ jobs) e = absurd (omega (arith, e))
 
-pub some_due : (waiting : List JobValue) → (length waiting ≡ 0 → ⊥) → Some 0 ≡ job_due waiting
+pub some_due : (waiting : List JobValue) → (length waiting ≡ 0 → ⊥) → Some 0 ≡ job_due false waiting
 some_due [] n = absurd (n refl)
 some_due (job ∷ jobs) n = refl
+
+-- where calls are asked for, none that waits is due
+pub asked_due : (waiting : List JobValue) → None ≡ job_due true waiting
+asked_due [] = refl
+asked_due (job ∷ jobs) = refl
 
 -- ---- whether that has come
 

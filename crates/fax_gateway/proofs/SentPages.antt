@@ -23,7 +23,7 @@ use Rattle.fax_answer.specs.Sent.{pieces_heard, page_accepted, RisesBy, Rises}
 use Rattle.fax_answer.proofs.Confirmations.{ticked_history}
 use Rattle.fax_answer.proofs.Rising.{confirms_signals}
 use Rattle.fax_gateway.specs.Setups.{Setup}
-use Rattle.fax_gateway.specs.Events.{Event, Ring, FromCalling, FromCalled, Tick, clock}
+use Rattle.fax_gateway.specs.Events.{Event, Ring, FromCalling, FromCalled, Tick, Placed, clock}
 use Rattle.fax_gateway.specs.Legs.{new_pieces}
 use Rattle.fax_gateway.specs.CallingLegs.{CallingLeg, core_of, is_idle, leg_with, calling_after, calling_leg}
 use Rattle.fax_gateway.specs.Sent as sent
@@ -83,6 +83,8 @@ step_heard setup (Some l) now (FromCalling octets at decided read) h = by (is_id
     by false = leg_heard l now read (datagram_of octets) h
 step_heard setup None now (FromCalled octets at decided) h = tt
 step_heard setup (Some l) now (FromCalled octets at decided) h = h
+step_heard setup None now (Placed at connected) h = tt
+step_heard setup (Some l) now (Placed at connected) h = h
 step_heard setup None now (Tick at given) h = tt
 step_heard setup (Some l) now (Tick at given) h = ap pieces_heard (ticked_history (core_of l) now) ∙ h
 

@@ -14,7 +14,7 @@ use Rattle.fax_answer.specs.Table.{Reading, Question}
 use Rattle.fax_answer.specs.Confirmation.{IsRead}
 use Rattle.fax_call.specs.Writings.{Writing}
 use Rattle.fax_gateway.specs.Setups.{Setup}
-use Rattle.fax_gateway.specs.Events.{Event, Ring, FromCalling, FromCalled, Tick, Given, clock, rings}
+use Rattle.fax_gateway.specs.Events.{Event, Ring, FromCalling, FromCalled, Tick, Placed, Given, clock, rings}
 use Rattle.fax_gateway.specs.CallingLegs.{CallingLeg, calling_leg, calling_after, decided_calling, told_calling, question}
 use Rattle.fax_gateway.specs.Traces.{IsTrace}
 use Rattle.fax_gateway.specs.Alone.{Heard, Rang, Came, Ticked, calling_part, CallingAnswer, Numbers, Decides, Gives, calling_answers, IsServedAlone}
@@ -29,6 +29,7 @@ abbrev known_with : Event → ℕ → List Known → List Known
 known_with (Ring at n) now part = RangAt now ∷ part
 known_with (FromCalling octets at decided read) now part = CameAt octets now read ∷ part
 known_with (FromCalled octets at decided) now part = part
+known_with (Placed at connected) now part = part
 known_with (Tick at given) now part = TickedAt now ∷ part
 
 abbrev known_part : List Event → List Known
@@ -46,6 +47,7 @@ forget_is [] = refl
 forget_is (Ring at n ∷ earlier) = ap (λ (p : List Heard). Rang (clock (Ring at n ∷ earlier)) ∷ p) (forget_is earlier)
 forget_is (FromCalling octets at d read ∷ earlier) = ap (λ (p : List Heard). Came octets (clock (FromCalling octets at d read ∷ earlier)) ∷ p) (forget_is earlier)
 forget_is (FromCalled octets at d ∷ earlier) = forget_is earlier
+forget_is (Placed at c ∷ earlier) = forget_is earlier
 forget_is (Tick at g ∷ earlier) = ap (λ (p : List Heard). Ticked (clock (Tick at g ∷ earlier)) ∷ p) (forget_is earlier)
 
 -- rings are numbered by those before them
@@ -60,6 +62,7 @@ rings_are [] = refl
 rings_are (Ring at n ∷ earlier) = ap (λ (k : ℕ). k + 1) (rings_are earlier)
 rings_are (FromCalling octets at d read ∷ earlier) = rings_are earlier
 rings_are (FromCalled octets at d ∷ earlier) = rings_are earlier
+rings_are (Placed at c ∷ earlier) = rings_are earlier
 rings_are (Tick at g ∷ earlier) = rings_are earlier
 
 -- the leg
@@ -85,6 +88,7 @@ if_rings : (setup : Setup) (writes : Writing) (e : Event) (earlier : List Event)
 if_rings setup writes (Ring at n) earlier t = t.0.0 ∙ rings_are earlier
 if_rings setup writes (FromCalling octets at d read) earlier t = tt
 if_rings setup writes (FromCalled octets at d) earlier t = tt
+if_rings setup writes (Placed at c) earlier t = tt
 if_rings setup writes (Tick at g) earlier t = tt
 
 ring_is : (setup : Setup) (o : Option CallingLeg) (now at m n : ℕ) → m ≡ n → calling_after setup o now (Ring at m) ≡ calling_after setup o now (Ring now n)
@@ -97,6 +101,8 @@ step_is setup None part (FromCalling octets at d read) now r h = ap (λ (o : Opt
 step_is setup (Some l) part (FromCalling octets at d read) now r h = ap (λ (o : Option CallingLeg). calling_after setup o now (FromCalling octets now true read)) h
 step_is setup None part (FromCalled octets at d) now r h = h
 step_is setup (Some l) part (FromCalled octets at d) now r h = h
+step_is setup None part (Placed at c) now r h = h
+step_is setup (Some l) part (Placed at c) now r h = h
 step_is setup None part (Tick at g) now r h = ap (λ (o : Option CallingLeg). calling_after setup o now (Tick now (record { on_calling = None; on_called = None; report = None }))) h
 step_is setup (Some l) part (Tick at g) now r h = ap (λ (o : Option CallingLeg). calling_after setup o now (Tick now (record { on_calling = None; on_called = None; report = None }))) h
 
@@ -117,6 +123,7 @@ are_known setup writes (Ring at n ∷ earlier) t = are_known setup writes earlie
 are_known setup writes (FromCalling octets at d read ∷ earlier) t =
     (subst (λ (o : Option CallingLeg). IsRead (question o (clock (FromCalling octets at d read ∷ earlier)) octets) read) (leg_is setup writes earlier t.1) t.0.1, are_known setup writes earlier t.1)
 are_known setup writes (FromCalled octets at d ∷ earlier) t = are_known setup writes earlier t.1
+are_known setup writes (Placed at c ∷ earlier) t = are_known setup writes earlier t.1
 are_known setup writes (Tick at g ∷ earlier) t = are_known setup writes earlier t.1
 
 is_width : (width : Width) → IsWidth (elements_of width)
@@ -191,6 +198,7 @@ answers_are setup writes (FromCalling octets at d read ∷ earlier) t =
     ap (λ (x : Bool). Decides x ∷ calling_answers earlier) (t.0.0 ∙ ap (λ (o : Option CallingLeg). decided_calling o octets) (leg_is setup writes earlier t.1))
     ∙ ap (λ (xs : List CallingAnswer). Decides (decided_calling (leg_of setup (known_part earlier)) octets) ∷ xs) (answers_are setup writes earlier t.1)
 answers_are setup writes (FromCalled octets at d ∷ earlier) t = answers_are setup writes earlier t.1
+answers_are setup writes (Placed at c ∷ earlier) t = answers_are setup writes earlier t.1
 answers_are setup writes (Tick at g ∷ earlier) t =
     let now : ℕ = clock (Tick at g ∷ earlier) in
     ap (λ (x : Option (List ℕ)). Gives x ∷ calling_answers earlier) (ap (λ (y : Given). y.on_calling) t.0 ∙ ap (λ (o : Option CallingLeg). told_calling setup o now) (leg_is setup writes earlier t.1))

@@ -1,5 +1,5 @@
 -- What a side makes of a tick, and of the call that begins.
-use Rattle.std.proofs.Common.{◌≡◌, ℕ, List, [], length, Option, Some, None, option_map, refl, sym, ◌∙◌, ap, subst}
+use Rattle.std.proofs.Common.{◌≡◌, ℕ, false, List, [], length, Option, Some, None, option_map, refl, sym, ◌∙◌, ap, subst}
 use Rattle.fax_udptl.specs.Datagrams.{DatagramValue}
 use Rattle.fax_udptl.specs.Slots.{slots, newest_slots}
 use Rattle.fax_ifp.specs.Elements.{Slot}
@@ -14,7 +14,7 @@ use Rattle.fax_answer.specs.Refusals.{TellsWhy}
 use Rattle.fax_answer.specs.Shown.{IsStep, packet_in, confirmed_in, confirmed_shown}
 use Rattle.fax_call.specs.Writings.{Writing}
 use Rattle.fax_call.specs.Replies.{Packet, written}
-use Rattle.fax_call.specs.Calls.{Calling, new_calling, started, Ticked, ticked}
+use Rattle.fax_call.specs.Calls.{Calling, new_calling, not_placed, started, Ticked, ticked}
 use Rattle.fax_call.specs.Reached as call
 use Rattle.fax_gateway.specs.Setups.{Setup}
 use Rattle.fax_gateway.specs.declared.leg.Leg.{Leg}
@@ -22,7 +22,7 @@ use Rattle.fax_gateway.specs.declared.called.CalledSide.{CalledSide}
 use Rattle.fax_gateway.specs.CallingLegs as calling_legs
 use Rattle.fax_gateway.specs.CallingLegs.{CallingLeg, packets_with, confirmed_by}
 use Rattle.fax_gateway.specs.CalledLegs as called_legs
-use Rattle.fax_gateway.specs.CalledLegs.{CalledLeg, core_of, core_left, begun_leg, calls, packets_given, with_tick}
+use Rattle.fax_gateway.specs.CalledLegs.{CalledLeg, core_of, core_left, begun_leg, placed_leg, calls, packets_given, with_tick}
 use Rattle.fax_gateway.specs.Reached.{IsLeg, sent_if, given_with, CallingValue, IsCalling, ticked_on, TellsTick, IsCaller, IsCalledLeg, IsCalled, TicksOn}
 
 -- a leg gives a packet, where there is one
@@ -112,6 +112,20 @@ caller_starts : (setup : Setup) (writes : Writing) (leg : Option CalledLeg) (old
     → IsCaller setup writes leg old → call.IsReached writes job [] (started (core_left setup writes leg) job now) new
 caller_starts setup writes None old new job format pages now same count f r = f writes writes job job [] (new_calling setup.pause old.procedure.format) (r job) (sym same) (sym count)
 caller_starts setup writes (Some l) old new job format pages now same count f r = f writes writes job l.job (newest_slots l.arrived) (core_of writes l) r (sym same) (sym count)
+
+-- one that could not be placed is over as it begins
+caller_fails : (setup : Setup) (writes : Writing) (leg : Option CalledLeg) (old new : call.Kept) (job : JobValue) (format : Format) (pages : ℕ) → format ≡ job.format → pages ≡ length job.pages →
+    ((writes others : Writing) (job other : JobValue) (heard : List Slot) (core : Calling) → call.IsReached others other heard core old → job.format ≡ format → length job.pages ≡ pages → call.IsReached writes job [] (not_placed core job) new)
+    → IsCaller setup writes leg old → call.IsReached writes job [] (not_placed (core_left setup writes leg) job) new
+caller_fails setup writes None old new job format pages same count f r = f writes writes job job [] (new_calling setup.pause old.procedure.format) (r job) (sym same) (sym count)
+caller_fails setup writes (Some l) old new job format pages same count f r = f writes writes job l.job (newest_slots l.arrived) (core_of writes l) r (sym same) (sym count)
+
+pub side_fails : (setup : Setup) (writes : Writing) (leg : Option CalledLeg) (old new : CalledSide) (job : JobValue) (format : Format) (pages now : ℕ) → format ≡ job.format → pages ≡ length job.pages →
+    ((writes others : Writing) (job other : JobValue) (heard : List Slot) (core : Calling) → call.IsReached others other heard core old.caller → job.format ≡ format → length job.pages ≡ pages → call.IsReached writes job [] (not_placed core job) new.caller)
+    → IsLeg setup [] [] new.leg → IsCalled setup writes leg old → IsCalled setup writes (Some (placed_leg false job (core_left setup writes leg) now)) new
+unfolding newest_slots slots
+side_fails setup writes leg old new job format pages now same count f fresh r =
+    record { core = caller_fails setup writes leg old.caller new.caller job format pages same count f r.core; on_leg = fresh }
 
 pub side_starts : (setup : Setup) (writes : Writing) (leg : Option CalledLeg) (old new : CalledSide) (job : JobValue) (format : Format) (pages now : ℕ) → format ≡ job.format → pages ≡ length job.pages →
     ((writes others : Writing) (job other : JobValue) (heard : List Slot) (core : Calling) → call.IsReached others other heard core old.caller → job.format ≡ format → length job.pages ≡ pages → call.IsReached writes job [] (started core job now) new.caller)

@@ -11,10 +11,10 @@ use Rattle.fax_answer.specs.Replies.{ConfirmedPage}
 use Rattle.fax_call.specs.Writings.{Writing}
 use Rattle.fax_call.specs.Emission.{Mark}
 use Rattle.fax_gateway.specs.Setups.{Setup}
-use Rattle.fax_gateway.specs.Events.{Event, Ring, FromCalling, FromCalled, Tick, Given, clock}
+use Rattle.fax_gateway.specs.Events.{Event, Ring, FromCalling, FromCalled, Tick, Placed, Given, clock}
 use Rattle.fax_gateway.specs.CallingLegs.{CallingLeg, calling_leg, idle_after, answers, confirmed_by}
-use Rattle.fax_gateway.specs.CalledLegs.{CalledLeg, is_free, calls, outcome_of, outcome_told, delivered_told, report_by, told_report}
-use Rattle.fax_gateway.specs.Sides.{Sides, past_of, confirms_if, ends_if, heard_in_tick, sends, sends_if, enters, sides, in_tick}
+use Rattle.fax_gateway.specs.CalledLegs.{CalledLeg, calls, outcome_of, outcome_told, delivered_told, report_by, told_report}
+use Rattle.fax_gateway.specs.Sides.{Sides, begins_next, past_of, confirms_if, ends_if, heard_in_tick, sends, sends_if, enters, sides, in_tick}
 use Rattle.fax_gateway.specs.Traces.{IsTrace}
 use Rattle.fax_gateway.specs.Told.{leg_marks, marks_before}
 use Rattle.fax_gateway.specs.Reports.{report_list, reports_given, job_sent, JobsHaveStates}
@@ -39,9 +39,9 @@ heard_report (Some l) now steps =
     ends_report (answers l now).ended (confirms_if l.number (confirmed_by (answers l now).given) steps) ∙ confirms_report l.number (confirmed_by (answers l now).given) steps
 
 sends_report : (setup : Setup) (writes : Writing) (now : ℕ) (s : Sides) → reported_by (sends_if setup writes now s).steps ≡ reported_by s.steps
-sends_report setup writes now s = by (is_free s.leg)
+sends_report setup writes now s = by (begins_next setup s.leg)
   where
-    by : (b : Bool) → reported_by (if◌then◌else◌ {A = Sides} b (sends setup writes now s) s).steps ≡ reported_by s.steps
+    by : (b : Bool) → reported_by (if◌then◌else◌ {A = Sides} b (sends true setup writes now s) s).steps ≡ reported_by s.steps
     by true = refl
     by false = refl
 
@@ -75,6 +75,7 @@ reported_are setup writes (Ring at n ∷ earlier) t = reported_are setup writes 
 reported_are setup writes (FromCalling octets at decided read ∷ earlier) t =
     ends_report (not (idle_after (calling_leg setup earlier)) && idle_after (calling_leg setup (FromCalling octets at decided read ∷ earlier))) (sides setup writes earlier).steps ∙ reported_are setup writes earlier t.1
 reported_are setup writes (FromCalled octets at decided ∷ earlier) t = reported_are setup writes earlier t.1
+reported_are setup writes (Placed at connected ∷ earlier) t = reported_are setup writes earlier t.1
 reported_are setup writes (Tick at given ∷ earlier) t =
     let now : ℕ = max at (clock earlier) in
     let s : Sides = sides setup writes earlier in

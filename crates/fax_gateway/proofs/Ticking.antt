@@ -1,5 +1,5 @@
 -- A tick leads a gateway on: what the book hears of the calling leg, the job that is sent, and how the called leg is served.
-use Rattle.std.proofs.Common.{◌≡◌, ℕ, max, Bool, true, false, List, ◌∷◌, Option, Some, None, refl, sym, ◌∙◌, ap, subst, if◌then◌else◌}
+use Rattle.std.proofs.Common.{◌≡◌, ℕ, max, Bool, true, false, not, ◌&&◌, List, ◌∷◌, Option, Some, None, refl, sym, ◌∙◌, ap, subst, if◌then◌else◌}
 use Rattle.fax_jobs.specs.declared.outcome.Outcome.{Outcome}
 use Rattle.fax_jobs.specs.declared.report.Report.{Report}
 use Rattle.fax_jobs.specs.Jobs.{JobValue}
@@ -19,7 +19,7 @@ use Rattle.fax_gateway.specs.declared.called.CalledSide.{CalledSide}
 use Rattle.fax_gateway.specs.Events.{Event, Tick, Given, clock}
 use Rattle.fax_gateway.specs.CallingLegs.{CallingLeg, answers, confirmed_by, calling_after, calling_leg, told_calling}
 use Rattle.fax_gateway.specs.CalledLegs.{CalledLeg, is_free, core_left, begun_leg, calls, outcome_of, with_tick, told_by, told_called, report_by, told_report}
-use Rattle.fax_gateway.specs.Sides.{Sides, book_of, confirms_if, ends_if, heard_in_tick, leg_of, sends, enters, serves, sides, in_tick}
+use Rattle.fax_gateway.specs.Sides.{Sides, begins_next, book_of, confirms_if, ends_if, heard_in_tick, leg_of, sends, enters, serves, sides, in_tick}
 use Rattle.fax_gateway.specs.Reports.{job_sent, HaveStates}
 use Rattle.fax_gateway.specs.Reached.{HasNumber, confirmed_if, closed_if, confirmed_on, ended_on, ticked_on, IsCalling, IsCalled, TicksOn, Begins, outcome_kept, report_if, ended_with, ended_if, GatewayValue, IsReachedBy}
 use Rattle.fax_gateway.proofs.InCalls.{heard_sends}
@@ -147,10 +147,33 @@ sending_is setup writes trace at old r = heard_sends (calling_leg setup trace) (
 pub job_is : (setup : Setup) (writes : Writing) (trace : List Event) (old : GatewayValue) → IsReachedBy setup writes trace old → job_sent (sides setup writes trace).leg ≡ old.book.sending
 job_is setup writes trace old r = let h : HaveStates setup writes trace = have_states setup writes trace r.is_trace in sym (ap (λ (b : Book). b.sending) r.book ∙ h.sending)
 
+begins_none : (setup : Setup) (leg : Option CalledLeg) → is_free leg ≡ false → begins_next setup leg ≡ false
+begins_none setup leg on = ap (λ (b : Bool). not setup.asks && b) on ∙ by setup.asks
+  where
+    by : (b : Bool) → (not b && false) ≡ false
+    by true = refl
+    by false = refl
+
+-- where calls are asked for, no tick begins one
+in_tick_at_rest : (setup : Setup) (writes : Writing) (trace : List Event) (at : ℕ) → setup.asks ≡ true → in_tick setup writes trace at ≡ record { steps = steps_heard setup writes trace at; leg = (sides setup writes trace).leg }
+in_tick_at_rest setup writes trace at asks =
+    let z : Sides = record { steps = steps_heard setup writes trace at; leg = (sides setup writes trace).leg } in
+    ap (λ (b : Bool). if◌then◌else◌ {A = Sides} (not b && is_free z.leg) (sends true setup writes (max at (clock trace)) z) z) asks
+
+pub serves_at_rest : (setup : Setup) (writes : Writing) (trace : List Event) (at : ℕ) (old : GatewayValue) (heard : Book) → setup.asks ≡ true → IsReachedBy setup writes trace old → old.book.sending ≡ None
+    → IsHeard setup trace (max at (clock trace)) old heard → Served setup writes (max at (clock trace)) (in_tick setup writes trace at) old.called None None heard
+serves_at_rest setup writes trace at old heard asks r none h =
+    let now : ℕ = max at (clock trace) in
+    let leg : Option CalledLeg = (sides setup writes trace).leg in
+    let steps : List Step = steps_heard setup writes trace at in
+    same_served setup writes now (record { steps = steps; leg = leg }) (in_tick setup writes trace at) old.called None None None (after_steps new_past steps).book heard
+    (in_tick_at_rest setup writes trace at asks) refl (heard_is setup writes trace at old heard r h)
+    (served_off setup writes now steps leg old.called (sent_off leg (job_is setup writes trace old r ∙ none)) r.called)
+
 in_tick_on : (setup : Setup) (writes : Writing) (trace : List Event) (at : ℕ) (leg : Option CalledLeg) → (sides setup writes trace).leg ≡ leg → is_free leg ≡ false → in_tick setup writes trace at ≡ record { steps = steps_heard setup writes trace at; leg = leg }
 in_tick_on setup writes trace at leg is on =
     let z : Sides = record { steps = steps_heard setup writes trace at; leg = (sides setup writes trace).leg } in
-    ap (λ (b : Bool). if◌then◌else◌ {A = Sides} b (sends setup writes (max at (clock trace)) z) z) (ap is_free is ∙ on) ∙ ap (λ (o : Option CalledLeg). record { steps = steps_heard setup writes trace at; leg = o }) is
+    ap (λ (b : Bool). if◌then◌else◌ {A = Sides} b (sends true setup writes (max at (clock trace)) z) z) (ap (λ (o : Option CalledLeg). begins_next setup o) is ∙ begins_none setup leg on) ∙ ap (λ (o : Option CalledLeg). record { steps = steps_heard setup writes trace at; leg = o }) is
 
 -- a job is being sent
 pub serves_on : (setup : Setup) (writes : Writing) (trace : List Event) (at : ℕ) (old : GatewayValue) (job : JobValue) (side : CalledSide) (given : Option (List ℕ)) (heard : Book) → IsReachedBy setup writes trace old → old.book.sending ≡ Some job
@@ -179,16 +202,17 @@ serves_on setup writes trace at old job side given heard r sending h f = by (sid
         (served_on setup writes now steps l side given on.0 sent t.called t.told)
 
 -- no job is being sent: the one that was closed first is, where one waits
-sends_free : (setup : Setup) (writes : Writing) (trace : List Event) (at : ℕ) → is_free (sides setup writes trace).leg ≡ true → in_tick setup writes trace at ≡ sends setup writes (max at (clock trace)) (record { steps = steps_heard setup writes trace at; leg = (sides setup writes trace).leg })
-sends_free setup writes trace at free =
+sends_free : (setup : Setup) (writes : Writing) (trace : List Event) (at : ℕ) → setup.asks ≡ false → is_free (sides setup writes trace).leg ≡ true → in_tick setup writes trace at ≡ sends true setup writes (max at (clock trace)) (record { steps = steps_heard setup writes trace at; leg = (sides setup writes trace).leg })
+sends_free setup writes trace at asks free =
     let z : Sides = record { steps = steps_heard setup writes trace at; leg = (sides setup writes trace).leg } in
-    ap (λ (b : Bool). if◌then◌else◌ {A = Sides} b (sends setup writes (max at (clock trace)) z) z) free
+    ap (λ (b : Bool). if◌then◌else◌ {A = Sides} b (sends true setup writes (max at (clock trace)) z) z)
+    (ap (λ (b : Bool). not b && is_free z.leg) asks ∙ free)
 
-pub serves_off : (setup : Setup) (writes : Writing) (trace : List Event) (at : ℕ) (old : GatewayValue) (side : CalledSide) (given : Option (List ℕ)) (heard : Book) → IsReachedBy setup writes trace old → old.book.sending ≡ None
+pub serves_off : (setup : Setup) (writes : Writing) (trace : List Event) (at : ℕ) (old : GatewayValue) (side : CalledSide) (given : Option (List ℕ)) (heard : Book) → setup.asks ≡ false → IsReachedBy setup writes trace old → old.book.sending ≡ None
     → IsHeard setup trace (max at (clock trace)) old heard → Begins setup writes (sides setup writes trace).leg (taken heard).sending (max at (clock trace)) given old.called side
     → Served setup writes (max at (clock trace)) (in_tick setup writes trace at) side given (report_if (taken heard).sending (outcome_kept side.caller.procedure) side.caller.procedure.counts.delivered)
     (ended_if (taken heard).sending (outcome_kept side.caller.procedure) side.caller.procedure.counts.delivered (taken heard))
-serves_off setup writes trace at old side given heard r none h begins = by (taken heard).sending refl begins
+serves_off setup writes trace at old side given heard asks r none h begins = by (taken heard).sending refl begins
   where
     now : ℕ
     now = max at (clock trace)
@@ -213,9 +237,9 @@ serves_off setup writes trace at old side given heard r none h begins = by (take
         let before : Book = (after_steps new_past (steps_heard setup writes trace at)).book in
         ap (λ (s : Option JobValue). sent_if s before) (sending_is setup writes trace at old r ∙ none) ∙ ap taken (sym (heard_is setup writes trace at old heard r h))
 
-    in_it : (s : Option JobValue) → (taken heard).sending ≡ s → in_tick setup writes trace at ≡ record { steps = steps; leg = leg_of s (core_left setup writes leg) now leg }
+    in_it : (s : Option JobValue) → (taken heard).sending ≡ s → in_tick setup writes trace at ≡ record { steps = steps; leg = leg_of true s (core_left setup writes leg) now leg }
     in_it s e =
-        sends_free setup writes trace at free ∙ ap (λ (x : Option JobValue). record { steps = steps; leg = leg_of x (core_left setup writes leg) now leg }) (ap (λ (b : Book). b.sending) book ∙ e)
+        sends_free setup writes trace at asks free ∙ ap (λ (x : Option JobValue). record { steps = steps; leg = leg_of true x (core_left setup writes leg) now leg }) (ap (λ (b : Book). b.sending) book ∙ e)
 
     by : (s : Option JobValue) → (taken heard).sending ≡ s → Begins setup writes leg s now given old.called side → Served setup writes now (in_tick setup writes trace at) side given (report_if s o d) (ended_if s o d (taken heard))
     by None e b =

@@ -10,7 +10,7 @@ use Rattle.fax_gateway.specs.declared.side.Side.TheVariants as side
 use Rattle.fax_gateway.specs.declared.given.Kept.{Kept}
 use Rattle.fax_gateway.specs.declared.given.Refused.{Refused}
 use Rattle.fax_gateway.specs.Setups.{Setup}
-use Rattle.fax_gateway.specs.Events.{Event, Ring, FromCalling, FromCalled, Tick, Given, clock}
+use Rattle.fax_gateway.specs.Events.{Event, Ring, FromCalling, FromCalled, Tick, Placed, Given, clock}
 use Rattle.fax_gateway.specs.CallingLegs.{CallingLeg, calling_leg}
 use Rattle.fax_gateway.specs.Reports.{report_list, reports_given}
 use Rattle.fax_gateway.specs.Reached.{HasNumber, confirmed_on, ended_on}
@@ -62,6 +62,7 @@ comes_no_tick : (setup : Setup) (at : Side) (now : ℕ) (e : Entry) (older trace
 comes_no_tick setup at now (Accepts (Ring moment number)) older trace h s = absurd h
 comes_no_tick setup at now (Accepts (FromCalling octets moment decided read)) older trace h s = record { reports = s.reports; pages = s.pages; refusals = s.refusals; calls = s.calls }
 comes_no_tick setup at now (Accepts (FromCalled octets moment decided)) older trace h s = record { reports = s.reports; pages = s.pages; refusals = s.refusals; calls = s.calls }
+comes_no_tick setup at now (Accepts (Placed moment connected)) older trace h s = absurd h
 comes_no_tick setup at now (Accepts (Tick moment given)) older trace h s = absurd h
 comes_no_tick setup at now (RefusesRing fault) older trace h s = absurd h
 comes_no_tick setup at now (RefusesDatagram on octets) older trace h s = s

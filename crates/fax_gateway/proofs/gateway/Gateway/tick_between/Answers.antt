@@ -35,7 +35,7 @@ returns-clause-ticked g c setup writes trace writing fresh r =
     (same_served setup writes (max at (clock trace)) (in_tick setup writes trace at) (in_tick setup writes trace at) side given _ c.end_job-report.result _ left.book refl
     (c.end_job-report.ensures.report ∙ ap (λ (b : Book). report_if b.sending o d) next)
     (c.end_job-report.ensures.ended ∙ ap (λ (b : Book). ended_if b.sending o d b) next)
-    (serves_off setup writes trace at old side given heard s none
+    (serves_off setup writes trace at old side given heard (sym s.set.asks ∙ (ap (λ (k : GatewayValue). k.settings.asks) c.self.view_is ∙ c.requires.asks)) s none
     (subst (λ (m : ℕ). IsHeard setup trace m old heard) now_is (served.heard setup leg s.calling))
     (subst (λ (m : ℕ). Begins setup writes l (taken heard).sending m given inside.called side) now_is
     (subst (λ (b : Book). Begins setup writes l b.sending c.read-moment.result given inside.called side) next (c.begin-called.ensures.begun setup writes l writing fresh s.called)))))

@@ -1,0 +1,51 @@
+use Rattle.std.proofs.Common.{◌≡◌, ℕ, max, Option, refl, sym, ◌∙◌, ap, subst}
+use Rattle.fax_jobs.specs.Books.{Book}
+use Rattle.fax_gateway.specs.Events.{clock}
+use Rattle.fax_gateway.specs.CallingLegs.{CallingLeg, calling_leg, told_calling}
+use Rattle.fax_gateway.specs.Reached.{GatewayValue, IsCalling, IsReachedBy, ticked_on}
+use Rattle.fax_gateway.proofs.Turning.{call_told, page_told, refusal_told}
+use Rattle.fax_gateway.proofs.Ticking.{IsHeard, serves_at_rest, ticks}
+use Rattle.fax_gateway.proofs.gateway.Gateway.tick_at_rest.Goals as goal
+
+pub returns-clause-ticked : goal.returns-clause-ticked
+returns-clause-ticked g c setup writes trace r =
+    let at : ℕ = c.args.now in
+    let inside = c.self.inside in
+    let s = subst (λ (k : GatewayValue). IsReachedBy setup writes trace k) (sym c.self.view_is) r in
+    let old : GatewayValue = record { settings = inside.settings; clock = inside.clock; rings = inside.rings; calling = inside.calling; called = inside.called; book = inside.jobs.book; spare = inside.jobs.spare } in
+    let left = c.serve_calling-served.new.jobs in
+    let new : GatewayValue = record { settings = inside.settings; clock = c.read-moment.new.self; rings = inside.rings; calling = c.serve_calling-served.new.calling; called = inside.called; book = left.book; spare = left.spare } in
+    let leg : Option CallingLeg = calling_leg setup trace in
+    let now_is : c.read-moment.result ≡ max at (clock trace) = c.read-moment.ensures.moment ∙ c.read-moment.ensures.later ∙ ap (λ (m : ℕ). max at m) s.at in
+    let served = c.serve_calling-served.ensures in
+    let heard : Book = left.book in
+    let none = ap (λ (k : GatewayValue). k.book.sending) c.self.view_is ∙ c.requires.none in
+    let asks = sym s.set.asks ∙ (ap (λ (k : GatewayValue). k.settings.asks) c.self.view_is ∙ c.requires.asks) in
+    ticks setup writes trace at _ old new s c.read-moment.ensures.later refl refl
+    (subst (λ (m : ℕ). IsCalling setup (ticked_on leg m) new.calling) now_is (served.ticked setup leg s.calling))
+    (served.told setup leg s.calling ∙ ap (λ (m : ℕ). told_calling setup leg m) now_is)
+    (serves_at_rest setup writes trace at old heard asks s none (subst (λ (m : ℕ). IsHeard setup trace m old heard) now_is (served.heard setup leg s.calling)))
+
+pub returns-clause-confirmed : goal.returns-clause-confirmed
+returns-clause-confirmed g c setup writes trace r =
+    let inside = c.self.inside in
+    let s = subst (λ (k : GatewayValue). IsReachedBy setup writes trace k) (sym c.self.view_is) r in
+    let now_is : c.read-moment.result ≡ max c.args.now (clock trace) = c.read-moment.ensures.moment ∙ c.read-moment.ensures.later ∙ ap (λ (m : ℕ). max c.args.now m) s.at in
+    page_told (calling_leg setup trace) c.read-moment.result (max c.args.now (clock trace)) inside.calling.number c.serve_calling-served.result.kept now_is s.calling.number
+    (c.serve_calling-served.ensures.kept setup (calling_leg setup trace) s.calling)
+
+pub returns-clause-refused : goal.returns-clause-refused
+returns-clause-refused g c setup writes trace r =
+    let inside = c.self.inside in
+    let s = subst (λ (k : GatewayValue). IsReachedBy setup writes trace k) (sym c.self.view_is) r in
+    let now_is : c.read-moment.result ≡ max c.args.now (clock trace) = c.read-moment.ensures.moment ∙ c.read-moment.ensures.later ∙ ap (λ (m : ℕ). max c.args.now m) s.at in
+    refusal_told (calling_leg setup trace) c.read-moment.result (max c.args.now (clock trace)) inside.calling.number c.serve_calling-served.result.refused now_is s.calling.number
+    (c.serve_calling-served.ensures.refused setup (calling_leg setup trace) s.calling)
+
+pub returns-clause-given_up : goal.returns-clause-given_up
+returns-clause-given_up g c setup writes trace r =
+    let inside = c.self.inside in
+    let s = subst (λ (k : GatewayValue). IsReachedBy setup writes trace k) (sym c.self.view_is) r in
+    let now_is : c.read-moment.result ≡ max c.args.now (clock trace) = c.read-moment.ensures.moment ∙ c.read-moment.ensures.later ∙ ap (λ (m : ℕ). max c.args.now m) s.at in
+    call_told (calling_leg setup trace) c.read-moment.result (max c.args.now (clock trace)) inside.calling.number c.serve_calling-served.result.gave_up now_is s.calling.number
+    (c.serve_calling-served.ensures.gave_up setup (calling_leg setup trace) s.calling)
