@@ -1,4 +1,5 @@
 mod Allowed
+mod AskedCalls
 mod Confirmed
 mod Cutting
 pub mod DrivingLemmas

@@ -155,7 +155,7 @@ begins_none setup leg on = ap (λ (b : Bool). not setup.asks && b) on ∙ by set
     by false = refl
 
 -- where calls are asked for, no tick begins one
-in_tick_at_rest : (setup : Setup) (writes : Writing) (trace : List Event) (at : ℕ) → setup.asks ≡ true → in_tick setup writes trace at ≡ record { steps = steps_heard setup writes trace at; leg = (sides setup writes trace).leg }
+pub in_tick_at_rest : (setup : Setup) (writes : Writing) (trace : List Event) (at : ℕ) → setup.asks ≡ true → in_tick setup writes trace at ≡ record { steps = steps_heard setup writes trace at; leg = (sides setup writes trace).leg }
 in_tick_at_rest setup writes trace at asks =
     let z : Sides = record { steps = steps_heard setup writes trace at; leg = (sides setup writes trace).leg } in
     ap (λ (b : Bool). if◌then◌else◌ {A = Sides} (not b && is_free z.leg) (sends true setup writes (max at (clock trace)) z) z) asks
@@ -170,7 +170,7 @@ serves_at_rest setup writes trace at old heard asks r none h =
     (in_tick_at_rest setup writes trace at asks) refl (heard_is setup writes trace at old heard r h)
     (served_off setup writes now steps leg old.called (sent_off leg (job_is setup writes trace old r ∙ none)) r.called)
 
-in_tick_on : (setup : Setup) (writes : Writing) (trace : List Event) (at : ℕ) (leg : Option CalledLeg) → (sides setup writes trace).leg ≡ leg → is_free leg ≡ false → in_tick setup writes trace at ≡ record { steps = steps_heard setup writes trace at; leg = leg }
+pub in_tick_on : (setup : Setup) (writes : Writing) (trace : List Event) (at : ℕ) (leg : Option CalledLeg) → (sides setup writes trace).leg ≡ leg → is_free leg ≡ false → in_tick setup writes trace at ≡ record { steps = steps_heard setup writes trace at; leg = leg }
 in_tick_on setup writes trace at leg is on =
     let z : Sides = record { steps = steps_heard setup writes trace at; leg = (sides setup writes trace).leg } in
     ap (λ (b : Bool). if◌then◌else◌ {A = Sides} b (sends true setup writes (max at (clock trace)) z) z) (ap (λ (o : Option CalledLeg). begins_next setup o) is ∙ begins_none setup leg on) ∙ ap (λ (o : Option CalledLeg). record { steps = steps_heard setup writes trace at; leg = o }) is
