@@ -172,7 +172,7 @@ unplaced_told writes l old events is =
       NotPlaced,
       ap (λ (c : Calling). c.outcome) (stays_over writes l.before l.job events),
       subst (λ (marks : List Mark). IsTold l.job NotPlaced (after_events writes l.job a events).counts.delivered events marks) until
-      (subst (λ (c : Calling). IsTold l.job NotPlaced c.counts.delivered events (Begins ∷ old)) (sym (stays_over writes l.before l.job events)) begins),
+          (subst (λ (c : Calling). IsTold l.job NotPlaced c.counts.delivered events (Begins ∷ old)) (sym (stays_over writes l.before l.job events)) begins),
       none_after writes l.before l.job old events ∙ ap elements_given until,
     )
 

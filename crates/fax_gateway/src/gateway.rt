@@ -241,10 +241,8 @@ impl<S: RowStore> Gateway<S> {
         ensures told { (setup : Setup) (writes : Writing) (trace : List Event) → IsReachedBy setup writes trace self.now
             → result ≡ call_asked (job_asked setup.asks (book_of (sides setup writes trace))) }
     {
-        match self.job_asked() {
-            None => None,
-            Some(job) => Some(job.call()),
-        }
+        let job = self.job_asked()?;
+        Some(job.call())
     }
 
     /// Time goes on, on both legs. It answers what is given: on the calling leg the answering side's next datagram, whose
