@@ -177,7 +177,7 @@ with_zeros : (old new : Place) (zeros : ℕ) (r : FrontSoFar old new) → FewZer
 with_zeros old new zeros r = r.free (replicate zeros false) (subst (FewZeros 0) (append-nil (replicate zeros false)) (FewZeros-zeros 0 zeros [] tt))
 
 -- the front ends with 11 zeros and a 1
-front_ends : (text : List Bool) (zeros : ℕ) → 11 ≤ zeros → EndsWithEol (text ++ (replicate zeros false ++ true ∷ []))
+pub front_ends : (text : List Bool) (zeros : ℕ) → 11 ≤ zeros → EndsWithEol (text ++ (replicate zeros false ++ true ∷ []))
 unfolding end_of_line
 front_ends text zeros enough =
     let size : zeros - 11 + 11 ≡ zeros = omega arith in

@@ -1,5 +1,9 @@
+pub mod AlikeLemmas
+pub mod AlikePages
 pub mod BeforeEolLemmas
 pub mod EndsLemmas
+pub mod FillLaw
+pub mod FillLemmas
 pub mod FirstEolLemmas
 pub mod FrontLemmas
 pub mod PackedLemmas

@@ -26,7 +26,7 @@ use Rattle.fax_pagestore.specs.PageRows.{most_rows}
 use Rattle.fax_pagestore.specs.Pages.{PageValue}
 use Rattle.fax_pagestore.specs.PageTexts.{end_of_line, IsFront, IsSeparator, InARow, SpellsRow, SpellsRows, ReadSoFar, MeansRows, MeansPage}
 use Rattle.fax_pagestore.specs.PageFaults.{LineBegins, BreaksReturn, StopsInReturn, FailsRow, Stops, FailsPage, last_of, row_before}
-use Rattle.fax_pagestore.specs.Readers.{ReadsOne, BeginsRow, ReaderValue, HasRead, IsReadUpTo, NoMoreIsWhole, AreJudged, fault_of, new_reader}
+use Rattle.fax_pagestore.specs.Readers.{ReadsOne, BeginsRow, ReaderValue, IsBehind, IsReadUpTo, NoMoreIsWhole, AreJudged, fault_of, new_reader}
 use Rattle.fax_pagestore.specs.declared.reader.settled.Settled.{Settled}
 use Rattle.fax_pagestore.specs.declared.reader.rows.Stop.{Stop}
 use Rattle.fax_pagestore.specs.declared.reader.rows.Stop.TheVariants.{NoEols, NoLine, Fault}
@@ -334,8 +334,8 @@ rows_stay coding width octets more rows tag old new some few read (text, in_a_ro
     (ReadSoFar-octets coding width octets more rows tag old.left read) (text, in_a_row, Passes-more old new text (bits_of more) p)
 
 -- a reader of which it is settled takes any octets
-pub HasRead-settled : (octets piece : List ℕ) (reader : ReaderValue) → IsSome reader.settled → HasRead octets reader → HasRead (octets ++ piece) reader
-HasRead-settled octets piece reader some has = record {
+pub IsBehind-settled : (octets piece : List ℕ) (reader : ReaderValue) → IsSome reader.settled → IsBehind octets reader → IsBehind (octets ++ piece) reader
+IsBehind-settled octets piece reader some has = record {
   read = λ not_yet. absurd (cc (some, not_yet));
   waits = λ not_yet. absurd (cc (some, not_yet));
   settled = λ what is. (
@@ -442,7 +442,7 @@ none_used coding width octets held rows used place le enough none read =
     (read.0, behind.0, behind.1, behind.2)
 
 -- nothing came
-pub nothing_read : (format : Format) (coding : Coding) → HasRead [] (new_reader format coding)
+pub nothing_read : (format : Format) (coding : Coding) → IsBehind [] (new_reader format coding)
 nothing_read format coding = record {
   read = λ not_yet. (refl, [], bits_of-nil, BeginNoEol-none []);
   waits = λ not_yet. HoldsNoTaggedEol-none coding;
@@ -450,15 +450,15 @@ nothing_read format coding = record {
 }
 
 pub new_is : (format : Format) (coding : Coding) (rows : List Elements) (items : List ℕ) → rows ≡ [] → items ≡ []
-    → (let made : ReaderValue = record { format = format; coding = coding; rows = rows; tag = None; left = drop 0 (bits_of items); settled = None } in made ≡ new_reader format coding)
+    → (let made : ReaderValue = record { format = format; coding = coding; rows = rows; tag = None; left = drop 0 (bits_of items); zeros = 0; settled = None } in made ≡ new_reader format coding)
 new_is format coding rows items none no_items =
-    ap (λ (rs : List Elements). let made : ReaderValue = record { format = format; coding = coding; rows = rs; tag = None; left = drop 0 (bits_of items); settled = None } in made) none
-    ∙ ap (λ (bits : List Bool). let made : ReaderValue = record { format = format; coding = coding; rows = []; tag = None; left = bits; settled = None } in made) (ap bits_of no_items ∙ bits_of-nil)
+    ap (λ (rs : List Elements). let made : ReaderValue = record { format = format; coding = coding; rows = rs; tag = None; left = drop 0 (bits_of items); zeros = 0; settled = None } in made) none
+    ∙ ap (λ (bits : List Bool). let made : ReaderValue = record { format = format; coding = coding; rows = []; tag = None; left = bits; zeros = 0; settled = None } in made) (ap bits_of no_items ∙ bits_of-nil)
 
 -- ---- what is judged
 
 -- by what is settled
-pub settled_judged : (octets : List ℕ) (reader : ReaderValue) (what : Settled) → HasRead octets reader → reader.settled ≡ Some what
+pub settled_judged : (octets : List ℕ) (reader : ReaderValue) (what : Settled) → IsBehind octets reader → reader.settled ≡ Some what
     → AreJudged reader.coding (elements_of reader.format.width) octets reader.rows (fault_of what)
 settled_judged octets reader what has is =
     subst (λ all. AreJudged reader.coding (elements_of reader.format.width) all reader.rows (fault_of what)) (append-nil octets) ((has.settled what is).1 [])
@@ -521,6 +521,10 @@ FailsRow-last width tag rows reference bits two last fails =
 
 pub some_if : {A : Type 0} (value : Option A) (what : A) → value ≡ Some what → IsSome value
 some_if value what is = ap is_some is
+
+pub not_none : {A : Type 0} (value : Option A) → IsSome value → value ≡ None → ⊥
+not_none (Some value) some none = absurd (cc none)
+not_none None some none = absurd (cc some)
 
 pub none_if : {A : Type 0} (value : Option A) → is_some value ≡ false → value ≡ None
 none_if (Some value) is = absurd (cc is)

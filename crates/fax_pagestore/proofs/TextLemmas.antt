@@ -44,7 +44,7 @@ zeros_not_all (suc a) (suc n) x e =
     zeros_not_all a n x tails
 
 -- bits are only zeros, or zeros, a 1 and more
-zeros_or_one : (bits : List Bool) → AreZeros bits ⊎ ((zeros : ℕ) × (rest : List Bool) × (bits ≡ replicate zeros false ++ true ∷ rest))
+pub zeros_or_one : (bits : List Bool) → AreZeros bits ⊎ ((zeros : ℕ) × (rest : List Bool) × (bits ≡ replicate zeros false ++ true ∷ rest))
 zeros_or_one [] = inl (0, refl)
 zeros_or_one (true ∷ bits) = inr (0, bits, refl)
 zeros_or_one (false ∷ bits) = elim (zeros_or_one bits) [
@@ -66,7 +66,7 @@ IsTag-one Mr a b s t x y es et e =
 -- ---- separators
 
 -- what follows a separator's zeros
-separator_bits : (coding : Coding) (tag : Bool) (s x : List Bool) (p : IsSeparator coding tag s) → s ++ x ≡ replicate p.0 false ++ true ∷ (p.1 ++ x)
+pub separator_bits : (coding : Coding) (tag : Bool) (s x : List Bool) (p : IsSeparator coding tag s) → s ++ x ≡ replicate p.0 false ++ true ∷ (p.1 ++ x)
 separator_bits coding tag s x p = ap (λ b. b ++ x) p.4 ∙ append_assoc (replicate p.0 false) (true ∷ p.1) x
 
 -- Bits that begin with a separator's text begin with a separator.

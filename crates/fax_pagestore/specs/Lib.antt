@@ -1,5 +1,6 @@
 pub mod Ends
 pub mod FaultNumbers
+pub mod Fill
 pub mod PageFaults
 pub mod PageLaws
 pub mod PageRows

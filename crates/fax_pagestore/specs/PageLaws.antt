@@ -1,5 +1,5 @@
 -- What holds of pages and their texts.
-use Rattle.std.specs.Prelude.{◌≡◌, ℕ, Bool, List}
+use Rattle.std.specs.Prelude.{◌≡◌, ◌↔◌, ℕ, Bool, List}
 use Rattle.fax_bits.specs.Laws.{AreOctets}
 use Rattle.fax_bits.specs.Writing.{IsPadded}
 use Rattle.fax_runcodes.specs.declared.format.Coding.{Coding}
@@ -9,6 +9,7 @@ use Rattle.fax_pagestore.specs.PageRows.{AreRows}
 use Rattle.fax_pagestore.specs.PageTexts.{MeansRows}
 use Rattle.fax_pagestore.specs.PageFaults.{FailsPage}
 use Rattle.fax_pagestore.specs.WrittenPages.{WritesPage}
+use Rattle.fax_pagestore.specs.Fill.{less_fill}
 
 -- octets mean the rows of at most one page
 abbrev pub PagesAreUnique : Type 0
@@ -45,3 +46,10 @@ abbrev pub WrittenOctetsAreUnique : Type 0
 WrittenOctetsAreUnique = (width : ℕ) (coding : Coding) (fine : Bool) (least : ℕ) (rows : List Elements) (text other : List Bool) (a b : List ℕ) → IsWidth width
     → AreRows width rows → WritesPage coding fine least rows text → WritesPage coding fine least rows other
     → AreOctets a → AreOctets b → IsPadded a text → IsPadded b other → a ≡ b
+
+-- Long fill means nothing by the number of its zeros: octets mean the same rows, or meet the same fault, with all of them and
+-- without those octets of zeros that stand behind four others.
+abbrev pub FillIsFree : Type 0
+FillIsFree = (width : ℕ) (coding : Coding) (octets : List ℕ)
+    → ((rows : List Elements) → MeansRows width coding (less_fill 0 octets) rows ↔ MeansRows width coding octets rows)
+    × ((fault : PageFault) → FailsPage width coding (less_fill 0 octets) fault ↔ FailsPage width coding octets fault)

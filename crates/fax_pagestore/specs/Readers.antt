@@ -12,23 +12,25 @@ use Rattle.fax_mhcode.specs.declared.fault.LineFault.TheVariants.{Run, NoMode}
 use Rattle.fax_pagestore.specs.declared.fault.PageFault.{PageFault}
 use Rattle.fax_pagestore.specs.declared.reader.settled.Settled.{Settled}
 use Rattle.fax_pagestore.specs.declared.reader.settled.Settled.TheVariants.{Page, NoPage}
+use Rattle.fax_pagestore.specs.Fill.{less_fill, zeros_after}
 use Rattle.fax_pagestore.specs.Ends.{HoldsNoTaggedEol, BeginNoEol}
 use Rattle.fax_pagestore.specs.PageTexts.{IsSeparator, SpellsRow, ReadSoFar, MeansRows}
 use Rattle.fax_pagestore.specs.PageFaults.{FailsPage, SeparatorBegins, last_of}
 
 -- A reader: its rows, the tag of the last separator that is read, or none before the first EOL, the bits
--- behind that, and what the octets are, where that is settled.
+-- behind that, how many octets of zeros came last, and what the octets are, where that is settled.
 pub record ReaderValue : Type 0 where
   pub format : Format
   pub coding : Coding
   pub rows : List Elements
   pub tag : Option Bool
   pub left : List Bool
+  pub zeros : ℕ
   pub settled : Option Settled
 
 -- a reader to which nothing came
 abbrev pub new_reader : Format → Coding → ReaderValue
-new_reader format coding = record { format = format; coding = coding; rows = []; tag = None; left = []; settled = None }
+new_reader format coding = record { format = format; coding = coding; rows = []; tag = None; left = []; zeros = 0; settled = None }
 
 -- Of octets these rows are read, and a separator of this tag behind the last; these bits are left. Before the
 -- first EOL there are no rows, and none begins before what is left.
@@ -65,13 +67,18 @@ fault_of (NoPage fault) = Some fault
 abbrev pub StaysBad : LineFault → List Bool → Type 0
 StaysBad fault bits = (fault ≢ Run End) × (fault ≡ NoMode → 7 ≤ length bits)
 
--- These octets came to a reader, whatever the pieces in which they came. What can be read of them is read. Once
+-- A reader is at the end of these octets. What can be read of them is read. Once
 -- it is settled what they are, no bits are kept, and they are that with any octets behind them.
-pub record HasRead (octets : List ℕ) (reader : ReaderValue) : Type 0 where
+pub record IsBehind (octets : List ℕ) (reader : ReaderValue) : Type 0 where
   pub read : reader.settled ≡ None → IsReadUpTo reader.coding (elements_of reader.format.width) octets reader.rows reader.tag reader.left
   pub waits : reader.settled ≡ None → NoMoreIsWhole reader.coding (elements_of reader.format.width) reader.rows reader.tag reader.left
   pub settled : (what : Settled) → reader.settled ≡ Some what
       → (reader.left ≡ []) × ((more : List ℕ) → AreJudged reader.coding (elements_of reader.format.width) (octets ++ more) reader.rows (fault_of what))
+
+-- These octets came to a reader, whatever the pieces in which they came: it is at the end of them, less the zeros of long fill.
+pub record HasRead (octets : List ℕ) (reader : ReaderValue) : Type 0 where
+  pub behind : IsBehind (less_fill 0 octets) reader
+  pub zeros : reader.settled ≡ None → reader.zeros ≡ zeros_after 0 octets
 
 -- What a mark keeps of a reader: how many rows it has, and all else.
 pub record MarkValue : Type 0 where
@@ -80,6 +87,7 @@ pub record MarkValue : Type 0 where
   pub count : ℕ
   pub tag : Option Bool
   pub left : List Bool
+  pub zeros : ℕ
   pub settled : Option Settled
 
 abbrev pub mark_of : ReaderValue → MarkValue
@@ -89,6 +97,7 @@ mark_of reader = record {
   count = length reader.rows;
   tag = reader.tag;
   left = reader.left;
+  zeros = reader.zeros;
   settled = reader.settled;
 }
 
@@ -100,6 +109,7 @@ reader_at mark rows = record {
   rows = take mark.count rows;
   tag = mark.tag;
   left = mark.left;
+  zeros = mark.zeros;
   settled = mark.settled;
 }
 

@@ -1,5 +1,5 @@
 //! Laws of the definitions: functions that do nothing, each of whose contracts is a theorem.
-ghost use Rattle.fax_pagestore.specs.PageLaws.{PagesAreUnique, PagesDontFail, FaultsAreUnique, WrittenPagesMean, WrittenPagesAreUnique, PagesAreWritten, WrittenOctetsAreUnique};
+ghost use Rattle.fax_pagestore.specs.PageLaws.{PagesAreUnique, PagesDontFail, FaultsAreUnique, WrittenPagesMean, WrittenPagesAreUnique, PagesAreWritten, WrittenOctetsAreUnique, FillIsFree};
 
 /// Octets mean at most one page.
 pub fn pages_are_unique()
@@ -34,4 +34,9 @@ pub fn pages_are_written()
 /// Octets that hold the written text of one page, padded, are the same.
 pub fn written_octets_are_unique()
     ensures { WrittenOctetsAreUnique }
+{}
+
+/// Octets mean the same page, or meet the same fault, with long fill and without it.
+pub fn fill_is_free()
+    ensures { FillIsFree }
 {}

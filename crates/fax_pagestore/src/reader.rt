@@ -5,6 +5,7 @@ ghost use Rattle.fax_runcodes.specs.Widths.{elements_of};
 ghost use Rattle.fax_pagestore.specs.Pages.{PageValue};
 ghost use Rattle.fax_pagestore.specs.PageTexts.{MeansRows, MeansPage};
 ghost use Rattle.fax_pagestore.specs.PageFaults.{FailsPage};
+ghost use Rattle.fax_pagestore.specs.Fill.{less_fill, zeros_after, zeros_with};
 ghost use Rattle.fax_pagestore.specs.Readers.{AreJudged};
 
 mod judging;
@@ -39,6 +40,8 @@ pub struct PageReader<S: RowStore> {
     used: u32,
     /// The tag of the last separator, and none before the first EOL.
     tag: Option<bool>,
+    /// How many octets of zeros came last, of which four are counted and kept.
+    zeros: u32,
     /// What the octets are, where that stays so whatever follows.
     settled: Option<Settled>,
 }
@@ -53,7 +56,7 @@ impl<S: RowStore> Model for PageReader<S> {
 
     ghost Value = { ReaderValue };
 
-    ghost view = { λ r. record { format = r.format; coding = r.coding; rows = S.rows r.rows; tag = r.tag; left = drop r.used (bits_of r.octets.items); settled = r.settled } };
+    ghost view = { λ r. record { format = r.format; coding = r.coding; rows = S.rows r.rows; tag = r.tag; left = drop r.used (bits_of r.octets.items); zeros = r.zeros; settled = r.settled } };
 
     ghost invariant = { λ r. (r.used ≤ 8 * length r.octets.items) × (length (S.rows r.rows) ≤ most_rows)
         × All (λ row. length row ≡ elements_of r.format.width) (S.rows r.rows) × (r.settled ≡ Some Page → 0 < length (S.rows r.rows)) };
@@ -74,6 +77,7 @@ impl<S: RowStore> PageReader<S> {
             octets: Vec::new(alloc),
             used: 0,
             tag: None,
+            zeros: 0,
             settled: None,
         }
     }
@@ -93,11 +97,12 @@ impl<S: RowStore> PageReader<S> {
             return Ok(());
         }
         let (alloc, len, count) = (*self.octets.allocator(), self.octets.len(), self.rows.len());
-        append(&mut self.octets, piece)?;
+        let zeros = append(&mut self.octets, self.zeros, piece)?;
         // an EOL that ends in the piece begins at most two octets before it
         let from = len.saturating_sub(2);
         let end = behind_eols(self.octets.as_slice(), from);
         if self.tag.is_some() && end == from {
+            self.zeros = zeros;
             return Ok(());
         }
         let Ok(reached) = read_up_to(
@@ -117,6 +122,7 @@ impl<S: RowStore> PageReader<S> {
         drop_front(&mut self.octets, (reached.place / 8) as usize);
         self.used = (reached.place % 8) as u32;
         self.tag = reached.tag;
+        self.zeros = zeros;
         self.settled = reached.settled;
         Ok(())
     }
@@ -185,6 +191,7 @@ impl<S: RowStore> PageReader<S> {
             octets: Vec::from_slice(*self.octets.allocator(), self.octets.as_slice())?,
             used: self.used,
             tag: self.tag,
+            zeros: self.zeros,
             settled: self.settled,
         })
     }
@@ -201,6 +208,7 @@ impl<S: RowStore> PageReader<S> {
             octets,
             used,
             tag,
+            zeros,
             settled,
             ..
         } = mark;
@@ -208,15 +216,44 @@ impl<S: RowStore> PageReader<S> {
         self.octets = octets;
         self.used = used;
         self.tag = tag;
+        self.zeros = zeros;
         self.settled = settled;
     }
 }
 
-/// Adds a piece to octets. An `Err` changes nothing.
-fn append(octets: &mut Vec<u8>, piece: &[u8]) -> Result<(), NoMemory>
-    ensures ok { OnOk result (octets.new.items ≡ octets.old.items ++ piece.now) }
+/// The most octets of zeros that are kept side by side: an EOL has 11 zeros at least, and no code word has them.
+const MOST_ZEROS: u32 = 4;
+
+/// Adds a piece to octets, less its octets of zeros behind four others, where so many stood before it. It answers how many
+/// stand at the end then, of which four are counted. An `Err` changes nothing.
+fn append(octets: &mut Vec<u8>, zeros: u32, piece: &[u8]) -> Result<u32, NoMemory>
+    ensures ok { OnOk result (octets.new.items ≡ octets.old.items ++ less_fill zeros piece.now) }
+    ensures zeros { IfOk result (λ after. after ≡ zeros_after zeros piece.now) }
     ensures err { OnErr result (octets.new.items ≡ octets.old.items) }
 {
-    octets.extend_from_slice(piece)?;
-    Ok(())
+    let len = octets.len();
+    let mut count = zeros;
+    for octet in piece {
+        if *octet != 0 || count < MOST_ZEROS {
+            if octets.push(*octet).is_err() {
+                octets.truncate(len);
+                return Err(NoMemory);
+            }
+        }
+        count = zeros_with(count, *octet);
+    }
+    Ok(count)
+}
+
+/// How many octets of zeros stand at the end with one more octet, of which four are counted.
+fn zeros_with(zeros: u32, octet: u8) -> u32
+    ensures { result ≡ zeros_with zeros octet }
+{
+    if octet != 0 {
+        0
+    } else if zeros < MOST_ZEROS {
+        zeros + 1
+    } else {
+        zeros
+    }
 }

@@ -13,6 +13,7 @@ pub struct Mark {
     pub(super) octets: Vec<u8>,
     pub(super) used: u32,
     pub(super) tag: Option<bool>,
+    pub(super) zeros: u32,
     pub(super) settled: Option<Settled>,
 }
 
@@ -24,7 +25,7 @@ impl Model for Mark {
 
     ghost Value = { MarkValue };
 
-    ghost view = { λ m. record { format = m.format; coding = m.coding; count = m.count; tag = m.tag; left = drop m.used (bits_of m.octets.items); settled = m.settled } };
+    ghost view = { λ m. record { format = m.format; coding = m.coding; count = m.count; tag = m.tag; left = drop m.used (bits_of m.octets.items); zeros = m.zeros; settled = m.settled } };
 
     ghost invariant = { λ m. (m.used ≤ 8 * length m.octets.items) × (m.settled ≡ Some Page → 0 < m.count) };
 }
