@@ -1,6 +1,7 @@
 -- Octets less the zeros of long fill.
-use Rattle.std.proofs.Common.{◌≡◌, ℕ, zero, suc, ◌+◌, ◌<◌, ◌≤◌, List, [], ◌∷◌, ◌++◌, length, take, get_or, refl, sym, ◌∙◌, ap, arith, append_assoc, append-nil}
-use Rattle.std.proofs.lemmas.List.{take_more}
+use Rattle.std.proofs.Common.{◌≡◌, ℕ, zero, suc, ◌+◌, ◌-◌, ◌<◌, ◌≤◌, List, [], ◌∷◌, ◌++◌, length, take, drop, get_or, replicate, refl, sym, ◌∙◌, ap, subst, arith, append_assoc, append-nil, length-drop}
+use Rattle.std.proofs.lemmas.List.{take_more, take_all, replicate_more}
+use Rattle.std.proofs.Math.Seq.{take-add}
 use Rattle.fax_pagestore.specs.Fill.{zeros_with, zeros_after, kept_octet, less_fill}
 
 pub zeros_after-append : (before : ℕ) (a b : List ℕ) → zeros_after before (a ++ b) ≡ zeros_after (zeros_after before a) b
@@ -63,11 +64,99 @@ zeros-step before octets i count inside e =
     ap (λ n. zeros_with n (get_or octets i 0)) e ∙ sym (zeros_after-one (zeros_after before (take i octets)) (get_or octets i 0))
     ∙ sym (zeros_after-append before (take i octets) (get_or octets i 0 ∷ [])) ∙ ap (zeros_after before) (sym (take_more octets i 0 inside))
 
-pub less_fill-step : (before : ℕ) (octets old items after : List ℕ) (i count : ℕ) → i < length octets → count ≡ zeros_after before (take i octets)
-    → items ≡ old ++ less_fill before (take i octets) → after ≡ items ++ kept_octet count (get_or octets i 0) → after ≡ old ++ less_fill before (take (i + 1) octets)
-less_fill-step before octets old items after i count inside e held added =
-    let one : kept_octet count (get_or octets i 0) ≡ less_fill (zeros_after before (take i octets)) (get_or octets i 0 ∷ []) =
-    ap (λ n. kept_octet n (get_or octets i 0)) e ∙ sym (less_fill-one (zeros_after before (take i octets)) (get_or octets i 0)) in
-    added ∙ ap (λ os. os ++ kept_octet count (get_or octets i 0)) held ∙ append_assoc old (less_fill before (take i octets)) (kept_octet count (get_or octets i 0))
-    ∙ ap (λ os. old ++ (less_fill before (take i octets) ++ os)) one
-    ∙ ap (λ os. old ++ os) (sym (less_fill-append before (take i octets) (get_or octets i 0 ∷ [])) ∙ ap (less_fill before) (sym (take_more octets i 0 inside)))
+-- one octet more that is kept
+pub kept-step : (before : ℕ) (octets : List ℕ) (i count : ℕ) → i < length octets → count ≡ zeros_after before (take i octets) → (get_or octets i 0 ≡ 0 → count < 4)
+    → less_fill before (take i octets) ≡ take i octets → less_fill before (take (i + 1) octets) ≡ take (i + 1) octets
+kept-step before octets i count inside e few kept =
+    let octet : ℕ = get_or octets i 0 in
+    let one : less_fill (zeros_after before (take i octets)) (octet ∷ []) ≡ octet ∷ [] =
+    ap (λ n. less_fill n (octet ∷ [])) (sym e) ∙ less_fill-one count octet ∙ kept-some count octet few in
+    ap (less_fill before) (take_more octets i 0 inside) ∙ less_fill-append before (take i octets) (octet ∷ []) ∙ ap (λ os. os ++ less_fill (zeros_after before (take i octets)) (octet ∷ [])) kept
+    ∙ ap (λ os. take i octets ++ os) one ∙ sym (take_more octets i 0 inside)
+
+-- ---- octets of zeros behind as many as are kept
+
+zeros_dropped : (count n : ℕ) → 4 ≤ count → less_fill count (replicate n 0) ≡ []
+unfolding less_fill
+zeros_dropped count zero many = refl
+zeros_dropped count (suc n) many =
+    ap (λ os. os ++ less_fill (zeros_with count 0) (replicate n 0)) (kept-none count 0 refl many) ∙ ap (λ z. less_fill z (replicate n 0)) (sym (zeros-most count 0 refl many)) ∙ zeros_dropped count n many
+
+zeros_stay : (count n : ℕ) → 4 ≤ count → zeros_after count (replicate n 0) ≡ count
+unfolding zeros_after
+zeros_stay count zero many = refl
+zeros_stay count (suc n) many = ap (λ z. zeros_after z (replicate n 0)) (sym (zeros-most count 0 refl many)) ∙ zeros_stay count n many
+
+-- ---- a piece gone over in spans: octets that are kept, and octets of zeros behind them that are not
+
+-- What was added of the octets before a place, and how many of zeros stand at their end.
+pub record AddedUpTo (before : ℕ) (piece old items : List ℕ) (place count : ℕ) : Type 0 where
+  pub within : place ≤ length piece
+  pub items_are : items ≡ old ++ less_fill before (take place piece)
+  pub count_is : count ≡ zeros_after before (take place piece)
+
+pub AddedUpTo-none : (before : ℕ) (piece old : List ℕ) → AddedUpTo before piece old old 0 before
+AddedUpTo-none before piece old = record {
+  within = omega arith;
+  items_are = sym (append-nil old) ∙ ap (λ os. old ++ os) (sym (less_fill-none before));
+  count_is = sym (zeros_after-none before);
+}
+
+-- Octets that are kept.
+added_kept : (before : ℕ) (piece old items new : List ℕ) (place count k next : ℕ) → AddedUpTo before piece old items place count → place + k ≤ length piece
+    → less_fill count (take k (drop place piece)) ≡ take k (drop place piece) → next ≡ zeros_after count (take k (drop place piece))
+    → new ≡ items ++ take k (drop place piece) → AddedUpTo before piece old new (place + k) next
+added_kept before piece old items new place count k next so inside kept is e =
+    let front : List ℕ = take place piece in
+    let span : List ℕ = take k (drop place piece) in
+    let whole : take (place + k) piece ≡ front ++ span = take-add place k piece in
+    record {
+      within = inside;
+      items_are = e ∙ ap (λ os. os ++ span) so.items_are ∙ append_assoc old (less_fill before front) span
+          ∙ ap (λ os. old ++ (less_fill before front ++ os)) (sym kept ∙ ap (λ n. less_fill n span) so.count_is)
+          ∙ ap (λ os. old ++ os) (sym (less_fill-append before front span) ∙ ap (less_fill before) (sym whole));
+      count_is = is ∙ ap (λ n. zeros_after n span) so.count_is ∙ sym (zeros_after-append before front span) ∙ ap (zeros_after before) (sym whole);
+    }
+
+-- Octets of zeros that are not.
+added_zeros : (before : ℕ) (piece old items : List ℕ) (end count n : ℕ) → AddedUpTo before piece old items end count → end + n ≤ length piece
+    → take n (drop end piece) ≡ replicate n 0 → (0 < n → 4 ≤ count) → AddedUpTo before piece old items (end + n) count
+added_zeros before piece old items end count zero so inside zeros many =
+    let same : end ≡ end + 0 = omega arith in
+    subst (λ k. AddedUpTo before piece old items k count) same so
+added_zeros before piece old items end count (suc n) so inside zeros many =
+    let front : List ℕ = take end piece in
+    let full : 4 ≤ count = many (omega arith) in
+    let whole : take (end + suc n) piece ≡ front ++ replicate (suc n) 0 = take-add end (suc n) piece ∙ ap (λ os. front ++ os) zeros in
+    let none : less_fill (zeros_after before front) (replicate (suc n) 0) ≡ [] = ap (λ z. less_fill z (replicate (suc n) 0)) (sym so.count_is) ∙ zeros_dropped count (suc n) full in
+    record {
+      within = inside;
+      items_are = so.items_are
+          ∙ ap (λ os. old ++ os) (sym (append-nil (less_fill before front)) ∙ ap (λ os. less_fill before front ++ os) (sym none) ∙ sym (less_fill-append before front (replicate (suc n) 0))
+          ∙ ap (less_fill before) (sym whole));
+      count_is = sym (zeros_stay count (suc n) full) ∙ ap (λ z. zeros_after z (replicate (suc n) 0)) so.count_is
+          ∙ sym (zeros_after-append before front (replicate (suc n) 0)) ∙ ap (zeros_after before) (sym whole);
+    }
+
+-- One span.
+pub AddedUpTo-span : (before : ℕ) (piece old items new : List ℕ) (place count k next n : ℕ) → AddedUpTo before piece old items place count → place + k + n ≤ length piece
+    → less_fill count (take k (drop place piece)) ≡ take k (drop place piece) → next ≡ zeros_after count (take k (drop place piece))
+    → new ≡ items ++ take k (drop place piece) → take n (drop (place + k) piece) ≡ replicate n 0 → (0 < n → 4 ≤ next) → AddedUpTo before piece old new (place + k + n) next
+AddedUpTo-span before piece old items new place count k next n so inside kept is e zeros many =
+    added_zeros before piece old new (place + k) next n (added_kept before piece old items new place count k next so (omega (arith, inside)) kept is e) inside zeros many
+
+-- all of it
+pub AddedUpTo-all : (before : ℕ) (piece old items : List ℕ) (place count : ℕ) → AddedUpTo before piece old items place count → length piece ≤ place
+    → (items ≡ old ++ less_fill before piece) × (count ≡ zeros_after before piece)
+AddedUpTo-all before piece old items place count so all =
+    let whole : take place piece ≡ piece = take_all place piece all in
+    (so.items_are ∙ ap (λ os. old ++ less_fill before os) whole, so.count_is ∙ ap (zeros_after before) whole)
+
+-- one octet of zeros more in front
+pub zeros-in_front : (octets : List ℕ) (i : ℕ) → i < length octets → get_or octets i 0 ≡ 0 → take i octets ≡ replicate i 0 → take (i + 1) octets ≡ replicate (i + 1) 0
+zeros-in_front octets i inside none zeros =
+    take_more octets i 0 inside ∙ ap (λ os. os ++ get_or octets i 0 ∷ []) zeros ∙ ap (λ n. replicate i 0 ++ n ∷ []) none ∙ replicate_more i 0
+
+-- the octets from a place on, as a slice
+pub slice_from : (piece : List ℕ) (place : ℕ) → take (length piece - place) (drop place piece) ≡ drop place piece
+slice_from piece place = take_all (length piece - place) (drop place piece) (omega (arith, length-drop place piece))

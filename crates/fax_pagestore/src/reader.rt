@@ -5,9 +5,9 @@ ghost use Rattle.fax_runcodes.specs.Widths.{elements_of};
 ghost use Rattle.fax_pagestore.specs.Pages.{PageValue};
 ghost use Rattle.fax_pagestore.specs.PageTexts.{MeansRows, MeansPage};
 ghost use Rattle.fax_pagestore.specs.PageFaults.{FailsPage};
-ghost use Rattle.fax_pagestore.specs.Fill.{less_fill, zeros_after, zeros_with};
 ghost use Rattle.fax_pagestore.specs.Readers.{AreJudged};
 
+mod fill;
 mod judging;
 mod mark;
 mod rows;
@@ -17,6 +17,7 @@ use crate::ends::behind_eols;
 use crate::front::drop_front;
 use crate::{Coding, Format, Page, PageFault, RowStore};
 use fax_bits::NoMemory;
+use fill::append;
 use judging::judge;
 pub use mark::Mark;
 use rows::{read_up_to, unread_from};
@@ -218,42 +219,5 @@ impl<S: RowStore> PageReader<S> {
         self.tag = tag;
         self.zeros = zeros;
         self.settled = settled;
-    }
-}
-
-/// The most octets of zeros that are kept side by side: an EOL has 11 zeros at least, and no code word has them.
-const MOST_ZEROS: u32 = 4;
-
-/// Adds a piece to octets, less its octets of zeros behind four others, where so many stood before it. It answers how many
-/// stand at the end then, of which four are counted. An `Err` changes nothing.
-fn append(octets: &mut Vec<u8>, zeros: u32, piece: &[u8]) -> Result<u32, NoMemory>
-    ensures ok { OnOk result (octets.new.items ≡ octets.old.items ++ less_fill zeros piece.now) }
-    ensures zeros { IfOk result (λ after. after ≡ zeros_after zeros piece.now) }
-    ensures err { OnErr result (octets.new.items ≡ octets.old.items) }
-{
-    let len = octets.len();
-    let mut count = zeros;
-    for octet in piece {
-        if *octet != 0 || count < MOST_ZEROS {
-            if octets.push(*octet).is_err() {
-                octets.truncate(len);
-                return Err(NoMemory);
-            }
-        }
-        count = zeros_with(count, *octet);
-    }
-    Ok(count)
-}
-
-/// How many octets of zeros stand at the end with one more octet, of which four are counted.
-fn zeros_with(zeros: u32, octet: u8) -> u32
-    ensures { result ≡ zeros_with zeros octet }
-{
-    if octet != 0 {
-        0
-    } else if zeros < MOST_ZEROS {
-        zeros + 1
-    } else {
-        zeros
     }
 }

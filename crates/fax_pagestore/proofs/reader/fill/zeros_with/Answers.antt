@@ -1,6 +1,6 @@
 use Rattle.std.proofs.Common.{arith}
 use Rattle.fax_pagestore.proofs.FillLemmas.{zeros-some, zeros-more, zeros-most}
-use Rattle.fax_pagestore.proofs.reader.zeros_with.Goals as goal
+use Rattle.fax_pagestore.proofs.reader.fill.zeros_with.Goals as goal
 
 pub returns-then-octet-ne0 : goal.returns-then-octet-ne0
 returns-then-octet-ne0 c = zeros-some c.args.zeros c.args.octet (λ e. omega (arith, e, c.if-octet-ne0.true))

@@ -1,0 +1,89 @@
+//! Octets that come to a reader, less the zeros of long fill.
+ghost use Rattle.std.specs.Prelude.{◌≡◌, ◌<◌, ◌≤◌, ◌++◌, get_or, length, take, replicate, IfOk, OnOk, OnErr};
+ghost use Rattle.fax_pagestore.specs.Fill.{less_fill, most_zeros, zeros_after, zeros_with};
+
+use fax_bits::NoMemory;
+
+/// The most octets of zeros that are kept side by side: they have as many zeros as an EOL and a code word have bits.
+const MOST_ZEROS: u32 = 4;
+
+/// Adds a piece to octets, less its octets of zeros behind four others, where so many stood before it. It answers how many
+/// stand at the end then, of which four are counted. An `Err` changes nothing.
+pub(super) fn append(octets: &mut Vec<u8>, zeros: u32, piece: &[u8]) -> Result<u32, NoMemory>
+    ensures ok { OnOk result (octets.new.items ≡ octets.old.items ++ less_fill zeros piece.now) }
+    ensures zeros { IfOk result (λ after. after ≡ zeros_after zeros piece.now) }
+    ensures err { OnErr result (octets.new.items ≡ octets.old.items) }
+{
+    let len = octets.len();
+    let mut count = zeros;
+    let mut place = 0;
+    while place < piece.len() {
+        let front = kept_front(&piece[place..], count);
+        let end = place + front.len;
+        if octets.extend_from_slice(&piece[place..end]).is_err() {
+            octets.truncate(len);
+            return Err(NoMemory);
+        }
+        count = front.zeros;
+        place = end + zeros_in_front(&piece[end..]);
+    }
+    Ok(count)
+}
+
+/// Octets in front of others of which all are kept, and how many of zeros stand at their end, of which four are counted.
+#[derive(Clone, Copy)]
+struct Kept {
+    len: usize,
+    zeros: u32,
+}
+
+/// The octets before the first one that is not kept, where so many of zeros stood before them.
+fn kept_front(octets: &[u8], zeros: u32) -> Kept
+    ensures within { result.len ≤ length octets.now }
+    ensures kept { less_fill zeros (take result.len octets.now) ≡ take result.len octets.now }
+    ensures zeros { result.zeros ≡ zeros_after zeros (take result.len octets.now) }
+    ensures stops { result.len < length octets.now → (get_or octets.now result.len 0 ≡ 0) × (most_zeros ≤ result.zeros) }
+{
+    let mut count = zeros;
+    for place in 0..octets.len() {
+        let octet = octets[place];
+        if octet == 0 && count >= MOST_ZEROS {
+            return Kept {
+                len: place,
+                zeros: count,
+            };
+        }
+        count = zeros_with(count, octet);
+    }
+    Kept {
+        len: octets.len(),
+        zeros: count,
+    }
+}
+
+/// How many octets of zeros stand in front.
+fn zeros_in_front(octets: &[u8]) -> usize
+    ensures within { result ≤ length octets.now }
+    ensures zeros { take result octets.now ≡ replicate result 0 }
+    ensures stops { result < length octets.now → 0 < get_or octets.now result 0 }
+{
+    for place in 0..octets.len() {
+        if octets[place] != 0 {
+            return place;
+        }
+    }
+    octets.len()
+}
+
+/// How many octets of zeros stand at the end with one more octet, of which four are counted.
+fn zeros_with(zeros: u32, octet: u8) -> u32
+    ensures { result ≡ zeros_with zeros octet }
+{
+    if octet != 0 {
+        0
+    } else if zeros < MOST_ZEROS {
+        zeros + 1
+    } else {
+        zeros
+    }
+}
