@@ -1,6 +1,7 @@
 -- Octets less the zeros of long fill.
-use Rattle.std.proofs.Common.{◌≡◌, ℕ, zero, suc, ◌+◌, ◌-◌, ◌<◌, ◌≤◌, List, [], ◌∷◌, ◌++◌, length, take, drop, get_or, replicate, refl, sym, ◌∙◌, ap, subst, arith, append_assoc, append-nil, length-drop}
+use Rattle.std.proofs.Common.{◌≡◌, ℕ, zero, suc, ◌+◌, ◌-◌, ◌<◌, ◌≤◌, List, [], ◌∷◌, ◌++◌, length, take, drop, get_or, replicate, refl, sym, ◌∙◌, ap, subst, arith, append_assoc, append-nil, length-drop, inl, inr}
 use Rattle.std.proofs.lemmas.List.{take_more, take_all, replicate_more}
+use Rattle.std.proofs.lemmas.Bool.{cases_lt}
 use Rattle.std.proofs.Math.Seq.{take-add}
 use Rattle.fax_pagestore.specs.Fill.{zeros_with, zeros_after, kept_octet, less_fill}
 
@@ -86,6 +87,20 @@ zeros_stay : (count n : ℕ) → 4 ≤ count → zeros_after count (replicate n 
 unfolding zeros_after
 zeros_stay count zero many = refl
 zeros_stay count (suc n) many = ap (λ z. zeros_after z (replicate n 0)) (sym (zeros-most count 0 refl many)) ∙ zeros_stay count n many
+
+-- of octets of zeros no more are kept than are missing to four
+pub few_zeros_kept : (count n : ℕ) → length (less_fill count (replicate n 0)) + (4 - zeros_after count (replicate n 0)) ≤ 4 - count
+few_zeros_kept count zero = omega (arith, ap length (less_fill-none count), zeros_after-none count)
+few_zeros_kept count (suc n) = elim (cases_lt count 4) [
+  | inl few ↦
+      let one : less_fill count (0 ∷ []) ≡ 0 ∷ [] = less_fill-one count 0 ∙ kept-some count 0 (λ _. few) in
+      let next : zeros_after count (0 ∷ []) ≡ count + 1 = zeros_after-one count 0 ∙ sym (zeros-more count 0 refl few) in
+      let less : less_fill count (replicate (suc n) 0) ≡ 0 ∷ less_fill (count + 1) (replicate n 0) =
+      less_fill-append count (0 ∷ []) (replicate n 0) ∙ ap (λ os. os ++ less_fill (zeros_after count (0 ∷ [])) (replicate n 0)) one ∙ ap (λ z. 0 ∷ less_fill z (replicate n 0)) next in
+      let after : zeros_after count (replicate (suc n) 0) ≡ zeros_after (count + 1) (replicate n 0) = zeros_after-append count (0 ∷ []) (replicate n 0) ∙ ap (λ z. zeros_after z (replicate n 0)) next in
+      omega (arith, ap length less, after, few, few_zeros_kept (count + 1) n)
+  | inr many ↦ omega (arith, ap length (zeros_dropped count (suc n) many), zeros_stay count (suc n) many)
+]
 
 -- ---- a piece gone over in spans: octets that are kept, and octets of zeros behind them that are not
 

@@ -1,6 +1,6 @@
 -- Pages that are read as their octets come.
 use Rattle.std.proofs.Common.{◌≡◌, ◌≢◌, ℕ, zero, suc, ◌+◌, ◌-◌, ◌*◌, ◌/◌, ◌%◌, ◌<◌, ◌≤◌, Bool, true, false, List, [], ◌∷◌, ◌++◌, All, Option, Some, None, length, take, drop, replicate, slice_get, slice_index_or, IfSome, IsSome, is_some, Result, Ok, Err, IsOk, OnOk, zero-add, refl, sym, ◌∙◌, ap, subst, arith, append_assoc, append-nil, length-append, length-drop, inl, inr}
-use Rattle.std.proofs.lemmas.List.{nil_from_length, length_push, drop_at, drop-drop, drop-append-le, take-append-drop, append_cancel_left, length-replicate, replicate-append-replicate, get_or-replicate}
+use Rattle.std.proofs.lemmas.List.{nil_from_length, length_push, drop_at, drop-drop, drop-append-le, take-append-drop, append_cancel_left, length-replicate, length-take-le, replicate-append-replicate, get_or-replicate}
 use Rattle.std.proofs.lemmas.List.Elements.{All-push}
 use Rattle.std.proofs.Math.Seq.{drop-length}
 use Rattle.fax_bits.specs.Bits.{bits_of}
@@ -26,6 +26,8 @@ use Rattle.fax_pagestore.specs.PageRows.{most_rows}
 use Rattle.fax_pagestore.specs.Pages.{PageValue}
 use Rattle.fax_pagestore.specs.PageTexts.{end_of_line, IsFront, IsSeparator, InARow, SpellsRow, SpellsRows, ReadSoFar, MeansRows, MeansPage}
 use Rattle.fax_pagestore.specs.PageFaults.{LineBegins, BreaksReturn, StopsInReturn, FailsRow, Stops, FailsPage, last_of, row_before}
+use Rattle.fax_pagestore.specs.Fill.{less_fill, zeros_after}
+use Rattle.fax_pagestore.proofs.FillLemmas.{few_zeros_kept}
 use Rattle.fax_pagestore.specs.Readers.{ReadsOne, BeginsRow, ReaderValue, IsBehind, IsReadUpTo, NoMoreIsWhole, AreJudged, fault_of, new_reader}
 use Rattle.fax_pagestore.specs.declared.reader.settled.Settled.{Settled}
 use Rattle.fax_pagestore.specs.declared.reader.rows.Stop.{Stop}
@@ -234,17 +236,21 @@ pub skipped : (old new : Place) (n : ℕ) → Passes old new (take n old.left) �
 skipped old new n p = append_cancel_left (take n old.left) new.left (drop n old.left) (sym p.bits ∙ sym (take-append-drop n old.left))
 
 -- a place that was reached in octets
-pub record IsReached (octets : List ℕ) (end : Place) : Type 0 where
+pub record IsReached (octets : List ℕ) (used : ℕ) (end : Place) : Type 0 where
+  pub on : used ≤ end.passed
   pub within : end.passed ≤ 8 * length octets
   pub left_is : drop end.passed (bits_of octets) ≡ end.left
 
-pub reached : (octets : List ℕ) (start a b end : Place) (text : List Bool) → start ≡ record { passed = 0; left = bits_of octets } → Passes start a text
-    → (more : List Bool) × Passes a b more → (more : List Bool) × Passes b end more → IsReached octets end
-reached octets start a b end text at one (second, two) (third, three) =
+pub reached : (octets : List ℕ) (used : ℕ) (start a b end : Place) → used ≤ 8 * length octets → start ≡ record { passed = 0; left = bits_of octets } → Passes start a (take used start.left)
+    → (more : List Bool) × Passes a b more → (more : List Bool) × Passes b end more → IsReached octets used end
+reached octets used start a b end inside at one (second, two) (third, three) =
+    let text : List Bool = take used start.left in
+    let size : length text ≡ used = length-take-le used start.left (omega (arith, inside, length-bits_of octets, ap (λ (p : Place). length p.left) at)) in
     let all : Passes start end ((text ++ second) ++ third) = Passes-then start b end (text ++ second) third (Passes-then start a b text second one two) three in
     let passed : end.passed ≡ length ((text ++ second) ++ third) = all.place ∙ ap (λ (p : Place). p.passed + length ((text ++ second) ++ third)) at ∙ zero-add (length ((text ++ second) ++ third)) in
     let bits : bits_of octets ≡ ((text ++ second) ++ third) ++ end.left = sym (ap (λ (p : Place). p.left) at) ∙ all.bits in
     record {
+      on = omega (arith, passed, size, length-append (text ++ second) third, length-append text second);
       within = omega (arith, ap length bits, length-append ((text ++ second) ++ third) end.left, length-bits_of octets);
       left_is = ap (drop end.passed) bits ∙ drop_at ((text ++ second) ++ third) end.left end.passed (sym passed);
     }
@@ -541,8 +547,8 @@ holds_before bits n m le (before, rest, e) =
     (take (m - n) (drop n bits) ++ before, rest, split ∙ ap (λ b. take (m - n) (drop n bits) ++ b) e ∙ sym (append_assoc (take (m - n) (drop n bits)) before (end_of_line ++ rest)))
 
 -- where so many bits of octets were passed, behind all EOLs
-pub behind_all : (octets : List ℕ) (first : ℕ) (place : Place) → (HoldsEol (drop (8 * first) (bits_of octets)) → ⊥) → IsReached octets place → 8 * first ≤ place.passed → HoldsEol place.left → ⊥
-behind_all octets first place none is le holds = none (holds_before (bits_of octets) (8 * first) place.passed le (subst HoldsEol (sym is.left_is) holds))
+pub behind_all : (octets : List ℕ) (first used : ℕ) (place : Place) → (HoldsEol (drop (8 * first) (bits_of octets)) → ⊥) → IsReached octets used place → 8 * first ≤ place.passed → HoldsEol place.left → ⊥
+behind_all octets first used place none is le holds = none (holds_before (bits_of octets) (8 * first) place.passed le (subst HoldsEol (sym is.left_is) holds))
 
 pub stopped_waits : (coding : Coding) (width : ℕ) (rows : List Elements) (tag : Bool) (left : List Bool) (stop : Stop) → IsWidth width → All (λ row. length row ≡ width) rows
     → (stop ≡ NoEols → HoldsEol left → ⊥) → (stop ≡ NoLine → LineBegins left → ⊥) → ((fault : PageFault) → stop ≡ Fault fault → Stops coding width rows 0 tag left fault)
@@ -551,3 +557,16 @@ stopped_waits coding width rows tag left NoEols is each eol line met not_many = 
 stopped_waits coding width rows tag left NoLine is each eol line met not_many = no_line_waits coding width rows tag left (width_some width is) (line refl)
 stopped_waits coding width rows tag left (Fault fault) is each eol line met not_many =
     fault_waits coding width rows tag left fault is each (λ many. not_many (ap (λ (f : PageFault). Fault f) many)) (met fault refl)
+
+-- ---- what is kept
+
+-- Of octets of zeros no more are kept than may be.
+pub fill_kept : (held piece all : List ℕ) (used place before after n : ℕ) → all ≡ held ++ less_fill before piece → after ≡ zeros_after before piece → piece ≡ replicate n 0
+    → used ≤ place → used ≤ 8 * length held → length (drop place (bits_of all)) + 8 * (4 - after) ≤ length (drop used (bits_of held)) + 8 * (4 - before)
+fill_kept held piece all used place before after n whole count zeros on within =
+    let few = subst (λ os. length (less_fill before os) + (4 - zeros_after before os) ≤ 4 - before) (sym zeros) (few_zeros_kept before n) in
+    omega (arith, few, count, on, within, ap length whole, length-append held (less_fill before piece), length-drop place (bits_of all), length-bits_of all, length-drop used (bits_of held), length-bits_of held)
+
+-- how many octets those are in which bits stand of which fewer than eight are used
+pub octets_of_bits : (octets : List ℕ) (used : ℕ) → used < 8 → used ≤ 8 * length octets → length octets ≡ (length (drop used (bits_of octets)) + 7) / 8
+octets_of_bits octets used few within = omega (arith, few, within, length-drop used (bits_of octets), length-bits_of octets)

@@ -1,5 +1,5 @@
 -- Pages that are read as their octets come: what a reader is, and which octets have come to it.
-use Rattle.std.specs.Prelude.{◌≡◌, ◌≢◌, ◌≤◌, ℕ, Bool, List, [], ◌∷◌, ◌++◌, Option, Some, None, length, take}
+use Rattle.std.specs.Prelude.{◌≡◌, ◌≢◌, ◌≤◌, ◌+◌, ◌-◌, ◌*◌, ℕ, Bool, List, [], ◌∷◌, ◌++◌, Option, Some, None, length, take}
 use Rattle.fax_bits.specs.Bits.{bits_of}
 use Rattle.fax_bits.specs.Reading.{Place, Passes}
 use Rattle.fax_runcodes.specs.declared.format.Coding.{Coding}
@@ -12,7 +12,7 @@ use Rattle.fax_mhcode.specs.declared.fault.LineFault.TheVariants.{Run, NoMode}
 use Rattle.fax_pagestore.specs.declared.fault.PageFault.{PageFault}
 use Rattle.fax_pagestore.specs.declared.reader.settled.Settled.{Settled}
 use Rattle.fax_pagestore.specs.declared.reader.settled.Settled.TheVariants.{Page, NoPage}
-use Rattle.fax_pagestore.specs.Fill.{less_fill, zeros_after}
+use Rattle.fax_pagestore.specs.Fill.{most_zeros, less_fill, zeros_after}
 use Rattle.fax_pagestore.specs.Ends.{HoldsNoTaggedEol, BeginNoEol}
 use Rattle.fax_pagestore.specs.PageTexts.{IsSeparator, SpellsRow, ReadSoFar, MeansRows}
 use Rattle.fax_pagestore.specs.PageFaults.{FailsPage, SeparatorBegins, last_of}
@@ -79,6 +79,10 @@ pub record IsBehind (octets : List ℕ) (reader : ReaderValue) : Type 0 where
 pub record HasRead (octets : List ℕ) (reader : ReaderValue) : Type 0 where
   pub behind : IsBehind (less_fill 0 octets) reader
   pub zeros : reader.settled ≡ None → reader.zeros ≡ zeros_after 0 octets
+
+-- how many bits a reader keeps beside its rows, with those that it would keep of fill behind them
+abbrev pub most_kept : ReaderValue → ℕ
+most_kept reader = length reader.left + 8 * (most_zeros - reader.zeros)
 
 -- What a mark keeps of a reader: how many rows it has, and all else.
 pub record MarkValue : Type 0 where

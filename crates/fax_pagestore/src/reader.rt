@@ -1,5 +1,5 @@
 //! Pages read as their octets come.
-ghost use Rattle.std.specs.Prelude.{ℕ, List, [], ◌≡◌, ◌<◌, ◌≤◌, ◌++◌, drop, length, IfOk, IfErr, OnOk, OnErr, IsSome, IsNone, IsOk, Ok, Err};
+ghost use Rattle.std.specs.Prelude.{ℕ, List, [], ◌≡◌, ◌<◌, ◌≤◌, ◌+◌, ◌/◌, ◌++◌, drop, length, replicate, is_some, IfOk, IfErr, OnOk, OnErr, IsSome, IsNone, IsOk, Ok, Err};
 ghost use Rattle.fax_runcodes.specs.Rows.{Elements};
 ghost use Rattle.fax_runcodes.specs.Widths.{elements_of};
 ghost use Rattle.fax_pagestore.specs.Pages.{PageValue};
@@ -60,11 +60,11 @@ impl<S: RowStore> Model for PageReader<S> {
     ghost view = { λ r. record { format = r.format; coding = r.coding; rows = S.rows r.rows; tag = r.tag; left = drop r.used (bits_of r.octets.items); zeros = r.zeros; settled = r.settled } };
 
     ghost invariant = { λ r. (r.used ≤ 8 * length r.octets.items) × (length (S.rows r.rows) ≤ most_rows)
-        × All (λ row. length row ≡ elements_of r.format.width) (S.rows r.rows) × (r.settled ≡ Some Page → 0 < length (S.rows r.rows)) };
+        × All (λ row. length row ≡ elements_of r.format.width) (S.rows r.rows) × (r.settled ≡ Some Page → 0 < length (S.rows r.rows)) × (r.used < 8) };
 }
 
 impl<S: RowStore> PageReader<S> {
-    ghost use Rattle.fax_pagestore.specs.Readers.{HasRead, AreJudged, new_reader, mark_of, reader_at};
+    ghost use Rattle.fax_pagestore.specs.Readers.{HasRead, AreJudged, new_reader, mark_of, reader_at, most_kept};
 
     /// A reader to which nothing came. It takes no memory.
     pub fn new(alloc: Global, format: Format, coding: Coding) -> Self
@@ -93,6 +93,9 @@ impl<S: RowStore> PageReader<S> {
         ensures settled { IsSome self.old.settled → IsOk result × (self.new ≡ self.old) }
         ensures fault { IfErr result (λ fault. fault ≡ PageFault.NoMemory) }
         ensures err { OnErr result (self.new ≡ self.old) }
+
+        // So while only fill comes what is kept is bounded.
+        ensures fill { OnOk result ((n : ℕ) → piece.now ≡ replicate n 0 → most_kept self.new ≤ most_kept self.old) }
     {
         if self.settled.is_some() {
             return Ok(());
@@ -126,6 +129,20 @@ impl<S: RowStore> PageReader<S> {
         self.zeros = zeros;
         self.settled = reached.settled;
         Ok(())
+    }
+
+    /// Whether it is settled what the octets are, whatever follows them.
+    pub fn is_settled(&self) -> bool
+        ensures { result ≡ is_some self.now.settled }
+    {
+        self.settled.is_some()
+    }
+
+    /// How many octets are kept beside the rows: those in which the bits stand that are not read.
+    pub fn pending(&self) -> usize
+        ensures { result ≡ (length self.now.left + 7) / 8 }
+    {
+        self.octets.len()
     }
 
     /// Why the octets so far are no page, if they are none. It takes no memory.

@@ -27,5 +27,5 @@ impl Model for Mark {
 
     ghost view = { λ m. record { format = m.format; coding = m.coding; count = m.count; tag = m.tag; left = drop m.used (bits_of m.octets.items); zeros = m.zeros; settled = m.settled } };
 
-    ghost invariant = { λ m. (m.used ≤ 8 * length m.octets.items) × (m.settled ≡ Some Page → 0 < m.count) };
+    ghost invariant = { λ m. (m.used ≤ 8 * length m.octets.items) × (m.settled ≡ Some Page → 0 < m.count) × (m.used < 8) };
 }

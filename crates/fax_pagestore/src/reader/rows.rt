@@ -53,6 +53,7 @@ pub(super) fn read_up_to<S: RowStore>(
     ensures few { length (S.rows rows.new) ≤ most_rows }
     ensures each { All (λ row. length row ≡ elements_of width) (S.rows rows.new) }
     ensures place { IfOk result (λ reached. reached.place ≤ 8 * length octets.now) }
+    ensures on { IfOk result (λ reached. used ≤ reached.place) }
     ensures some { IfOk result (λ reached. reached.settled ≡ Some Settled.Page → 0 < length (S.rows rows.new)) }
     ensures read { IfOk result (λ reached. reached.settled ≡ None → (all : List ℕ) → IsReadUpTo coding (elements_of width) all (S.rows rows.old) tag (drop used (bits_of octets.now))
         → IsReadUpTo coding (elements_of width) all (S.rows rows.new) reached.tag (drop reached.place (bits_of octets.now))) }
@@ -100,6 +101,7 @@ pub(super) fn read_up_to<S: RowStore>(
 pub(super) fn unread_from(octets: &[u8], used: u32, tag: Option<bool>) -> u32
     requires { used ≤ 8 * length octets.now }
     ensures within { result ≤ 8 * length octets.now }
+    ensures on { used ≤ result }
     ensures read { (coding : Coding) (width : ℕ) (all : List ℕ) (rows : List Elements) → IsReadUpTo coding width all rows tag (drop used (bits_of octets.now))
         → IsReadUpTo coding width all rows tag (drop result (bits_of octets.now)) }
 {

@@ -1,11 +1,11 @@
-use Rattle.std.proofs.Common.{◌≡◌, ◌++◌, ◌/◌, ◌%◌, ◌*◌, List, ℕ, None, IsSome, is_some, drop, sym, ap, ◌∙◌, subst, arith}
+use Rattle.std.proofs.Common.{◌+◌, ◌-◌, ◌≤◌, ◌≡◌, ◌++◌, length, ◌/◌, ◌%◌, ◌*◌, List, ℕ, None, IsSome, is_some, drop, sym, ap, ◌∙◌, subst, arith}
 use Rattle.fax_bits.specs.Bits.{bits_of}
 use Rattle.fax_runcodes.specs.Widths.{elements_of}
 use Rattle.fax_pagestore.specs.Ends.{HoldsEol}
 use Rattle.fax_pagestore.specs.Fill.{less_fill, zeros_after}
 use Rattle.fax_pagestore.proofs.FillLemmas.{less_fill-append, zeros_after-append}
-use Rattle.fax_pagestore.specs.Readers.{HasRead, IsBehind, ReaderValue, IsReadUpTo, NoMoreIsWhole}
-use Rattle.fax_pagestore.proofs.ReaderLemmas.{some_if, none_if, not_none, IsReadUpTo-more, IsBehind-settled, drop_place, nothing_left, piece_waits}
+use Rattle.fax_pagestore.specs.Readers.{HasRead, IsBehind, ReaderValue, IsReadUpTo, NoMoreIsWhole, most_kept}
+use Rattle.fax_pagestore.proofs.ReaderLemmas.{some_if, none_if, not_none, IsReadUpTo-more, IsBehind-settled, drop_place, nothing_left, piece_waits, fill_kept}
 use Rattle.fax_pagestore.proofs.reader.PageReader.feed.Goals as goal
 
 pub returns-then-is_some-clause-read : goal.returns-then-is_some-clause-read
@@ -74,3 +74,21 @@ returns-clause-read g c = λ octets has.
       );
     } in
     record { behind = subst (λ (os : List ℕ). IsBehind os reader) (sym at_end) there; zeros = λ later. count }
+
+pub returns-then-end-from-clause-fill : goal.returns-then-end-from-clause-fill
+returns-then-end-from-clause-fill g c = λ n zeros.
+    subst (λ (r : ReaderValue). length (drop c.self.inside.used (bits_of c.append.new.octets.items)) + 8 * (4 - c.in_ok-zeros.zeros) ≤ most_kept r) c.self.view_is
+    (fill_kept c.self.inside.octets.items c.args.piece.now c.append.new.octets.items c.self.inside.used c.self.inside.used c.self.inside.zeros c.in_ok-zeros.zeros n
+    c.in_ok-zeros.ensures.ok c.in_ok-zeros.ensures.zeros zeros (omega arith) c.self.invariant.0)
+
+pub returns-clause-fill : goal.returns-clause-fill
+returns-clause-fill g c = λ n zeros.
+    let place : ℕ = c.in-Ok.reached.place in
+    let all : List ℕ = c.as_slice-2.result.now in
+    let left : drop place (bits_of all) ≡ drop (place % 8) (bits_of c.drop_front.new.octets.items) =
+    sym (drop_place all place c.in-Ok.ensures.place)
+    ∙ ap (λ (o : List ℕ). drop (place % 8) (bits_of o)) (ap (drop (place / 8)) c.as_slice-2.ensures.value ∙ sym c.drop_front.ensures) in
+    subst (λ bits. length bits + 8 * (4 - c.in_ok-zeros.zeros) ≤ most_kept c.args.self.now) left
+    (subst (λ (r : ReaderValue). length (drop place (bits_of all)) + 8 * (4 - c.in_ok-zeros.zeros) ≤ most_kept r) c.self.view_is
+    (fill_kept c.self.inside.octets.items c.args.piece.now all c.self.inside.used place c.self.inside.zeros c.in_ok-zeros.zeros n
+    (c.as_slice-2.ensures.value ∙ c.in_ok-zeros.ensures.ok) c.in_ok-zeros.ensures.zeros zeros (omega (arith, c.unread_from.ensures.on, c.in-Ok.ensures.on)) c.self.invariant.0))

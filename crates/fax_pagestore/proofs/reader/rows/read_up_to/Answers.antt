@@ -21,9 +21,9 @@ left_is : (g : Over) (c : After-skip g) → c.skip.new.self.left ≡ drop c.args
 left_is g c = skipped c.new-reader.result c.skip.new.self c.args.used c.skip.ensures ∙ ap (λ (p : Place). drop c.args.used p.left) c.new-reader.ensures
 
 -- the place where no further row is read
-halted : (g : Over) (c : In_ok-halt g) → IsReached c.args.octets.now c.read_rows_on.new.reader
+halted : (g : Over) (c : In_ok-halt g) → IsReached c.args.octets.now c.args.used c.read_rows_on.new.reader
 halted g c =
-    reached c.args.octets.now c.new-reader.result c.skip.new.self c.begin.new.reader c.read_rows_on.new.reader _ c.new-reader.ensures c.skip.ensures (c.in-Some.ensures.passes refl) c.in_ok-halt.ensures.passes
+    reached c.args.octets.now c.args.used c.new-reader.result c.skip.new.self c.begin.new.reader c.read_rows_on.new.reader c.requires.used c.new-reader.ensures c.skip.ensures (c.in-Some.ensures.passes refl) c.in_ok-halt.ensures.passes
 
 -- what is read up to it
 read_on : (g : Over) (c : In_ok-halt g) (all : List ℕ) → IsReadUpTo c.args.coding (elements_of c.args.width) all (g.S.RowStore.rows c.args.rows.now) c.args.tag (drop c.args.used (bits_of c.args.octets.now))
@@ -42,6 +42,11 @@ pub returns-clause-place : goal.returns-clause-place
 returns-clause-place g c =
     let is = halted g (goal.at.returns-clause-place g c).In_ok-halt in
     omega (arith, is.within, c.place-place.ensures)
+
+pub returns-clause-on : goal.returns-clause-on
+returns-clause-on g c =
+    let is = halted g (goal.at.returns-clause-on g c).In_ok-halt in
+    omega (arith, is.on, c.place-place.ensures)
 
 -- ---- before the first EOL
 
@@ -72,7 +77,7 @@ returns-clause-waits g c = λ none.
     subst (NoMoreIsWhole c.args.coding (elements_of c.args.width) (g.S.RowStore.rows c.read_rows_on.new.rows) (Some c.in_ok-halt.halt.tag)) (place_left g at c.place-place.result c.place-place.ensures)
     (stopped_waits c.args.coding (elements_of c.args.width) (g.S.RowStore.rows c.read_rows_on.new.rows) c.in_ok-halt.halt.tag c.read_rows_on.new.reader.left c.in_ok-halt.halt.stop
     (IsWidth-elements c.args.width) c.in_ok-halt.ensures.each
-    (λ stop. behind_all c.args.octets.now c.args.end c.read_rows_on.new.reader c.requires.end (halted g at) (c.in_ok-halt.ensures.no_eol stop)) c.in_ok-halt.ensures.no_line c.in_ok-halt.ensures.stops not_many)
+    (λ stop. behind_all c.args.octets.now c.args.end c.args.used c.read_rows_on.new.reader c.requires.end (halted g at) (c.in_ok-halt.ensures.no_eol stop)) c.in_ok-halt.ensures.no_line c.in_ok-halt.ensures.stops not_many)
 
 pub returns-then-is_some-clause-settled : goal.returns-then-is_some-clause-settled
 returns-then-is_some-clause-settled g c = λ what is all more read.
