@@ -75,6 +75,27 @@ kept-step before octets i count inside e few kept =
     ap (less_fill before) (take_more octets i 0 inside) ∙ less_fill-append before (take i octets) (octet ∷ []) ∙ ap (λ os. os ++ less_fill (zeros_after before (take i octets)) (octet ∷ [])) kept
     ∙ ap (λ os. take i octets ++ os) one ∙ sym (take_more octets i 0 inside)
 
+-- octets from a place on of which none is 0
+abbrev pub AreSome : List ℕ → ℕ → ℕ → Type 0
+AreSome octets from end = (i : ℕ) → from ≤ i → i < end → 0 < get_or octets i 0
+
+-- All of them are kept, and none of zeros stands at their end.
+pub some-kept : (before : ℕ) (octets : List ℕ) (i k : ℕ) → i + k ≤ length octets → AreSome octets i (i + k)
+    → less_fill before (take i octets) ≡ take i octets → (less_fill before (take (i + k) octets) ≡ take (i + k) octets) × (0 < k → 0 ≡ zeros_after before (take (i + k) octets))
+some-kept before octets i zero inside some kept =
+    let same : i + zero ≡ i = omega arith in
+    (subst (λ n. less_fill before (take n octets) ≡ take n octets) (sym same) kept, λ none. absurd (omega (arith, none)))
+some-kept before octets i (suc k) inside some kept =
+    let size : i + k + 1 ≡ i + suc k = omega arith in
+    let here : i + k < length octets = omega (arith, inside) in
+    let one : 0 < get_or octets (i + k) 0 = some (i + k) (omega arith) (omega arith) in
+    let octet : get_or octets (i + k) 0 ≡ 0 → ⊥ = λ e. omega (arith, one, e) in
+    let so_far = (some-kept before octets i k (omega (arith, inside)) (λ j from end. some j from (omega (arith, end))) kept).0 in
+    let count : ℕ = zeros_after before (take (i + k) octets) in (
+      subst (λ n. less_fill before (take n octets) ≡ take n octets) size (kept-step before octets (i + k) count here refl (λ e. absurd (octet e)) so_far),
+      λ _. zeros-some count (get_or octets (i + k) 0) octet ∙ zeros-step before octets (i + k) count here refl ∙ ap (λ n. zeros_after before (take n octets)) size,
+    )
+
 -- ---- octets of zeros behind as many as are kept
 
 zeros_dropped : (count n : ℕ) → 4 ≤ count → less_fill count (replicate n 0) ≡ []

@@ -9,7 +9,7 @@ use crate::reading::EOL_ZEROS;
 const HALF: u8 = 16;
 
 /// How many octets are looked at side by side.
-const BLOCK: usize = 16;
+pub(crate) const BLOCK: usize = 16;
 
 /// How many octets stand behind a separator before they are looked at though no EOL stands in them.
 const LONG: usize = 4096;

@@ -1,7 +1,8 @@
 //! Octets that come to a reader, less the zeros of long fill.
-ghost use Rattle.std.specs.Prelude.{◌≡◌, ◌<◌, ◌≤◌, ◌++◌, get_or, length, take, replicate, IfOk, OnOk, OnErr};
+ghost use Rattle.std.specs.Prelude.{ℕ, ◌≡◌, ◌<◌, ◌≤◌, ◌+◌, ◌++◌, IsTrue, get_or, length, take, replicate, IfOk, OnOk, OnErr};
 ghost use Rattle.fax_pagestore.specs.Fill.{less_fill, most_zeros, zeros_after, zeros_with};
 
+use crate::ends::BLOCK;
 use fax_bits::NoMemory;
 
 /// The most octets of zeros that are kept side by side: they have as many zeros as an EOL and a code word have bits.
@@ -44,21 +45,37 @@ fn kept_front(octets: &[u8], zeros: u32) -> Kept
     ensures zeros { result.zeros ≡ zeros_after zeros (take result.len octets.now) }
     ensures stops { result.len < length octets.now → (get_or octets.now result.len 0 ≡ 0) × (most_zeros ≤ result.zeros) }
 {
+    let mut place = 0;
     let mut count = zeros;
-    for place in 0..octets.len() {
+    while place < octets.len() {
+        if octets.len() - place >= BLOCK && block_has_no_zeros(octets, place) {
+            count = 0;
+            place += BLOCK;
+            continue;
+        }
         let octet = octets[place];
         if octet == 0 && count >= MOST_ZEROS {
-            return Kept {
-                len: place,
-                zeros: count,
-            };
+            break;
         }
         count = zeros_with(count, octet);
+        place += 1;
     }
     Kept {
-        len: octets.len(),
+        len: place,
         zeros: count,
     }
+}
+
+/// Whether none of the octets of the block that begins here is 0, all looked at side by side.
+fn block_has_no_zeros(octets: &[u8], first: usize) -> bool
+    requires { first + 16 ≤ length octets.now }
+    ensures { IsTrue result → (i : ℕ) → first ≤ i → i < first + 16 → 0 < get_or octets.now i 0 }
+{
+    let mut found = false;
+    for place in first..first + BLOCK {
+        found |= octets[place] == 0;
+    }
+    !found
 }
 
 /// How many octets of zeros stand in front.

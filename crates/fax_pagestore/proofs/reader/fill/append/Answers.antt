@@ -1,5 +1,5 @@
 use Rattle.std.specs.Result.{is_ok}
-use Rattle.std.proofs.Common.{Bool, true, false, if◌then◌else◌, ◌++◌, ◌-◌, ◌≡◌, ◌+◌, ◌≤◌, ◌<◌, ℕ, List, length, take, drop, replicate, sym, ap, subst, ◌∙◌, refl, arith, length-append, length-drop}
+use Rattle.std.proofs.Common.{Bool, true, false, if◌then◌else◌, ◌++◌, ◌-◌, ◌≡◌, ◌+◌, ◌≤◌, ℕ, List, length, take, drop, replicate, ap, subst, ◌∙◌, refl, arith, length-append, length-drop}
 use Rattle.std.proofs.lemmas.List.{take_all, take-append-le}
 use Rattle.fax_pagestore.specs.Fill.{less_fill, zeros_after}
 use Rattle.fax_pagestore.proofs.FillLemmas.{AddedUpTo-none, AddedUpTo-span, AddedUpTo-all, slice_from}
