@@ -31,7 +31,7 @@ use Rattle.fax_pagestore.proofs.BeforeEolLemmas.{within}
 
 -- ---- two texts
 
--- Somewhere ahead texts have zeros, more of them than an EOL with its tag and a code word have bits, and may differ by their number.
+-- Somewhere ahead texts have as many zeros as a code word and the zeros of an EOL have bits, and may differ by their number.
 pub record DifferAhead (a b : List Bool) : Type 0 where
   pub before : List Bool
   pub m : ℕ

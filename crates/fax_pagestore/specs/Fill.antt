@@ -1,7 +1,7 @@
--- Octets less the zeros of long fill, by whose number they mean nothing else (ITU-T T.4, 4.1.3).
+-- Octets less long fill, whose zeros mean nothing by their number (ITU-T T.4, 4.1.3).
 use Rattle.std.specs.Prelude.{ℕ, zero, suc, ◌+◌, nat_lt, if◌then◌else◌, List, [], ◌∷◌, ◌++◌}
 
--- the most octets of zeros that stand side by side
+-- the most octets of zeros that are kept side by side
 abbrev pub most_zeros : ℕ
 most_zeros = 4
 
@@ -20,7 +20,7 @@ unfoldable pub kept_octet : (before octet : ℕ) → List ℕ
 kept_octet before zero = if nat_lt before most_zeros then 0 ∷ [] else []
 kept_octet before (suc n) = suc n ∷ []
 
--- octets without those of zeros that stand behind so many others
+-- octets without those of zeros that stand behind so many others, where so many stood before all of them
 unfoldable pub less_fill : (before : ℕ) → List ℕ → List ℕ
 less_fill before [] = []
 less_fill before (octet ∷ octets) = kept_octet before octet ++ less_fill (zeros_with before octet) octets

@@ -18,7 +18,8 @@ use Rattle.fax_pagestore.specs.PageTexts.{IsSeparator, SpellsRow, ReadSoFar, Mea
 use Rattle.fax_pagestore.specs.PageFaults.{FailsPage, SeparatorBegins, last_of}
 
 -- A reader: its rows, the tag of the last separator that is read, or none before the first EOL, the bits
--- behind that, how many octets of zeros came last, and what the octets are, where that is settled.
+-- behind that, how many octets of zeros came last, of which four are counted, and what the octets are, where
+-- that is settled.
 pub record ReaderValue : Type 0 where
   pub format : Format
   pub coding : Coding
@@ -67,15 +68,15 @@ fault_of (NoPage fault) = Some fault
 abbrev pub StaysBad : LineFault → List Bool → Type 0
 StaysBad fault bits = (fault ≢ Run End) × (fault ≡ NoMode → 7 ≤ length bits)
 
--- A reader is at the end of these octets. What can be read of them is read. Once
--- it is settled what they are, no bits are kept, and they are that with any octets behind them.
+-- A reader is at the end of these octets. What can be read of them is read. Once it is settled what they are, no
+-- bits are kept, and they are that with any octets behind them.
 pub record IsBehind (octets : List ℕ) (reader : ReaderValue) : Type 0 where
   pub read : reader.settled ≡ None → IsReadUpTo reader.coding (elements_of reader.format.width) octets reader.rows reader.tag reader.left
   pub waits : reader.settled ≡ None → NoMoreIsWhole reader.coding (elements_of reader.format.width) reader.rows reader.tag reader.left
   pub settled : (what : Settled) → reader.settled ≡ Some what
       → (reader.left ≡ []) × ((more : List ℕ) → AreJudged reader.coding (elements_of reader.format.width) (octets ++ more) reader.rows (fault_of what))
 
--- These octets came to a reader, whatever the pieces in which they came: it is at the end of them, less the zeros of long fill.
+-- These octets came to a reader, whatever the pieces in which they came: it is at the end of them, less long fill.
 pub record HasRead (octets : List ℕ) (reader : ReaderValue) : Type 0 where
   pub behind : IsBehind (less_fill 0 octets) reader
   pub zeros : reader.settled ≡ None → reader.zeros ≡ zeros_after 0 octets

@@ -28,7 +28,8 @@ use std::mem;
 
 /// Reads a page whose octets come in pieces, as [`crate::read_page`] reads them at once. It keeps the rows
 /// that are read, and the octets behind the last separator, until it is settled what they all are; before the
-/// first EOL two octets at most. A line is read once the EOL behind it is there, and room for lines is taken only while some
+/// first EOL two octets at most, and no octet of zeros behind four others, since the zeros of fill mean nothing by
+/// their number (ITU-T T.4, 4.1.3). A line is read once the EOL behind it is there, and room for lines is taken only while some
 /// are read.
 #[derive(Drop)]
 pub struct PageReader<S: RowStore> {

@@ -5,7 +5,7 @@ ghost use Rattle.fax_pagestore.specs.Fill.{less_fill, most_zeros, zeros_after, z
 use crate::ends::BLOCK;
 use fax_bits::NoMemory;
 
-/// The most octets of zeros that are kept side by side: they have as many zeros as an EOL and a code word have bits.
+/// The most octets of zeros that are kept side by side: they are more zeros than an EOL with its tag and a code word have bits.
 const MOST_ZEROS: u32 = 4;
 
 /// Adds a piece to octets, less its octets of zeros behind four others, where so many stood before it. It answers how many
