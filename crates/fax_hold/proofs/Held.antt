@@ -5,7 +5,7 @@ use Rattle.fax_gateway.specs.Wires.{Grows, Handed, Known}
 use Rattle.fax_gateway.specs.declared.side.Side.TheVariants as side
 use Rattle.fax_repeat.specs.Policies.{IsToldAs}
 use Rattle.fax_gateway.specs.declared.side.Side.{Side}
-use Rattle.fax_gateway.specs.Events.{Ring, FromCalling, FromCalled, Tick}
+use Rattle.fax_gateway.specs.Events.{Ring, FromCalling, FromCalled, Tick, Placed}
 use Rattle.fax_gateway.specs.Driving.{Entry, Accepts, FailsToReceive, GoesBy, ReceivesNothing, RefusesDatagram, RefusesRing, RefusesTick, Sends, WireGoes}
 use Rattle.fax_hold.specs.Holding.{Ceases, HoldingValue, CeasesWhere, HandsOn, Holds, Loses, Mutes, Releases, SendsWhere, Speaks, Stays, StaysWhere, fresh, octets_of, what_is_held}
 use Rattle.fax_hold.specs.Keeping.{BeginsNone, Deed, HasDone, HasDoneWhere, HasSent, HoldsBehind, HoldsBehindWhere, HoldsByLog, LogsAreHeld, failed, handed_by, handed_last, is_calling, mute_after, on_calling, went_out, with_given}
@@ -144,6 +144,7 @@ held_on deeds (Accepts (Ring now number)) earlier old new goes h = same_where de
 held_on deeds (Accepts (FromCalling octets now decided read)) earlier old new goes h = stays_where deeds (handed_by earlier) old new goes h
 held_on deeds (Accepts (FromCalled octets now decided)) earlier old new goes h = stays_where deeds (handed_by earlier) old new goes h
 held_on deeds (Accepts (Tick now given)) earlier old new goes h = same_where deeds (handed_by earlier) old new goes h
+held_on deeds (Accepts (Placed now connected)) earlier old new goes h = same_where deeds (handed_by earlier) old new goes h
 held_on deeds (RefusesRing fault) earlier old new goes h = same_where deeds (handed_by earlier) old new goes h
 held_on deeds (RefusesDatagram at octets) earlier old new goes h = stays_where deeds (handed_by earlier) old new goes h
 held_on deeds (RefusesTick now) earlier old new goes h = same_where deeds (handed_by earlier) old new goes h
@@ -205,8 +206,8 @@ begins deeds old new done speaks told = record {
 }
 
 -- over a wire that tells nothing of what it was handed, it has done nothing at first
-pub fresh_did_nothing : (known : Known) (due : Option ℕ) → known.sent ≡ None → HasDone [] (fresh known due)
-fresh_did_nothing known due none = record { held = refl; is_mute = refl; out = λ sent told. absurd (none_told sent (sym none ∙ told)) }
+pub fresh_did_nothing : (known : Known) (calling_due called_due : Option ℕ) → known.sent ≡ None → HasDone [] (fresh known calling_due called_due)
+fresh_did_nothing known calling_due called_due none = record { held = refl; is_mute = refl; out = λ sent told. absurd (none_told sent (sym none ∙ told)) }
   where
     none_told : (sent : List Handed) → None ≡ Some sent → ⊥
     none_told sent told = cc
@@ -221,6 +222,13 @@ begins_where deeds (Some old) (Some new) ceases done = record {
   is_mute = ceases.speaks.1;
   out = sent_more [] (went_out deeds) old.wire.sent new.wire.sent ceases.sent done.out;
 }
+
+-- where one begins on the called leg what is held stays
+pub ceases_beside : (old new : Option HoldingValue) → CeasesWhere side.Called old new → StaysWhere old new
+ceases_beside None None ceases = tt
+ceases_beside None (Some new) ceases = absurd ceases
+ceases_beside (Some old) None ceases = absurd ceases
+ceases_beside (Some old) (Some new) ceases = record { held = ceases.speaks.0; is_mute = ceases.speaks.1; sent = ceases.sent }
 
 or_none : (b : Bool) → (b || false) ≡ b
 or_none true = refl

@@ -4,24 +4,29 @@ use Rattle.std.specs.declared.alloc.Global.{Global}
 use Rattle.fax_gateway.specs.declared.side.Side.{Side}
 use Rattle.fax_gateway.specs.declared.side.Side.TheVariants as side
 use Rattle.fax_gateway.specs.Wires.{Grows, Handed, Known}
-use Rattle.fax_repeat.specs.Policies.{IsToldAs}
+use Rattle.fax_repeat.specs.Policies.{IsToldAs, other_side}
 
 -- The octets of the datagram that is held, where one is; whether the calling leg is mute; how many calls failed; what is known
--- of the wire below, and from which moment on that has something to do.
+-- of the wire below, and from which moments on that has something to do on both legs.
 pub record HoldingValue : Type 0 where
   pub held : Option (List ℕ)
   pub is_mute : Bool
   pub failures : ℕ
   pub wire : Known
-  pub due : Option ℕ
+  pub calling_due : Option ℕ
+  pub called_due : Option ℕ
+
+abbrev pub due_on : Side → HoldingValue → Option ℕ
+due_on side.Calling wire = wire.calling_due
+due_on side.Called wire = wire.called_due
 
 abbrev pub octets_of : Option (Vec ℕ Global) → Option (List ℕ)
 octets_of None = None
 octets_of (Some octets) = Some octets.items
 
 -- over a wire it holds nothing at first
-abbrev pub fresh : Known → Option ℕ → HoldingValue
-fresh wire due = record { held = None; is_mute = false; failures = 0; wire = wire; due = due }
+abbrev pub fresh : Known → (calling_due called_due : Option ℕ) → HoldingValue
+fresh wire calling_due called_due = record { held = None; is_mute = false; failures = 0; wire = wire; calling_due = calling_due; called_due = called_due }
 
 -- what is told of it: nothing of what it was handed to send
 abbrev pub as_told : HoldingValue → Known
@@ -85,9 +90,11 @@ abbrev pub Speaks : Side → HoldingValue → HoldingValue → Type 0
 Speaks side.Calling old new = (new.held ≡ None) × (new.is_mute ≡ false)
 Speaks side.Called old new = (new.held ≡ old.held) × (new.is_mute ≡ old.is_mute)
 
--- and nothing goes on
+-- Nothing goes on, and what the wire below was handed on that leg before is sent no more.
 pub record Ceases (at : Side) (old new : HoldingValue) : Type 0 where
   pub speaks : Speaks at old new
+  pub ended : due_on at new ≡ None
+  pub beside : due_on (other_side at) new ≡ due_on (other_side at) old
   pub sent : Grows [] old.wire.sent new.wire.sent
 
 -- ---- a wire that holds back, or one that does not

@@ -2,8 +2,8 @@
 ghost use Rattle.std.specs.Prelude.{◌≡◌, ℕ, List, [], ◌∷◌, None, Some, true, false, is_ok, OnOk, OnErr};
 ghost use Rattle.fax_gateway.specs.Wires.{Grows, failures_after};
 ghost use Rattle.fax_gateway.specs.declared.side.Side.{Side as SideShown};
-ghost use Rattle.fax_repeat.specs.Policies.{IsToldAs};
-ghost use Rattle.fax_hold.specs.Holding.{Holds, Mutes, Releases, Sends, Speaks, as_told, fresh};
+ghost use Rattle.fax_repeat.specs.Policies.{IsToldAs, other_side};
+ghost use Rattle.fax_hold.specs.Holding.{Holds, Mutes, Releases, Sends, Speaks, as_told, due_on, fresh};
 
 use crate::line_wire::LineWire;
 use fax_gateway::{Side, Wire, WireFault};
@@ -29,11 +29,12 @@ pub struct HoldingWire<W: TimedWire + Drop> {
 
 impl<W: TimedWire + Drop> Model for HoldingWire<W> {
     ghost use Rattle.std.specs.Prelude.{◌≡◌, true, None};
+    ghost use Rattle.fax_gateway.specs.declared.side.Side.TheVariants as side_shown;
     ghost use Rattle.fax_hold.specs.Holding.{HoldingValue, octets_of};
 
     ghost Value = { HoldingValue };
 
-    ghost view = { λ w. record { held = octets_of w.held; is_mute = w.is_mute; failures = w.failures; wire = W.known w.wire; due = W.due w.wire } };
+    ghost view = { λ w. record { held = octets_of w.held; is_mute = w.is_mute; failures = w.failures; wire = W.known w.wire; calling_due = W.due side_shown.Calling w.wire; called_due = W.due side_shown.Called w.wire } };
 
     ghost invariant = { λ w. w.is_mute ≡ true → octets_of w.held ≡ None };
 }
@@ -41,7 +42,7 @@ impl<W: TimedWire + Drop> Model for HoldingWire<W> {
 impl<W: TimedWire + Drop> HoldingWire<W> {
     /// A wire that holds nothing, over this one. The calling leg is not mute.
     pub fn new(alloc: Global, wire: W) -> Self
-        ensures { result ≡ fresh (W.known wire) (W.due wire) }
+        ensures { result ≡ fresh (W.known wire) (W.due SideShown.Calling wire) (W.due SideShown.Called wire) }
     {
         HoldingWire {
             wire,
@@ -170,9 +171,9 @@ impl<W: TimedWire + Drop> Wire for HoldingWire<W> {
 }
 
 impl<W: TimedWire + Drop> TimedWire for HoldingWire<W> {
-    ghost use Rattle.fax_hold.specs.Holding.{Ceases, Stays};
+    ghost use Rattle.fax_hold.specs.Holding.{Ceases, Stays, due_on};
 
-    ghost due = { λ wire. wire.due };
+    ghost due = { due_on };
 
     ghost goes_on = { λ old new. Stays old new };
 
@@ -187,10 +188,13 @@ impl<W: TimedWire + Drop> TimedWire for HoldingWire<W> {
         self.wire.go_on(now);
     }
 
-    /// On the calling leg what is held is dropped, and the leg is mute no more.
+    /// What the wire below was handed on the leg is sent no more. On the calling leg what is held is dropped, and the leg is mute no
+    /// more.
     fn cease(&mut self, side: Side)
         ensures told { IsToldAs (as_told self.old) (as_told self.new) }
         ensures speaks { Speaks side self.old self.new }
+        ensures ended { due_on side self.new ≡ None }
+        ensures beside { due_on (other_side side) self.new ≡ due_on (other_side side) self.old }
         ensures wire { IsToldAs self.old.wire self.new.wire }
     {
         self.wire.cease(side);

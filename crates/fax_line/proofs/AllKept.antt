@@ -8,7 +8,7 @@ use Rattle.fax_line.specs.declared.settling.PageToKeep.{PageToKeep}
 use Rattle.fax_line.specs.declared.settling.SlotEnd.{SlotEnd}
 use Rattle.fax_line.specs.KeptRuns.{EndsIf, IsSettled, NotesIf, Ran, TellsFirst, TellsPlace, TellsWhere, kept_if, kept_pages}
 use Rattle.fax_line.specs.Places.{PlaceValue}
-use Rattle.fax_line.specs.Runs.{Done, Rung, Turned, Woken, next_slot}
+use Rattle.fax_line.specs.Runs.{AskedOf, Done, Turned, Woken, next_slot}
 use Rattle.fax_line.specs.Settling.{has_page, was_turned}
 
 nil_behind : (pages : List PageToKeep) → pages ++ [] ≡ pages
@@ -65,5 +65,5 @@ module _
   run_keeps first (Turned now rests ∷ done) (end ∷ settled) old new before after pages ran kept =
       subst (λ (l : List PageToKeep). keeps after l) (append_assoc pages (kept_pages settled) (kept_if (is_ok end.answer) end.pages.items))
       (settles (next_slot first done) end ran.1 new ran.2 after (pages ++ kept_pages settled) ran.6 (run_keeps first done settled old ran.0 before ran.2 pages ran.3 kept))
-  run_keeps first (Rung line now answer ∷ done) settled old new before after pages ran kept = run_keeps first done settled old ran.0 before after pages ran.1 kept
+  run_keeps first (AskedOf line now what answer ∷ done) settled old new before after pages ran kept = run_keeps first done settled old ran.0 before after pages ran.1 kept
   run_keeps first (Woken line ∷ done) settled old new before after pages ran kept = run_keeps first done settled old ran.0 before after pages ran.1 kept

@@ -1,24 +1,31 @@
 -- What a line goes through.
-use Rattle.std.proofs.Common.{◌≡◌, ℕ, true, false, List, [], ◌∷◌, ◌++◌, Option, Some, None, refl, sym, ◌∙◌, ap, subst, append_assoc, arith, inl, inr, ◌↔◌, ◌≤◌}
+use Rattle.std.proofs.Common.{◌≡◌, ℕ, Bool, true, false, List, [], ◌∷◌, ◌++◌, Option, Some, None, Result, Ok, Err, refl, sym, ◌∙◌, ap, subst, append_assoc, arith, inl, inr, ◌↔◌, ◌≤◌}
 use Rattle.std.proofs.lemmas.Grind.{flat_map-append}
 use Rattle.fax_timers.specs.Moments.{earlier, is_due}
 use Rattle.fax_call.specs.Writings.{IsWriting, Writing}
+use Rattle.fax_gateway.specs.Asking.{asked_behind}
 use Rattle.fax_gateway.specs.Due.{due_at}
+use Rattle.fax_gateway.specs.declared.fault.PlaceFault.{PlaceFault}
+use Rattle.fax_gateway.specs.declared.fault.PlaceFault.TheVariants as place_faults
 use Rattle.fax_gateway.specs.declared.fault.RingFault.{RingFault}
 use Rattle.fax_gateway.specs.declared.fault.RingFault.TheVariants as ring_faults
-use Rattle.fax_gateway.specs.Events.{Event, Ring, rings}
+use Rattle.fax_gateway.specs.Events.{Event, Placed, Ring, rings}
 use Rattle.fax_gateway.specs.CallingLegs.{calling_leg, idle_after}
 use Rattle.fax_gateway.specs.Reached.{GatewayValue, IsReachedBy}
 use Rattle.fax_gateway.specs.Setups.{Setup}
 use Rattle.fax_gateway.specs.Wires.{Known}
 use Rattle.fax_gateway.specs.declared.turned.Turned.{Turned}
 use Rattle.fax_gateway.specs.Turns.{TellTicks}
-use Rattle.fax_gateway.specs.Driving.{Accepts, Carries, DriverValue, Entry, HasMade, Happens, IsTurn, RefusesRing, events, events_in}
-use Rattle.fax_gateway.proofs.DrivingLemmas.{grows_none, happens_more, refused_so, refuses, steps_ring}
+use Rattle.fax_gateway.specs.Driving.{Accepts, Carries, DriverValue, Entry, HasMade, Happens, IsTurn, RefusesRing, events, events_in, receipts_in}
+use Rattle.fax_gateway.proofs.DrivingLemmas.{carries_unseen, grows_none, happens_more, made_unseen, refused_so, refuses, steps_ring}
 use Rattle.fax_repeat.specs.Policies.{IsToldAs}
 use Rattle.fax_hold.specs.Holding.{HoldingValue}
 use Rattle.fax_hold.specs.Keeping.{HoldsByLog}
-use Rattle.fax_line.specs.Actions.{Action, AreSteps, Goes, IsStep, LineValue, Rests, Rings, TellsTurn, Turns, Wakes}
+use Rattle.fax_line.specs.declared.asked.Answered.{Answered}
+use Rattle.fax_line.specs.declared.asked.Answered.TheVariants as answered
+use Rattle.fax_line.specs.declared.asked.Asked.{Asked}
+use Rattle.fax_line.specs.declared.asked.Asked.TheVariants as asked
+use Rattle.fax_line.specs.Actions.{Action, AreSteps, Asks, Goes, IsAsked, IsPlaced, IsStep, LineValue, Rests, TellsTurn, Turns, Wakes, placing}
 
 -- the trace behind two logs
 behind_both : (newer older : List Entry) (trace : List Event) → events newer ++ (events older ++ trace) ≡ events (newer ++ older) ++ trace
@@ -116,25 +123,44 @@ tells_turn now old new driver driven a b c m n h k x y told turned = record {
       (t.0, t.1, wire_first setup writes t.0 trace old new a b c reached told t.2, t.3, t.4, t.5);
 }
 
--- a ring that is accepted, and one that is refused
-rings_accepted :
-    (now number : ℕ) (old new : GatewayValue) (driver : DriverValue) (a : Known) (m : Option ℕ) (h : Option HoldingValue) (x : Turned)
-    → ((setup : Setup) (writes : Writing) (trace : List Event) → IsReachedBy setup writes trace old → IsReachedBy setup writes (Ring now number ∷ trace) new)
-    → Goes (Rings now (Some number) ∷ []) (line_of old driver a m h x) (line_of new driver a m h x)
-rings_accepted now number old new driver a m h x rung = record {
+-- ---- what is asked of a line
+
+-- a call begins by it: an event of the gateway, of which its wire sees nothing
+asks_accepted :
+    (now : ℕ) (what : Asked) (answer : Option Answered) (event : Event) (old new : GatewayValue) (driver : DriverValue) (a : Known) (m : Option ℕ) (h : Option HoldingValue) (x : Turned)
+    → receipts_in (Accepts event) ≡ [] → ((setup : Setup) (writes : Writing) (trace : List Event) → IsAsked setup writes trace now what answer (Accepts event ∷ []))
+    → ((setup : Setup) (writes : Writing) (trace : List Event) → IsReachedBy setup writes trace old → IsReachedBy setup writes (event ∷ trace) new)
+    → Goes (Asks now what answer ∷ []) (line_of old driver a m h x) (line_of new driver a m h x)
+asks_accepted now what answer event old new driver a m h x unseen is comes = record {
   goes = λ setup writes trace earlier writing reached made.
-      let log : List Entry = Accepts (Ring now number) ∷ [] in
-      let s = steps_ring setup writes true now log trace earlier new a driver (inl (number, refl)) (tt, tt) (rung setup writes trace reached) made in
-      (log, one_step setup writes trace (Rings now (Some number)) log refl, s.happens, s.made);
+      let log : List Entry = Accepts event ∷ [] in (
+        log,
+        one_step setup writes trace (Asks now what answer) log (is setup writes trace),
+        record { reached = comes setup writes trace reached; wanting = (tt, tt); carried = carries_unseen (Accepts event) a unseen refl refl refl },
+        made_unseen earlier (Accepts event) driver unseen refl refl refl made,
+      );
 }
+
+-- and the wire is told of the call
+goes_asked :
+    (now : ℕ) (what : Asked) (answer : Option Answered) (event : Event) (old new : GatewayValue) (driver : DriverValue) (a b : Known) (m n : Option ℕ) (h k : Option HoldingValue) (x : Turned)
+    → receipts_in (Accepts event) ≡ [] → ((setup : Setup) (writes : Writing) (trace : List Event) → IsAsked setup writes trace now what answer (Accepts event ∷ [])) → IsToldAs a b
+    → ((setup : Setup) (writes : Writing) (trace : List Event) → IsReachedBy setup writes trace old → IsReachedBy setup writes (event ∷ trace) new)
+    → Goes (Asks now what answer ∷ []) (line_of old driver a m h x) (line_of new driver b n k x)
+goes_asked now what answer event old new driver a b m n h k x unseen is told comes =
+    goes_more (Asks now what answer ∷ []) [] (line_of old driver a m h x) (line_of new driver a m h x) (line_of new driver b n k x)
+    (asks_accepted now what answer event old new driver a m h x unseen is comes) (goes_told new driver a b m n h k x x told)
+
+-- a ring that is accepted, and one that is refused
+abbrev pub rung_as : Result ℕ RingFault → Option Answered
+rung_as result = Some (answered.Rung result)
 
 pub goes_ring :
     (now number : ℕ) (old new : GatewayValue) (driver : DriverValue) (a b : Known) (m n : Option ℕ) (h k : Option HoldingValue) (x : Turned) → IsToldAs a b
     → ((setup : Setup) (writes : Writing) (trace : List Event) → IsReachedBy setup writes trace old → IsReachedBy setup writes (Ring now number ∷ trace) new)
-    → Goes (Rings now (Some number) ∷ []) (line_of old driver a m h x) (line_of new driver b n k x)
+    → Goes (Asks now asked.Ring (rung_as (Ok number)) ∷ []) (line_of old driver a m h x) (line_of new driver b n k x)
 goes_ring now number old new driver a b m n h k x told rung =
-    goes_more (Rings now (Some number) ∷ []) [] (line_of old driver a m h x) (line_of new driver a m h x) (line_of new driver b n k x)
-    (rings_accepted now number old new driver a m h x rung) (goes_told new driver a b m n h k x x told)
+    goes_asked now asked.Ring (rung_as (Ok number)) (Ring now number) old new driver a b m n h k x refl (λ setup writes trace. refl) told rung
 
 pub goes_refused :
     (now : ℕ) (line : LineValue) (fault : RingFault)
@@ -142,13 +168,52 @@ pub goes_refused :
     → refuses fault ≡ refuses ring_faults.Busy ↔ idle_after (calling_leg setup trace) ≡ false)
     → ((setup : Setup) (writes : Writing) (trace : List Event) → IsReachedBy setup writes trace line.gateway → idle_after (calling_leg setup trace) ≡ true
     → refuses fault ≡ refuses ring_faults.NoNumber ↔ 4294967296 ≤ rings trace)
-    → Goes (Rings now None ∷ []) line line
+    → Goes (Asks now asked.Ring (rung_as (Err fault)) ∷ []) line line
 goes_refused now line fault busy none = record {
   goes = λ setup writes trace earlier writing reached made.
       let log : List Entry = RefusesRing fault ∷ [] in
       let cause = refused_so setup trace fault (busy setup writes trace reached) (none setup writes trace reached) in
       let s = steps_ring setup writes true now log trace earlier line.gateway line.wire line.driver (inr (fault, refl)) (cause, tt) reached made in
-      (log, one_step setup writes trace (Rings now None) log (fault, refl), s.happens, s.made);
+      (log, one_step setup writes trace (Asks now asked.Ring (rung_as (Err fault))) log refl, s.happens, s.made);
+}
+
+-- a placing that is done, and one that is refused
+abbrev pub placed_as : Result (Unit {0}) PlaceFault → Option Answered
+placed_as result = Some (answered.Placed result)
+
+abbrev pub not_placed : PlaceFault → Result (Unit {0}) PlaceFault
+not_placed fault = Err fault
+
+is_placing : (setup : Setup) (writes : Writing) (trace : List Event) (now : ℕ) (connected : Bool) (result : Result (Unit {0}) PlaceFault) (log : List Entry)
+    → IsPlaced setup writes trace now connected result log → IsAsked setup writes trace now (placing connected) (placed_as result) log
+is_placing setup writes trace now true result log is = is
+is_placing setup writes trace now false result log is = is
+
+pub goes_placed :
+    (now : ℕ) (connected : Bool) (old new : GatewayValue) (driver : DriverValue) (a b : Known) (m n : Option ℕ) (h k : Option HoldingValue) (x : Turned) → IsToldAs a b
+    → ((setup : Setup) (writes : Writing) (trace : List Event) → IsReachedBy setup writes trace old → IsReachedBy setup writes (Placed now connected ∷ trace) new)
+    → Goes (Asks now (placing connected) (placed_as (Ok tt)) ∷ []) (line_of old driver a m h x) (line_of new driver b n k x)
+goes_placed now connected old new driver a b m n h k x told placed =
+    goes_asked now (placing connected) (placed_as (Ok tt)) (Placed now connected) old new driver a b m n h k x refl
+    (λ setup writes trace. is_placing setup writes trace now connected (Ok tt) (Accepts (Placed now connected) ∷ []) refl) told placed
+
+same_cause : (a b : PlaceFault) → not_placed a ≡ not_placed b → a ≡ b
+same_cause a b e = cc
+
+pub goes_unplaced :
+    (now : ℕ) (connected : Bool) (line : LineValue) (fault : PlaceFault)
+    → ((setup : Setup) (writes : Writing) (trace : List Event) → IsReachedBy setup writes trace line.gateway
+    → not_placed fault ≡ not_placed place_faults.NotAsked ↔ asked_behind setup writes trace ≡ None)
+    → Goes (Asks now (placing connected) (placed_as (Err fault)) ∷ []) line line
+goes_unplaced now connected line fault not_asked = record {
+  goes = λ setup writes trace earlier writing reached made.
+      let cause = not_asked setup writes trace reached in (
+        [],
+        one_step setup writes trace (Asks now (placing connected) (placed_as (Err fault))) []
+            (is_placing setup writes trace now connected (Err fault) [] (refl, (λ e. cause.0 (ap not_placed e), λ none. same_cause fault place_faults.NotAsked (cause.1 none)))),
+        record { reached = reached; wanting = tt; carried = carries_told line.wire line.wire (told_same line.wire) },
+        made,
+      );
 }
 
 -- it is left at rest, where what is due lies later

@@ -1,13 +1,14 @@
 -- A run with a keeper goes on.
-use Rattle.std.proofs.Common.{◌≡◌, ◌+◌, ◌-◌, ℕ, max, Bool, true, false, List, [], ◌∷◌, Option, Some, None, Result, refl, sym, ◌∙◌, ap, subst, arith, nat_eq, if◌then◌else◌}
+use Rattle.std.proofs.Common.{◌≡◌, ◌+◌, ◌-◌, ℕ, max, Bool, true, false, List, [], ◌∷◌, Option, Some, None, refl, sym, ◌∙◌, ap, subst, arith, nat_eq, if◌then◌else◌}
 use Rattle.std.proofs.lemmas.Bool.{eqb-true}
 use Rattle.fax_jobs.specs.declared.report.Report.{Report}
-use Rattle.fax_gateway.specs.declared.fault.RingFault.{RingFault}
+use Rattle.fax_line.specs.declared.asked.Answered.{Answered}
+use Rattle.fax_line.specs.declared.asked.Asked.{Asked}
 use Rattle.fax_line.specs.declared.settling.PageToKeep.{PageToKeep}
-use Rattle.fax_line.specs.Deeds.{AllStayHeld, LinesValue, RingFrees, RingsLine, SlotTells, TurnsSlot, WakesLine, Went, slot_after, slot_before}
+use Rattle.fax_line.specs.Deeds.{AllStayHeld, AskFrees, AsksLine, LinesValue, SlotTells, TurnsSlot, WakesLine, Went, slot_after, slot_before}
 use Rattle.fax_line.specs.KeptRuns.{IsSettledIf, RanIf}
 use Rattle.fax_line.specs.Places.{PlaceValue}
-use Rattle.fax_line.specs.Runs.{Done, Rung, Turned, Woken, call_if, latest, next_slot}
+use Rattle.fax_line.specs.Runs.{AskedOf, Done, Turned, Woken, latest, next_slot}
 
 module _ (K : Type 0) (same : K → K → Type 0) (puts : List PageToKeep → Bool → K → K → Type 0) (notes : ℕ → ℕ → K → K → Type 0) (ends : ℕ → Report → K → K → Type 0) where
   pub ran_none : (first : ℕ) (lines : List PlaceValue) (k : Option K) → RanIf same puts notes ends first [] lines lines k k
@@ -26,11 +27,11 @@ module _ (K : Type 0) (same : K → K → Type 0) (puts : List PageToKeep → Bo
       let here = subst (λ (o : Option K). IsSettledIf same puts notes ends (next_slot first done) c d o m) is settled in
       (here.0, here.1, here.2 ∷ all, (b, c, x, ran, went, tells, here.3))
 
-  pub ran_rung :
-      (first line now : ℕ) (answer : Option (Result ℕ RingFault)) (done : List Done) (a b c : List PlaceValue) (k l : Option K)
-      → RanIf same puts notes ends first done a b k l → Went (RingsLine line (max (latest done) now) (call_if answer) ∷ []) b c → RingFrees line (call_if answer) b c → RanIf same puts notes ends first (Rung line now answer ∷ done) a c k l
-  ran_rung first line now answer done a b c None l (is, ran) went frees = (is, (b, ran, went, frees))
-  ran_rung first line now answer done a b c (Some k) l (x, is, all, ran) went frees = (x, is, all, (b, ran, went, frees))
+  pub ran_asked :
+      (first line now : ℕ) (what : Asked) (answer : Option Answered) (done : List Done) (a b c : List PlaceValue) (k l : Option K)
+      → RanIf same puts notes ends first done a b k l → Went (AsksLine line (max (latest done) now) what answer ∷ []) b c → AskFrees line answer b c → RanIf same puts notes ends first (AskedOf line now what answer ∷ done) a c k l
+  ran_asked first line now what answer done a b c None l (is, ran) went frees = (is, (b, ran, went, frees))
+  ran_asked first line now what answer done a b c (Some k) l (x, is, all, ran) went frees = (x, is, all, (b, ran, went, frees))
 
   pub ran_woken :
       (first line : ℕ) (done : List Done) (a b c : List PlaceValue) (k l : Option K)
@@ -54,11 +55,11 @@ of_turn holds first now moment later slot done slot_is moment_is later_is here =
 
 -- the deed of an order
 
-pub went_ring :
-    (now moment later line : ℕ) (call : Option ℕ) (done : List Done) (b c : List PlaceValue) → moment ≡ latest done → later ≡ max moment now
-    → Went (RingsLine line later call ∷ []) b c → Went (RingsLine line (max (latest done) now) call ∷ []) b c
-went_ring now moment later line call done b c moment_is later_is went =
-    subst (λ (m : ℕ). Went (RingsLine line m call ∷ []) b c) (later_is ∙ ap (λ (m : ℕ). max m now) moment_is) went
+pub went_asked :
+    (now moment later line : ℕ) (what : Asked) (answer : Option Answered) (done : List Done) (b c : List PlaceValue) → moment ≡ latest done → later ≡ max moment now
+    → Went (AsksLine line later what answer ∷ []) b c → Went (AsksLine line (max (latest done) now) what answer ∷ []) b c
+went_asked now moment later line what answer done b c moment_is later_is went =
+    subst (λ (m : ℕ). Went (AsksLine line m what answer ∷ []) b c) (later_is ∙ ap (λ (m : ℕ). max m now) moment_is) went
 
 -- The slot that had the last turn is the one before the next.
 if_more : (slot : ℕ) (b : Bool) → nat_eq (slot + 1) 0 ≡ b → (if b then 39 else slot + 1 - 1) ≡ slot

@@ -1,18 +1,24 @@
 -- The clock of a line goes no further than the moments of what is done with it.
-use Rattle.std.proofs.Common.{◌≡◌, ℕ, ◌≤◌, max, false, List, [], ◌∷◌, ◌++◌, Option, Some, None, refl, sym, ◌∙◌, ap, subst, append_assoc, arith, inl, inr}
+use Rattle.std.proofs.Common.{◌≡◌, ℕ, ◌≤◌, max, Bool, true, false, List, [], ◌∷◌, ◌++◌, Option, Some, None, Result, Ok, Err, refl, sym, ◌∙◌, ap, subst, append_assoc, arith, inl, inr}
 use Rattle.std.specs.List.{All}
 use Rattle.std.proofs.lemmas.Grind.{flat_map-append}
 use Rattle.std.proofs.lemmas.List.Elements.{All-head, All-tail}
 use Rattle.fax_timers.specs.Moments.{is_due}
 use Rattle.fax_call.specs.Writings.{Writing}
+use Rattle.fax_gateway.specs.declared.fault.PlaceFault.{PlaceFault}
+use Rattle.fax_gateway.specs.declared.fault.RingFault.{RingFault}
 use Rattle.fax_gateway.specs.declared.side.Side.{Side}
 use Rattle.fax_gateway.specs.declared.side.Side.TheVariants as side
 use Rattle.fax_gateway.specs.Driving.{Accepts, AreReceives, BringsNone, Comes, Entry, FailsToReceive, IsTick, IsTurn, ReceivesNothing, RefusesDatagram, RefusesRing, RefusesTick, Sends, events, events_in}
 use Rattle.fax_gateway.specs.Due.{due_at}
-use Rattle.fax_gateway.specs.Events.{Event, FromCalled, FromCalling, Ring, Tick, clock}
+use Rattle.fax_gateway.specs.Events.{Event, FromCalled, FromCalling, Placed, Ring, Tick, clock}
 use Rattle.fax_gateway.specs.Setups.{Setup}
 use Rattle.fax_gateway.proofs.DrivingLemmas.{sends_no_event}
-use Rattle.fax_line.specs.Actions.{Action, AreSteps, IsStep, Rests, Rings, Turns, Wakes}
+use Rattle.fax_line.specs.declared.asked.Answered.{Answered}
+use Rattle.fax_line.specs.declared.asked.Answered.TheVariants as answered
+use Rattle.fax_line.specs.declared.asked.Asked.{Asked}
+use Rattle.fax_line.specs.declared.asked.Asked.TheVariants as asked
+use Rattle.fax_line.specs.Actions.{Action, AreSteps, Asks, IsAsked, IsPlaced, IsRung, Rests, Turns, Wakes}
 use Rattle.fax_line.specs.Laws.{RestsMissNothing, RiseTo}
 
 -- behind these entries the clock stands at this moment at most, or where it stood
@@ -35,6 +41,7 @@ come_keeps at now (Accepts (Ring moment number)) trace h = absurd h
 come_keeps at now (Accepts (FromCalling octets moment decided read)) trace h = let is : moment ≡ now = h.1 in omega (arith, is)
 come_keeps at now (Accepts (FromCalled octets moment decided)) trace h = let is : moment ≡ now = h.1 in omega (arith, is)
 come_keeps at now (Accepts (Tick moment given)) trace h = absurd h
+come_keeps at now (Accepts (Placed moment connected)) trace h = absurd h
 come_keeps at now (RefusesRing fault) trace h = absurd h
 come_keeps at now (RefusesDatagram on octets) trace h = omega arith
 come_keeps at now (RefusesTick moment) trace h = absurd h
@@ -73,9 +80,25 @@ turn_keeps now log turn =
     (both_keep now turn.tick (turn.called ++ turn.calling) (tick_keeps now turn.tick turn.ticks)
     (both_keep now turn.called turn.calling (receives_keep side.Called now turn.called turn.on_called) (receives_keep side.Calling now turn.calling turn.on_calling)))
 
-ring_keeps : (now : ℕ) (call : Option ℕ) (setup : Setup) (writes : Writing) (trace : List Event) (log : List Entry) → IsStep setup writes trace (Rings now call) log → Keeps now log
-ring_keeps now (Some number) setup writes trace log is = subst (λ (l : List Entry). Keeps now l) (sym is) (λ t. omega arith)
-ring_keeps now None setup writes trace log (fault, is) = none_keeps now log (ap events is)
+ring_keeps : (now : ℕ) (result : Result ℕ RingFault) (log : List Entry) → IsRung now result log → Keeps now log
+ring_keeps now (Ok number) log is = subst (λ (l : List Entry). Keeps now l) (sym is) (λ t. omega arith)
+ring_keeps now (Err fault) log is = none_keeps now log (ap events is)
+
+place_keeps : (setup : Setup) (writes : Writing) (trace : List Event) (now : ℕ) (connected : Bool) (result : Result (Unit {0}) PlaceFault) (log : List Entry)
+    → IsPlaced setup writes trace now connected result log → Keeps now log
+place_keeps setup writes trace now connected (Ok done) log is = subst (λ (l : List Entry). Keeps now l) (sym is) (λ t. omega arith)
+place_keeps setup writes trace now connected (Err fault) log is = none_keeps now log (ap events is.0)
+
+ask_keeps : (setup : Setup) (writes : Writing) (trace : List Event) (now : ℕ) (what : Asked) (answer : Option Answered) (log : List Entry) → IsAsked setup writes trace now what answer log → Keeps now log
+ask_keeps setup writes trace now asked.Ring (Some (answered.Rung result)) log is = ring_keeps now result log is
+ask_keeps setup writes trace now asked.Ring (Some (answered.Placed result)) log is = absurd is
+ask_keeps setup writes trace now asked.Connect (Some (answered.Rung result)) log is = absurd is
+ask_keeps setup writes trace now asked.Connect (Some (answered.Placed result)) log is = place_keeps setup writes trace now true result log is
+ask_keeps setup writes trace now asked.NotConnected (Some (answered.Rung result)) log is = absurd is
+ask_keeps setup writes trace now asked.NotConnected (Some (answered.Placed result)) log is = place_keeps setup writes trace now false result log is
+ask_keeps setup writes trace now asked.Ring None log is = absurd is
+ask_keeps setup writes trace now asked.Connect None log is = absurd is
+ask_keeps setup writes trace now asked.NotConnected None log is = absurd is
 
 -- one step more
 step_low : (now latest : ℕ) (log newer older : List Entry) (trace : List Event) → log ≡ newer ++ older → Keeps now newer → now ≤ latest
@@ -93,8 +116,8 @@ clock_low setup writes (Turns now ∷ earlier) latest trace log (newer, older, i
     step_low now latest log newer older trace is (turn_keeps now newer step) rise.0 (clock_low setup writes earlier now trace older steps rise.1)
 clock_low setup writes (Rests now ∷ earlier) latest trace log (newer, older, is, step, steps) rise =
     step_low now latest log newer older trace is (none_keeps now newer (ap events step.0)) rise.0 (clock_low setup writes earlier now trace older steps rise.1)
-clock_low setup writes (Rings now call ∷ earlier) latest trace log (newer, older, is, step, steps) rise =
-    step_low now latest log newer older trace is (ring_keeps now call setup writes (events older ++ trace) newer step) rise.0 (clock_low setup writes earlier now trace older steps rise.1)
+clock_low setup writes (Asks now what answer ∷ earlier) latest trace log (newer, older, is, step, steps) rise =
+    step_low now latest log newer older trace is (ask_keeps setup writes (events older ++ trace) now what answer newer step) rise.0 (clock_low setup writes earlier now trace older steps rise.1)
 clock_low setup writes (Wakes ∷ earlier) latest trace log (newer, older, is, step, steps) rise =
     step_low latest latest log newer older trace is (none_keeps latest newer (ap events step)) (omega arith) (clock_low setup writes earlier latest trace older steps rise)
 

@@ -6,7 +6,9 @@ use Rattle.fax_gateway.specs.Due.{due_at}
 use Rattle.fax_gateway.specs.Events.{Event}
 use Rattle.fax_gateway.specs.Reached.{IsReachedBy}
 use Rattle.fax_gateway.specs.Setups.{Setup}
-use Rattle.fax_line.specs.Actions.{Action, Goes, LineValue, Rests, Rings, Turns, Wakes}
+use Rattle.fax_line.specs.declared.asked.Answered.{Answered}
+use Rattle.fax_line.specs.declared.asked.Asked.{Asked}
+use Rattle.fax_line.specs.Actions.{Action, Asks, Goes, LineValue, Rests, Turns, Wakes}
 use Rattle.fax_line.specs.Places.{GoesInPlace, IsDueOn, PlaceValue, RestsAsleep, is_awake, visit_of}
 use Rattle.fax_line.proofs.Goings.{goes_more, goes_none, goes_rest, goes_wake}
 
@@ -36,14 +38,14 @@ awake_more : (before : Bool) (older newer : List Action) → is_awake (is_awake 
 awake_more before older [] = refl
 awake_more before older (Turns now ∷ earlier) = refl
 awake_more before older (Rests now ∷ earlier) = awake_more before older earlier
-awake_more before older (Rings now call ∷ earlier) = awake_more before older earlier
+awake_more before older (Asks now what answer ∷ earlier) = awake_more before older earlier
 awake_more before older (Wakes ∷ earlier) = refl
 
 asleep_more : (before : Bool) (older newer : List Action) → RestsAsleep before older → RestsAsleep (is_awake before older) newer → RestsAsleep before (newer ++ older)
 asleep_more before older [] first second = first
 asleep_more before older (Turns now ∷ earlier) first second = asleep_more before older earlier first second
 asleep_more before older (Rests now ∷ earlier) first second = (sym (awake_more before older earlier) ∙ second.0, asleep_more before older earlier first second.1)
-asleep_more before older (Rings now call ∷ earlier) first second = asleep_more before older earlier first second
+asleep_more before older (Asks now what answer ∷ earlier) first second = asleep_more before older earlier first second
 asleep_more before older (Wakes ∷ earlier) first second = asleep_more before older earlier first second
 
 pub place_none : (place : PlaceValue) → GoesInPlace [] place place
@@ -73,9 +75,9 @@ place_rests now line due awake x y is rests = record {
   asleep = (asleep_is awake (is_due due now) rests, tt);
 }
 
-pub place_rings : (now : ℕ) (call : Option ℕ) (old new : LineValue) (m n : Option ℕ) (awake x : Bool) → Goes (Rings now call ∷ []) old new
-    → GoesInPlace (Rings now call ∷ []) (place_of old m awake x) (place_of new n awake x)
-place_rings now call old new m n awake x goes = record { goes = goes; awake = refl; asleep = tt }
+pub place_asks : (now : ℕ) (what : Asked) (answer : Option Answered) (old new : LineValue) (m n : Option ℕ) (awake x : Bool) → Goes (Asks now what answer ∷ []) old new
+    → GoesInPlace (Asks now what answer ∷ []) (place_of old m awake x) (place_of new n awake x)
+place_asks now what answer old new m n awake x goes = record { goes = goes; awake = refl; asleep = tt }
 
 pub place_told : (old new : LineValue) (m n : Option ℕ) (awake x : Bool) → Goes [] old new → GoesInPlace [] (place_of old m awake x) (place_of new n awake x)
 place_told old new m n awake x goes = record { goes = goes; awake = refl; asleep = tt }

@@ -1,14 +1,16 @@
 -- Deeds that follow one another.
-use Rattle.std.proofs.Common.{◌≡◌, ℕ, ◌+◌, max, Bool, true, false, nat_eq, if◌then◌else◌, List, [], ◌∷◌, ◌++◌, length, Option, Some, None, Result, refl, sym, ◌∙◌, ap, subst, arith}
+use Rattle.std.proofs.Common.{◌≡◌, ℕ, ◌+◌, max, Bool, true, false, nat_eq, if◌then◌else◌, List, [], ◌∷◌, ◌++◌, length, Option, Some, None, refl, sym, ◌∙◌, ap, subst, arith}
 use Rattle.fax_gateway.specs.Wires.{Grows}
-use Rattle.fax_gateway.specs.declared.fault.RingFault.{RingFault}
 use Rattle.fax_gateway.proofs.DrivingLemmas.{grows_more}
+use Rattle.fax_line.specs.declared.asked.Answered.{Answered}
+use Rattle.fax_line.specs.declared.asked.Asked.{Asked}
 use Rattle.fax_line.specs.declared.order.Order.{Order}
 use Rattle.fax_line.specs.declared.order.Order.TheVariants as order
-use Rattle.fax_line.specs.Actions.{Action, Rings, Wakes}
-use Rattle.fax_line.specs.Deeds.{AreRising, Deed, LinesValue, RingsLine, TurnsSlot, WakesLine, Went, actions_of, slot_after, slot_of}
+use Rattle.fax_line.specs.Actions.{Action, Wakes}
+use Rattle.fax_line.specs.Actions as actions
+use Rattle.fax_line.specs.Deeds.{AreRising, AsksLine, Deed, LinesValue, TurnsSlot, WakesLine, Went, actions_of, slot_after, slot_of}
 use Rattle.fax_line.specs.Places.{PlaceValue, visit_of}
-use Rattle.fax_line.specs.Runs.{Done, Rung, Turned, Woken, call_if, deeds_of, latest, next_slot, words_of}
+use Rattle.fax_line.specs.Runs.{AskedOf, Done, Turned, Woken, deeds_of, latest, next_slot, words_of}
 use Rattle.fax_line.specs.Words.{Answers, Asks, Word}
 use Rattle.fax_line.proofs.Stepping.{each_more, each_none, each_with}
 
@@ -21,7 +23,7 @@ if_more false a rest = refl
 
 actions_more : (i : ℕ) (deed : Deed) (older : List Deed) → actions_of i (deed ∷ []) ++ actions_of i older ≡ actions_of i (deed ∷ older)
 actions_more i (TurnsSlot slot now rests) older = if_more (nat_eq (slot_of i) slot) (visit_of now (rests i)) (actions_of i older)
-actions_more i (RingsLine line now call) older = if_more (nat_eq i line) (Rings now call) (actions_of i older)
+actions_more i (AsksLine line now what answer) older = if_more (nat_eq i line) (actions.Asks now what answer) (actions_of i older)
 actions_more i (WakesLine line) older = if_more (nat_eq i line) Wakes (actions_of i older)
 
 pub went_more : (deed : Deed) (older : List Deed) (a b c : List PlaceValue) → Went older a b → Went (deed ∷ []) b c → Went (deed ∷ older) a c
@@ -37,7 +39,7 @@ went_settled older a b c first second = each_more (λ i. actions_of i older) (λ
 pub rising : (first : ℕ) (done : List Done) → AreRising (deeds_of first done) (latest done)
 rising first [] = refl
 rising first (Turned now rests ∷ earlier) = (latest earlier, omega arith, refl, rising first earlier)
-rising first (Rung line now answer ∷ earlier) = (latest earlier, omega arith, refl, rising first earlier)
+rising first (AskedOf line now what answer ∷ earlier) = (latest earlier, omega arith, refl, rising first earlier)
 rising first (Woken line ∷ earlier) = rising first earlier
 
 -- a run so far
@@ -62,20 +64,20 @@ turned_on first now moment later count slot next rests done a b c x y z run late
       words = grows_more (words_of done) (Asks (Some (order.Turn now)) ∷ []) x y z run.words asked;
     }
 
-pub rung_on :
-    (first line now moment later count slot next : ℕ) (answer : Option (Result ℕ RingFault)) (done : List Done) (a b c : List PlaceValue) (x y z w : Option (List Word))
-    → Run first moment done a b slot count x y → later ≡ max moment now → Went (RingsLine line later (call_if answer) ∷ []) b c → next ≡ slot
-    → Grows (Asks (Some (order.Ring line now)) ∷ []) y z → Grows (Answers line answer ∷ []) z w
-    → Run first later (Rung line now answer ∷ done) a c next (count + 1) x w
-rung_on first line now moment later count slot next answer done a b c x y z w run later_is went next_is asked answered =
+pub asked_on :
+    (first line now moment later count slot next : ℕ) (what : Asked) (answer : Option Answered) (done : List Done) (a b c : List PlaceValue) (x y z w : Option (List Word))
+    → Run first moment done a b slot count x y → later ≡ max moment now → Went (AsksLine line later what answer ∷ []) b c → next ≡ slot
+    → Grows (Asks (Some (order.Ask line now what)) ∷ []) y z → Grows (Answers line answer ∷ []) z w
+    → Run first later (AskedOf line now what answer ∷ done) a c next (count + 1) x w
+asked_on first line now moment later count slot next what answer done a b c x y z w run later_is went next_is asked answered =
     let moment_now : later ≡ max (latest done) now = later_is ∙ ap (λ (m : ℕ). max m now) run.moment_is in record {
-      went = went_more (RingsLine line (max (latest done) now) (call_if answer)) (deeds_of first done) a b c run.went
-          (subst (λ (m : ℕ). Went (RingsLine line m (call_if answer) ∷ []) b c) moment_now went);
+      went = went_more (AsksLine line (max (latest done) now) what answer) (deeds_of first done) a b c run.went
+          (subst (λ (m : ℕ). Went (AsksLine line m what answer ∷ []) b c) moment_now went);
       slot_is = next_is ∙ run.slot_is;
       moment_is = moment_now;
       many = omega (arith, run.many);
-      words = grows_more (Asks (Some (order.Ring line now)) ∷ words_of done) (Answers line answer ∷ []) x z w
-          (grows_more (words_of done) (Asks (Some (order.Ring line now)) ∷ []) x y z run.words asked) answered;
+      words = grows_more (Asks (Some (order.Ask line now what)) ∷ words_of done) (Answers line answer ∷ []) x z w
+          (grows_more (words_of done) (Asks (Some (order.Ask line now what)) ∷ []) x y z run.words asked) answered;
     }
 
 pub woken_on :

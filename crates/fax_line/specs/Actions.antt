@@ -2,18 +2,27 @@
 use Rattle.std.specs.Prelude.{◌≡◌, ℕ, ◌<◌, ◌↔◌, Bool, true, false, IsTrue, List, [], ◌∷◌, ◌++◌, Option, Some, None, Result, Ok, Err}
 use Rattle.fax_timers.specs.Moments.{is_due}
 use Rattle.fax_call.specs.Writings.{IsWriting, Writing}
+use Rattle.fax_gateway.specs.declared.fault.PlaceFault.{PlaceFault}
+use Rattle.fax_gateway.specs.declared.fault.PlaceFault.TheVariants as place_faults
 use Rattle.fax_gateway.specs.declared.fault.RingFault.{RingFault}
+use Rattle.fax_gateway.specs.declared.side.Side.{Side}
+use Rattle.fax_gateway.specs.declared.side.Side.TheVariants as side
 use Rattle.fax_gateway.specs.declared.turned.Turned.{Turned}
+use Rattle.fax_gateway.specs.Asking.{asked_behind}
 use Rattle.fax_gateway.specs.Due.{due_at}
-use Rattle.fax_gateway.specs.Events.{Event, Ring}
+use Rattle.fax_gateway.specs.Events.{Event, Placed, Ring}
 use Rattle.fax_gateway.specs.Reached.{GatewayValue, IsReachedBy}
 use Rattle.fax_gateway.specs.Restored.{RestoredCall}
 use Rattle.fax_gateway.specs.Setups.{AreSetWith, Setup}
 use Rattle.fax_gateway.specs.Wires.{Known}
 use Rattle.fax_gateway.specs.Driving.{Accepts, DriverValue, Entry, HasMade, Happens, IsTurn, RefusesRing, events, failed_in_a_row, most_failed, receipts}
 use Rattle.fax_gateway.specs.Turns.{TellTicks}
-use Rattle.fax_hold.specs.Holding.{HoldingValue}
+use Rattle.fax_hold.specs.Holding.{CeasesWhere, HoldingValue, StaysWhere}
 use Rattle.fax_hold.specs.Keeping.{HoldsByLog}
+use Rattle.fax_line.specs.declared.asked.Answered.{Answered}
+use Rattle.fax_line.specs.declared.asked.Answered.TheVariants as answered
+use Rattle.fax_line.specs.declared.asked.Asked.{Asked}
+use Rattle.fax_line.specs.declared.asked.Asked.TheVariants as asked
 
 -- its gateway, what drives that, what is known of its wire and from when on that has something to do, what the wire holds back
 -- where it does, and what the last turn told
@@ -27,20 +36,40 @@ pub record LineValue : Type 0 where
 
 -- before the first turn
 abbrev pub no_turn : Turned
-no_turn = record { goes_on = true; report = None; kept = None; refused = None; ended = None; gave_up = None; dialled = None }
+no_turn = record { goes_on = true; report = None; kept = None; refused = None; ended = None; gave_up = None; dialled = None; asked = None }
 
--- What is done with a line: it is turned, or left at rest where it has its turn; it rings, which begins the call of this
--- number or is refused, for a cause that the log has; or it is told that something may have come for it.
+-- What is done with a line: it is turned, or left at rest where it has its turn; something is asked of it, which it answers; or it
+-- is told that something may have come for it.
 pub data Action : Type 0 where
   Turns : (now : ℕ) → Action
   Rests : (now : ℕ) → Action
-  Rings : (now : ℕ) → (call : Option ℕ) → Action
+  Asks : (now : ℕ) → (what : Asked) → (answer : Option Answered) → Action
   Wakes : Action
 
--- the log of a ring
-abbrev pub IsRung : ℕ → Option ℕ → List Entry → Type 0
-IsRung now (Some number) log = log ≡ Accepts (Ring now number) ∷ []
-IsRung now None log = (fault : RingFault) × (log ≡ RefusesRing fault ∷ [])
+-- the log of a ring: the call of this number begins, or it is refused for this cause
+abbrev pub IsRung : ℕ → Result ℕ RingFault → List Entry → Type 0
+IsRung now (Ok number) log = log ≡ Accepts (Ring now number) ∷ []
+IsRung now (Err fault) log = log ≡ RefusesRing fault ∷ []
+
+-- The log of a placing, behind this trace: the call of the job that is asked for begins, connected or not. Refused it is where none is
+-- asked for, or for want of memory; then nothing happens.
+abbrev pub IsPlaced : Setup → Writing → List Event → ℕ → Bool → Result (Unit {0}) PlaceFault → List Entry → Type 0
+IsPlaced setup writes trace now connected (Ok done) log = log ≡ Accepts (Placed now connected) ∷ []
+IsPlaced setup writes trace now connected (Err fault) log = (log ≡ []) × (fault ≡ place_faults.NotAsked ↔ asked_behind setup writes trace ≡ None)
+
+abbrev pub placing : Bool → Asked
+placing true = asked.Connect
+placing false = asked.NotConnected
+
+-- THE LOG OF WHAT IS ASKED OF A LINE, behind this trace: a line that is there answers, and to what it was asked.
+abbrev pub IsAsked : Setup → Writing → List Event → ℕ → Asked → Option Answered → List Entry → Type 0
+IsAsked setup writes trace now asked.Ring (Some (answered.Rung result)) log = IsRung now result log
+IsAsked setup writes trace now asked.Ring (Some (answered.Placed result)) log = ⊥
+IsAsked setup writes trace now asked.Connect (Some (answered.Rung result)) log = ⊥
+IsAsked setup writes trace now asked.Connect (Some (answered.Placed result)) log = IsPlaced setup writes trace now true result log
+IsAsked setup writes trace now asked.NotConnected (Some (answered.Rung result)) log = ⊥
+IsAsked setup writes trace now asked.NotConnected (Some (answered.Placed result)) log = IsPlaced setup writes trace now false result log
+IsAsked setup writes trace now what None log = ⊥
 
 -- Left at rest, behind this trace: nothing is done, and what is due lies later, so that a tick would have given nothing.
 abbrev pub IsRest : Setup → Writing → List Event → ℕ → List Entry → Type 0
@@ -49,7 +78,7 @@ IsRest setup writes trace now log = (log ≡ []) × (is_due (due_at setup writes
 abbrev pub IsStep : Setup → Writing → List Event → Action → List Entry → Type 0
 IsStep setup writes trace (Turns now) log = IsTurn now log
 IsStep setup writes trace (Rests now) log = IsRest setup writes trace now log
-IsStep setup writes trace (Rings now call) log = IsRung now call log
+IsStep setup writes trace (Asks now what answer) log = IsAsked setup writes trace now what answer log
 IsStep setup writes trace Wakes log = log ≡ []
 
 -- the log of these actions, one after the other, behind this trace
@@ -73,10 +102,19 @@ pub record TellsTurn (now : ℕ) (old new : LineValue) : Type 0 where
       → (log : List Entry) × IsTurn now log × Happens setup writes log trace new.gateway old.wire new.wire × HasMade (log ++ earlier) new.driver
       × TellTicks setup trace (events log ++ trace) new.turned.report new.turned.kept new.turned.refused new.turned.gave_up × HoldsByLog log old.holding new.holding
 
--- the call that a ring begins
-abbrev pub call_of : Result ℕ RingFault → Option ℕ
-call_of (Ok number) = Some number
-call_of (Err fault) = None
+-- the leg on which a call begins by what was asked: by a ring the calling one, by a placing the called one
+abbrev pub side_begun : Option Answered → Option Side
+side_begun (Some (answered.Rung (Ok number))) = Some side.Calling
+side_begun (Some (answered.Rung (Err fault))) = None
+side_begun (Some (answered.Placed (Ok done))) = Some side.Called
+side_begun (Some (answered.Placed (Err fault))) = None
+side_begun None = None
+
+-- What was handed over there before is sent no more; of the calling leg nothing is held back then, and it is not mute. Where no call
+-- begins what the wire holds back stays.
+abbrev pub Frees : Option Side → Option HoldingValue → Option HoldingValue → Type 0
+Frees (Some at) old new = CeasesWhere at old new
+Frees None old new = StaysWhere old new
 
 -- no event came to it, whatever is set for it; and it is restored with these calls
 pub record BeginsWith (calls : List RestoredCall) (line : LineValue) : Type 0 where

@@ -1,10 +1,10 @@
 -- All lines of a server, in forty slots: what is done with them, and what each goes through. Lists of deeds have the newest
 -- first. (This project's profile.)
-use Rattle.std.specs.Prelude.{◌≡◌, ℕ, ◌<◌, ◌≤◌, ◌+◌, ◌-◌, ◌%◌, Bool, true, false, nat_eq, List, [], ◌∷◌, ◌++◌, length, map, slice_get, slice_index_or, Option, Some, None, if◌then◌else◌}
+use Rattle.std.specs.Prelude.{◌≡◌, ℕ, ◌<◌, ◌≤◌, ◌+◌, ◌-◌, ◌%◌, Bool, true, false, nat_eq, List, [], ◌∷◌, ◌++◌, length, map, slice_get, slice_index_or, Option, Some, if◌then◌else◌}
 use Rattle.std.specs.List.{All}
-use Rattle.fax_line.specs.Actions.{Action, LineValue, Rings, Wakes}
-use Rattle.fax_gateway.specs.declared.side.Side.TheVariants as side
-use Rattle.fax_hold.specs.Holding.{CeasesWhere}
+use Rattle.fax_line.specs.declared.asked.Answered.{Answered}
+use Rattle.fax_line.specs.declared.asked.Asked.{Asked}
+use Rattle.fax_line.specs.Actions.{Action, Asks, Frees, LineValue, Wakes, side_begun}
 use Rattle.fax_line.specs.Places.{GoesInPlace, IsBegun, IsNewPlace, PlaceValue, StaysHeld, TellsOrRests, is_at_rest, visit_of}
 
 -- the lines, in the order in which they were added, and the slot that has the next turn
@@ -35,18 +35,18 @@ rests_at now lines line = slice_index_or (map (is_at_rest now) lines) line false
 abbrev pub have_turned : List PlaceValue → List Bool
 have_turned lines = map (λ place. place.turned) lines
 
--- What is done: all lines of a slot have their turn, in which these of them are left at rest; or one line rings; or one is
--- told that something may have come for it.
+-- What is done: all lines of a slot have their turn, in which these of them are left at rest; or something is asked of one line,
+-- which answers, where it is there; or one is told that something may have come for it.
 pub data Deed : Type 0 where
   TurnsSlot : (slot now : ℕ) → (rests : ℕ → Bool) → Deed
-  RingsLine : (line now : ℕ) → (call : Option ℕ) → Deed
+  AsksLine : (line now : ℕ) → (what : Asked) → (answer : Option Answered) → Deed
   WakesLine : (line : ℕ) → Deed
 
 -- what of it is done with one line
 abbrev pub actions_of : ℕ → List Deed → List Action
 actions_of line [] = []
 actions_of line (TurnsSlot slot now rests ∷ earlier) = if nat_eq (slot_of line) slot then visit_of now (rests line) ∷ actions_of line earlier else actions_of line earlier
-actions_of line (RingsLine rung now call ∷ earlier) = if nat_eq line rung then Rings now call ∷ actions_of line earlier else actions_of line earlier
+actions_of line (AsksLine asked now what answer ∷ earlier) = if nat_eq line asked then Asks now what answer ∷ actions_of line earlier else actions_of line earlier
 actions_of line (WakesLine woken ∷ earlier) = if nat_eq line woken then Wakes ∷ actions_of line earlier else actions_of line earlier
 
 -- Each line went through its own actions, by itself.
@@ -71,15 +71,14 @@ TellsInSlot false now rests old new = StaysHeld old new
 abbrev pub SlotTells : ℕ → ℕ → (ℕ → Bool) → List PlaceValue → List PlaceValue → Type 0
 SlotTells slot now rests old new = EachComes (λ number. TellsInSlot (nat_eq (slot_of number) slot) now (rests number)) old new
 
--- A RING FREES THE WIRE of its line, where a call begins: that holds nothing back then, and is not mute. What the wires of other lines hold
--- back stays.
-abbrev pub IsFreed : Bool → Option ℕ → PlaceValue → PlaceValue → Type 0
-IsFreed true (Some call) old new = CeasesWhere side.Calling old.line.holding new.line.holding
-IsFreed true None old new = StaysHeld old new
-IsFreed false call old new = StaysHeld old new
+-- WHAT IS ASKED OF A LINE FREES ITS WIRE, where a call begins by it, on the leg of that call. What the wires of other lines hold back
+-- stays.
+abbrev pub IsFreed : Bool → Option Answered → PlaceValue → PlaceValue → Type 0
+IsFreed true answer old new = Frees (side_begun answer) old.line.holding new.line.holding
+IsFreed false answer old new = StaysHeld old new
 
-abbrev pub RingFrees : ℕ → Option ℕ → List PlaceValue → List PlaceValue → Type 0
-RingFrees line call old new = EachComes (λ number. IsFreed (nat_eq number line) call) old new
+abbrev pub AskFrees : ℕ → Option Answered → List PlaceValue → List PlaceValue → Type 0
+AskFrees line answer old new = EachComes (λ number. IsFreed (nat_eq number line) answer) old new
 
 -- what the wires of all lines hold back stays
 abbrev pub AllStayHeld : List PlaceValue → List PlaceValue → Type 0
@@ -108,5 +107,5 @@ pub record IsLineAt (i : ℕ) (lines : List PlaceValue) (line : LineValue) : Typ
 abbrev pub AreRising : List Deed → ℕ → Type 0
 AreRising [] latest = latest ≡ 0
 AreRising (TurnsSlot slot now rests ∷ earlier) latest = (before : ℕ) × (before ≤ latest) × (now ≡ latest) × AreRising earlier before
-AreRising (RingsLine line now call ∷ earlier) latest = (before : ℕ) × (before ≤ latest) × (now ≡ latest) × AreRising earlier before
+AreRising (AsksLine line now what answer ∷ earlier) latest = (before : ℕ) × (before ≤ latest) × (now ≡ latest) × AreRising earlier before
 AreRising (WakesLine line ∷ earlier) latest = AreRising earlier latest

@@ -5,9 +5,9 @@ use Rattle.fax_jobs.specs.declared.report.Report.{Report}
 use Rattle.fax_gateway.specs.declared.given.Kept.{Kept}
 use Rattle.fax_gateway.specs.declared.turned.Turned.{Turned as Told}
 use Rattle.fax_hold.specs.Keeping.{PutsIf}
-use Rattle.fax_line.specs.Deeds.{AllStayHeld, RingFrees, RingsLine, SlotTells, TurnsSlot, WakesLine, Went}
+use Rattle.fax_line.specs.Deeds.{AllStayHeld, AskFrees, AsksLine, SlotTells, TurnsSlot, WakesLine, Went}
 use Rattle.fax_line.specs.Places.{PlaceValue}
-use Rattle.fax_line.specs.Runs.{Done, Rung, Turned, Woken, call_if, latest, next_slot}
+use Rattle.fax_line.specs.Runs.{AskedOf, Done, Turned, Woken, latest, next_slot}
 use Rattle.fax_line.specs.Settling.{ArePagesOf, EndsSlot, LetsOutSlot, has_page, is_kept_in, was_turned}
 use Rattle.fax_line.specs.declared.settling.PageToKeep.{PageToKeep}
 use Rattle.fax_line.specs.declared.settling.SlotEnd.{SlotEnd}
@@ -83,9 +83,9 @@ Ran {K} same puts notes ends first (Turned now rests ∷ done) (end ∷ settled)
     (mid : List PlaceValue) × (turned : List PlaceValue) × (between : K) × Ran same puts notes ends first done settled old mid before between
     × Went (TurnsSlot (next_slot first done) (max (latest done) now) rests ∷ []) mid turned × SlotTells (next_slot first done) (max (latest done) now) rests mid turned
     × IsSettled same puts notes ends (next_slot first done) end turned new between after
-Ran same puts notes ends first (Rung line now answer ∷ done) settled old new before after =
-    (mid : List PlaceValue) × Ran same puts notes ends first done settled old mid before after × Went (RingsLine line (max (latest done) now) (call_if answer) ∷ []) mid new
-    × RingFrees line (call_if answer) mid new
+Ran same puts notes ends first (AskedOf line now what answer ∷ done) settled old new before after =
+    (mid : List PlaceValue) × Ran same puts notes ends first done settled old mid before after × Went (AsksLine line (max (latest done) now) what answer ∷ []) mid new
+    × AskFrees line answer mid new
 Ran same puts notes ends first (Woken line ∷ done) settled old new before after =
     (mid : List PlaceValue) × Ran same puts notes ends first done settled old mid before after × Went (WakesLine line ∷ []) mid new × AllStayHeld mid new
 
@@ -95,8 +95,8 @@ RanWithout first [] old new = new ≡ old
 RanWithout first (Turned now rests ∷ done) old new =
     (mid : List PlaceValue) × (turned : List PlaceValue) × RanWithout first done old mid × Went (TurnsSlot (next_slot first done) (max (latest done) now) rests ∷ []) mid turned
     × SlotTells (next_slot first done) (max (latest done) now) rests mid turned × LetsOutSlot (next_slot first done) turned new
-RanWithout first (Rung line now answer ∷ done) old new =
-    (mid : List PlaceValue) × RanWithout first done old mid × Went (RingsLine line (max (latest done) now) (call_if answer) ∷ []) mid new × RingFrees line (call_if answer) mid new
+RanWithout first (AskedOf line now what answer ∷ done) old new =
+    (mid : List PlaceValue) × RanWithout first done old mid × Went (AsksLine line (max (latest done) now) what answer ∷ []) mid new × AskFrees line answer mid new
 RanWithout first (Woken line ∷ done) old new = (mid : List PlaceValue) × RanWithout first done old mid × Went (WakesLine line ∷ []) mid new × AllStayHeld mid new
 
 -- where there is a keeper; a run that begins with none has none

@@ -6,14 +6,14 @@ use Rattle.fax_gateway.specs.Driving.{Entry, events}
 use Rattle.fax_gateway.specs.Due.{due_at}
 use Rattle.fax_gateway.specs.Events.{clock}
 use Rattle.fax_gateway.specs.Setups.{Setup}
-use Rattle.fax_line.specs.Actions.{Action, AreSteps, Rests, Rings, Turns, Wakes}
+use Rattle.fax_line.specs.Actions.{Action, AreSteps, Asks, Rests, Turns, Wakes}
 
 -- the moments of what is done with a line never go back, up to this one
 abbrev pub RiseTo : List Action → ℕ → Type 0
 RiseTo [] latest = Unit {0}
 RiseTo (Turns now ∷ earlier) latest = (now ≤ latest) × RiseTo earlier now
 RiseTo (Rests now ∷ earlier) latest = (now ≤ latest) × RiseTo earlier now
-RiseTo (Rings now call ∷ earlier) latest = (now ≤ latest) × RiseTo earlier now
+RiseTo (Asks now what answer ∷ earlier) latest = (now ≤ latest) × RiseTo earlier now
 RiseTo (Wakes ∷ earlier) latest = RiseTo earlier latest
 
 -- Where a new line is left at rest, a tick of its gateway would not have been due by the latest moment that it has read: it

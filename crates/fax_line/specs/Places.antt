@@ -8,7 +8,7 @@ use Rattle.fax_gateway.specs.Reached.{IsReachedBy}
 use Rattle.fax_gateway.specs.Setups.{Setup}
 use Rattle.fax_gateway.specs.Restored.{RestoredCall}
 use Rattle.fax_hold.specs.Holding.{StaysWhere}
-use Rattle.fax_line.specs.Actions.{Action, BeginsWith, Goes, LineValue, Rests, Rings, TellsTurn, Turns, Wakes}
+use Rattle.fax_line.specs.Actions.{Action, Asks, BeginsWith, Goes, LineValue, Rests, TellsTurn, Turns, Wakes}
 
 -- the line, from when on something is due on it, whether it was woken since it was turned last, and whether it was turned in
 -- the last turn of its slot
@@ -44,7 +44,7 @@ abbrev pub is_awake : Bool → List Action → Bool
 is_awake before [] = before
 is_awake before (Turns now ∷ earlier) = false
 is_awake before (Rests now ∷ earlier) = is_awake before earlier
-is_awake before (Rings now call ∷ earlier) = is_awake before earlier
+is_awake before (Asks now what answer ∷ earlier) = is_awake before earlier
 is_awake before (Wakes ∷ earlier) = true
 
 -- It was left at rest only where it was not awake.
@@ -52,7 +52,7 @@ abbrev pub RestsAsleep : Bool → List Action → Type 0
 RestsAsleep before [] = Unit {0}
 RestsAsleep before (Turns now ∷ earlier) = RestsAsleep before earlier
 RestsAsleep before (Rests now ∷ earlier) = (is_awake before earlier ≡ false) × RestsAsleep before earlier
-RestsAsleep before (Rings now call ∷ earlier) = RestsAsleep before earlier
+RestsAsleep before (Asks now what answer ∷ earlier) = RestsAsleep before earlier
 RestsAsleep before (Wakes ∷ earlier) = RestsAsleep before earlier
 
 -- By these actions a line came from the one state to the other, in its place.

@@ -6,6 +6,7 @@
 //! in `specs/KeptRuns`.
 #![tactic(auto)]
 
+mod asked;
 mod keeper;
 pub mod laws;
 mod line;
@@ -15,6 +16,7 @@ mod place;
 mod run;
 mod settling;
 
+pub use asked::{Answered, Asked};
 pub use keeper::RunKeeper;
 pub use line::Line;
 pub use lines::{Lines, SLOTS};

@@ -1,23 +1,30 @@
 //! One line.
-ghost use Rattle.std.specs.Prelude.{◌≡◌, List, [], ◌∷◌, ℕ, IfOk, OnErr, OnOk, Err, IsTrue, ◌↔◌, ◌<◌, ◌≤◌, false, true, length, is_some, option_copied, map, slice_get};
+ghost use Rattle.std.specs.Prelude.{◌≡◌, List, [], ◌∷◌, ℕ, Some, None, IfOk, OnErr, OnOk, Err, IsTrue, ◌↔◌, ◌<◌, ◌≤◌, false, true, length, is_some, option_copied, map, slice_get};
 ghost use Rattle.fax_timers.specs.Moments.{earlier};
 ghost use Rattle.fax_call.specs.Writings.{Writing};
+ghost use Rattle.fax_gateway.specs.Asking.{asked_behind};
 ghost use Rattle.fax_gateway.specs.CallingLegs.{calling_leg, idle_after};
 ghost use Rattle.fax_gateway.specs.Due.{due_at};
 ghost use Rattle.fax_gateway.specs.Driving.{Entry, HasMade, failed_in_a_row, most_failed, receipts};
-ghost use Rattle.fax_gateway.specs.Events.{Event, rings};
+ghost use Rattle.fax_gateway.specs.Events.{Event, Placed, rings};
 ghost use Rattle.fax_gateway.specs.Reached.{IsReachedBy};
 ghost use Rattle.fax_gateway.specs.Setups.{AreAllowed, Setup};
-ghost use Rattle.fax_gateway.specs.Turns.{call_dialled, call_ended, call_kept};
+ghost use Rattle.fax_gateway.specs.Sides.{job_asked};
+ghost use Rattle.fax_gateway.specs.Turns.{call_asked, call_dialled, call_ended, call_if_new, call_kept};
 ghost use Rattle.fax_gateway.specs.Restored.{call_shown};
-ghost use Rattle.fax_line.specs.Actions.{BeginsWith, Goes, IsNew, Rings, TellsTurn, Turns, call_of, no_turn};
+ghost use Rattle.fax_line.specs.Actions.{Asks, BeginsWith, Frees, Goes, IsNew, TellsTurn, Turns, no_turn, placing, side_begun};
+ghost use Rattle.fax_line.specs.declared.asked.Answered.TheVariants as answered;
 ghost use Rattle.fax_gateway.specs.declared.side.Side.TheVariants as side_shown;
 ghost use Rattle.fax_hold.specs.Holding.{CeasesWhere, StaysWhere};
+ghost use Rattle.fax_repeat.specs.Policies.{due_of};
 ghost use Rattle.fax_line.specs.Settling.{EndsTurn, IsOfTurnIf};
 
+use crate::asked::{Answered, Asked};
 use crate::settling::{PageToKeep, page_to_keep};
 use fax_bits::NoMemory;
-use fax_gateway::{Buffer, Engine, Gateway, RestoredCall, RingFault, Settings, Side, Turned};
+use fax_gateway::{
+    Buffer, Engine, Gateway, PlaceFault, RestoredCall, RingFault, Settings, Side, Turned,
+};
 use fax_hold::{HoldingWire, KeepFault, LineWire, end_turn};
 use fax_jobs::{Job, Report};
 use fax_pagestore::PackedRows;
@@ -37,11 +44,12 @@ pub struct Line<W: LineWire + Drop> {
 }
 
 impl<W: LineWire + Drop> Model for Line<W> {
+    ghost use Rattle.fax_repeat.specs.Policies.{due_of};
     ghost use Rattle.fax_line.specs.Actions.{LineValue, TellsWhether};
 
     ghost Value = { LineValue };
 
-    ghost view = { λ l. record { gateway = l.gateway; driver = l.engine; wire = W.known l.wire; wire_due = W.due l.wire; holding = W.holding l.wire; turned = l.turned } };
+    ghost view = { λ l. record { gateway = l.gateway; driver = l.engine; wire = W.known l.wire; wire_due = due_of W.due l.wire; holding = W.holding l.wire; turned = l.turned } };
 
     ghost invariant = { λ l. TellsWhether l.turned.goes_on l.engine };
 }
@@ -53,7 +61,7 @@ impl<W: LineWire + Drop> Line<W> {
         ensures new { IfOk result (λ line. IsNew line) }
         ensures settings { IfOk result (λ line. line.gateway.settings ≡ settings) }
         ensures wire { IfOk result (λ line. line.wire ≡ W.known wire) }
-        ensures wire_due { IfOk result (λ line. line.wire_due ≡ W.due wire) }
+        ensures wire_due { IfOk result (λ line. line.wire_due ≡ due_of W.due wire) }
         ensures holding { IfOk result (λ line. line.holding ≡ W.holding wire) }
         ensures turned { IfOk result (λ line. line.turned ≡ no_turn) }
     {
@@ -72,7 +80,7 @@ impl<W: LineWire + Drop> Line<W> {
         ensures begins { IfOk result (λ line. BeginsWith (map call_shown calls.items) line) }
         ensures settings { IfOk result (λ line. line.gateway.settings ≡ settings) }
         ensures wire { IfOk result (λ line. line.wire ≡ W.known wire) }
-        ensures wire_due { IfOk result (λ line. line.wire_due ≡ W.due wire) }
+        ensures wire_due { IfOk result (λ line. line.wire_due ≡ due_of W.due wire) }
         ensures holding { IfOk result (λ line. line.holding ≡ W.holding wire) }
         ensures turned { IfOk result (λ line. line.turned ≡ no_turn) }
     {
@@ -89,6 +97,7 @@ impl<W: LineWire + Drop> Line<W> {
                 ended: None,
                 gave_up: None,
                 dialled: None,
+                asked: None,
             },
         })
     }
@@ -99,6 +108,7 @@ impl<W: LineWire + Drop> Line<W> {
         ensures tells { TellsTurn now self.old self.new }
         ensures ended { self.new.turned.ended ≡ call_ended (call_kept self.old.gateway.calling) (call_kept self.new.gateway.calling) }
         ensures dialled { self.new.turned.dialled ≡ call_dialled (is_some self.old.gateway.book.sending) self.new.gateway.book.sending }
+        ensures asked { self.new.turned.asked ≡ call_if_new (call_asked (job_asked self.old.gateway.settings.asks self.old.gateway.book)) (call_asked (job_asked self.new.gateway.settings.asks self.new.gateway.book)) }
     {
         self.wire.go_on(now);
         self.turned = self
@@ -115,9 +125,24 @@ impl<W: LineWire + Drop> Line<W> {
         self.wire.go_on(now);
     }
 
+    /// This is asked of it. Where a call begins, what was handed over on its leg before is sent no more; where none does, nothing
+    /// changes.
+    pub fn ask(&mut self, what: Asked, now: u64) -> Answered
+        ensures goes { Goes (Asks now what (Some result) ∷ []) self.old self.new }
+        ensures frees { Frees (side_begun (Some result)) self.old.holding self.new.holding }
+        ensures refused { side_begun (Some result) ≡ None → self.new ≡ self.old }
+        ensures turned { self.new.turned ≡ self.old.turned }
+    {
+        match what {
+            Asked::Ring => Answered::Rung(self.ring(now)),
+            Asked::Connect => Answered::Placed(self.connect(now)),
+            Asked::NotConnected => Answered::Placed(self.not_connected(now)),
+        }
+    }
+
     /// A ring. It answers the number of the call that begins; what was handed over on the calling leg before is sent no more.
     pub fn ring(&mut self, now: u64) -> Result<u32, RingFault>
-        ensures goes { Goes (Rings now (call_of result) ∷ []) self.old self.new }
+        ensures goes { Goes (Asks now Asked.Ring (Some (answered.Rung result)) ∷ []) self.old self.new }
         ensures busy { (setup : Setup) (writes : Writing) (trace : List Event) → IsReachedBy setup writes trace self.old.gateway
             → result ≡ Err RingFault.Busy ↔ (idle_after (calling_leg setup trace) ≡ false) }
         ensures no_number { (setup : Setup) (writes : Writing) (trace : List Event) → IsReachedBy setup writes trace self.old.gateway → idle_after (calling_leg setup trace) ≡ true
@@ -130,6 +155,50 @@ impl<W: LineWire + Drop> Line<W> {
             Ok(number) => {
                 self.wire.cease(Side::Calling);
                 Ok(number)
+            }
+            Err(fault) => Err(fault),
+        }
+    }
+
+    /// The called machine of the job whose call is asked for has answered: the call begins, and what was handed over on the called
+    /// leg before is sent no more.
+    pub fn connect(&mut self, now: u64) -> Result<(), PlaceFault>
+        ensures goes { Goes (Asks now Asked.Connect (Some (answered.Placed result)) ∷ []) self.old self.new }
+        ensures not_asked { (setup : Setup) (writes : Writing) (trace : List Event) → IsReachedBy setup writes trace self.old.gateway
+            → result ≡ Err PlaceFault.NotAsked ↔ (asked_behind setup writes trace ≡ None) }
+        ensures freed { OnOk result (CeasesWhere side_shown.Called self.old.holding self.new.holding) }
+        ensures err { OnErr result (self.new ≡ self.old) }
+        ensures turned { self.new.turned ≡ self.old.turned }
+    {
+        self.place(true, now)
+    }
+
+    /// The called machine of the job whose call is asked for could not be reached: the call is over as it begins, and the next turn
+    /// reports the job as `NotPlaced`. What was handed over on the called leg before is sent no more.
+    pub fn not_connected(&mut self, now: u64) -> Result<(), PlaceFault>
+        ensures goes { Goes (Asks now Asked.NotConnected (Some (answered.Placed result)) ∷ []) self.old self.new }
+        ensures not_asked { (setup : Setup) (writes : Writing) (trace : List Event) → IsReachedBy setup writes trace self.old.gateway
+            → result ≡ Err PlaceFault.NotAsked ↔ (asked_behind setup writes trace ≡ None) }
+        ensures freed { OnOk result (CeasesWhere side_shown.Called self.old.holding self.new.holding) }
+        ensures err { OnErr result (self.new ≡ self.old) }
+        ensures turned { self.new.turned ≡ self.old.turned }
+    {
+        self.place(false, now)
+    }
+
+    /// The call of the job that is asked for is placed, or could not be.
+    fn place(&mut self, connected: bool, now: u64) -> Result<(), PlaceFault>
+        ensures goes { Goes (Asks now (placing connected) (Some (answered.Placed result)) ∷ []) self.old self.new }
+        ensures not_asked { (setup : Setup) (writes : Writing) (trace : List Event) → IsReachedBy setup writes trace self.old.gateway
+            → result ≡ Err PlaceFault.NotAsked ↔ (asked_behind setup writes trace ≡ None) }
+        ensures freed { OnOk result (CeasesWhere side_shown.Called self.old.holding self.new.holding) }
+        ensures err { OnErr result (self.new ≡ self.old) }
+        ensures turned { self.new.turned ≡ self.old.turned }
+    {
+        match place(&mut self.gateway, connected, now) {
+            Ok(()) => {
+                self.wire.cease(Side::Called);
+                Ok(())
             }
             Err(fault) => Err(fault),
         }
@@ -171,6 +240,15 @@ impl<W: LineWire + Drop> Line<W> {
         ensures { option_copied result ≡ self.now.gateway.book.sending }
     {
         self.gateway.sending()
+    }
+
+    /// The number of the call whose job is asked for: it waits for its own call to be placed.
+    pub fn asked(&self) -> Option<u32>
+        ensures asked { result ≡ call_asked (job_asked self.now.gateway.settings.asks self.now.gateway.book) }
+        ensures told { (setup : Setup) (writes : Writing) (trace : List Event) → IsReachedBy setup writes trace self.now.gateway
+            → result ≡ call_asked (asked_behind setup writes trace) }
+    {
+        self.gateway.asked()
     }
 
     /// Report i of those that are kept, counted from 0, the oldest.
@@ -234,5 +312,24 @@ impl<W: TimedWire + Drop> Line<HoldingWire<W>> {
         ensures turned { self.new.turned ≡ self.old.turned }
     {
         self.end_turn(true);
+    }
+}
+
+/// The call of the job that a gateway asks for is placed, or could not be.
+fn place(
+    gateway: &mut Gateway<PackedRows>,
+    connected: bool,
+    now: u64,
+) -> Result<(), PlaceFault>
+    ensures placed { OnOk result ((setup : Setup) (writes : Writing) (trace : List Event) → IsReachedBy setup writes trace gateway.old
+        → IsReachedBy setup writes (Placed now connected ∷ trace) gateway.new) }
+    ensures not_asked { (setup : Setup) (writes : Writing) (trace : List Event) → IsReachedBy setup writes trace gateway.old
+        → result ≡ Err PlaceFault.NotAsked ↔ (asked_behind setup writes trace ≡ None) }
+    ensures err { OnErr result (gateway.new ≡ gateway.old) }
+{
+    if connected {
+        gateway.connect(now)
+    } else {
+        gateway.not_connected(now)
     }
 }

@@ -2,20 +2,20 @@
 ghost use Rattle.std.specs.Prelude.{◌≡◌, ◌≢◌, ◌+◌, ◌<◌, ◌&&◌, List, [], ◌∷◌, ◌++◌, ℕ, Bool, true, false, IsTrue, IfOk, OnOk, OnErr, IsSome, ◌≤◌, ◌↔◌, MatchOption, is_ok, length, map, nat_eq, slice_index_or, if◌then◌else◌};
 ghost use Rattle.fax_gateway.specs.Restored.{RestoredCall};
 ghost use Rattle.fax_hold.specs.Keeping.{PutsIf};
-ghost use Rattle.fax_line.specs.Actions.{BeginsWith, IsNew, Rings, Wakes, call_of};
+ghost use Rattle.fax_line.specs.Actions.{Asks, BeginsWith, IsNew, Wakes};
 ghost use Rattle.fax_line.specs.Places.{StaysHeld, visit_of};
-ghost use Rattle.fax_line.specs.Deeds.{AllStayHeld, AreBegun, AreNew, EachComes, EachGoes, IsAdded, IsLineAt, RingFrees, RingsLine, SlotTells, TurnsSlot, WakesLine, Went, have_turned, most_slots, rests_at, slot_after, slot_before, slot_of};
+ghost use Rattle.fax_line.specs.Deeds.{AllStayHeld, AreBegun, AreNew, AskFrees, AsksLine, EachComes, EachGoes, IsAdded, IsLineAt, SlotTells, TurnsSlot, WakesLine, Went, have_turned, most_slots, rests_at, slot_after, slot_before, slot_of};
 ghost use Rattle.fax_line.specs.KeptRuns.{EndsIf, NotesIf, TellsLine, TellsSlot, TellsWhere};
-ghost use Rattle.fax_line.specs.Runs.{call_if};
 ghost use Rattle.fax_line.specs.Settling.{ArePagesOf, EndsSlot, EndsWhere, HandsOverSlot, LetsOutSlot, has_page, is_kept_in};
 ghost use Rattle.fax_line.specs.declared.settling.PageToKeep.{PageToKeep as ToKeep};
 
+use crate::asked::{Answered, Asked};
 use crate::keeper::RunKeeper;
 use crate::line::Line;
 use crate::place::Place;
 use crate::settling::{PageToKeep, SlotEnd, has_page};
 use fax_bits::NoMemory;
-use fax_gateway::{Buffer, Kept, RingFault, Turned};
+use fax_gateway::{Buffer, Kept, Turned};
 use fax_hold::{HoldingWire, Keeper, LineWire, keep};
 use fax_jobs::Report;
 use fax_repeat::TimedWire;
@@ -132,14 +132,14 @@ impl<W: LineWire + Drop> Lines<W> {
         self.slot = slot_behind(self.slot);
     }
 
-    /// A ring of line i, counted from 0, where there is one.
-    pub fn ring(&mut self, i: usize, now: u64) -> Option<Result<u32, RingFault>>
-        ensures went { Went (RingsLine i now (call_if result) ∷ []) self.old.lines self.new.lines }
-        ensures frees { RingFrees i (call_if result) self.old.lines self.new.lines }
+    /// This is asked of line i, counted from 0, where there is one.
+    pub fn ask(&mut self, i: usize, what: Asked, now: u64) -> Option<Answered>
+        ensures went { Went (AsksLine i now what result ∷ []) self.old.lines self.new.lines }
+        ensures frees { AskFrees i result self.old.lines self.new.lines }
         ensures there { IsSome result ↔ (i < length self.old.lines) }
         ensures slot { self.new.slot ≡ self.old.slot }
     {
-        ring_one(self.places.as_mut_slice(), i, now)
+        ask_one(self.places.as_mut_slice(), i, what, now)
     }
 
     /// Something may have come for line i, counted from 0, where there is one: it is turned in the next turn of its slot.
@@ -267,20 +267,21 @@ fn tell_slot<W: LineWire + Drop>(places: &mut [Place<W>], slot: usize, now: u64)
     }
 }
 
-/// A ring of line i, where there is one.
-fn ring_one<W: LineWire + Drop>(
+/// This is asked of line i, where there is one.
+fn ask_one<W: LineWire + Drop>(
     places: &mut [Place<W>],
     i: usize,
+    what: Asked,
     now: u64,
-) -> Option<Result<u32, RingFault>>
-    ensures went { EachGoes (λ line. if nat_eq line i then Rings now (call_if result) ∷ [] else []) places.old places.new }
-    ensures frees { RingFrees i (call_if result) places.old places.new }
+) -> Option<Answered>
+    ensures went { EachGoes (λ line. if nat_eq line i then Asks now what result ∷ [] else []) places.old places.new }
+    ensures frees { AskFrees i result places.old places.new }
     ensures there { IsSome result ↔ (i < length places.old) }
 {
     if i >= places.len() {
         return None;
     }
-    Some(places[i].ring(now))
+    Some(places[i].ask(what, now))
 }
 
 /// Line i is woken, where there is one.

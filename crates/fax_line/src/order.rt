@@ -3,10 +3,10 @@ ghost use Rattle.std.specs.Prelude.{◌≡◌, List, [], ◌∷◌, Option};
 ghost use Rattle.fax_gateway.specs.Wires.{Grows};
 ghost use Rattle.fax_line.specs.Words.{Answers, Asks, Word};
 
+use crate::asked::{Answered, Asked};
 use crate::keeper::RunKeeper;
 use crate::lines::Lines;
 use crate::settling::SlotEnd;
-use fax_gateway::RingFault;
 use fax_hold::LineWire;
 
 /// What is to be done next, and when.
@@ -14,8 +14,8 @@ use fax_hold::LineWire;
 pub enum Order {
     /// The next slot has its turn.
     Turn { now: u64 },
-    /// A line rings, counted from 0.
-    Ring { line: usize, now: u64 },
+    /// This is asked of a line, counted from 0.
+    Ask { line: usize, now: u64, what: Asked },
     /// Something may have come over the wire of a line, counted from 0: it is not left at rest in the next turn of its slot.
     Wake { line: usize },
 }
@@ -26,7 +26,7 @@ pub enum Order {
 ///
 /// It is shown what keeps the pages of the run, where there is one, and changes nothing of what that keeps.
 pub trait Pace<W: LineWire + Drop, K: RunKeeper> {
-    /// Of one that tells it: what it answered to `next`, and what it was told of rings, the newest first.
+    /// Of one that tells it: what it answered to `next`, and what it was told of that which it asked of lines, the newest first.
     ghost words: { Self → Option (List Word) };
 
     /// What is to be done next, once it is due. `None`: the run ends.
@@ -47,7 +47,7 @@ pub trait Pace<W: LineWire + Drop, K: RunKeeper> {
     fn turned(&mut self, lines: &Lines<W>, keeper: Option<&K>)
         ensures { words self.new ≡ words self.old };
 
-    /// The ring of a line that was ordered was answered so. `None`: there is no such line.
-    fn rung(&mut self, line: usize, answer: Option<Result<u32, RingFault>>)
+    /// What was asked of a line by an order is done, and the line answered so. `None`: there is no such line.
+    fn done(&mut self, line: usize, answer: Option<Answered>)
         ensures { Grows (Answers line answer ∷ []) (words self.old) (words self.new) };
 }

@@ -1,15 +1,15 @@
 //! A line in its slot.
-ghost use Rattle.std.specs.Prelude.{◌≡◌, List, [], ◌∷◌, not, true, false, IfOk, OnErr};
+ghost use Rattle.std.specs.Prelude.{◌≡◌, List, [], ◌∷◌, Some, not, true, false, IfOk, OnErr};
 ghost use Rattle.fax_timers.specs.Moments.{is_due};
 ghost use Rattle.fax_gateway.specs.Restored.{RestoredCall};
-ghost use Rattle.fax_line.specs.Actions.{BeginsWith, Rings, Wakes, call_of};
-ghost use Rattle.fax_line.specs.Deeds.{IsFreed};
+ghost use Rattle.fax_line.specs.Actions.{Asks, BeginsWith, Frees, Wakes, side_begun};
 ghost use Rattle.fax_line.specs.Places.{BeginsInPlace, GoesInPlace, StaysHeld, TellsOrRests, is_at_rest, visit_of};
 ghost use Rattle.fax_line.specs.Settling.{EndsTurn, HandsOver};
 
+use crate::asked::{Answered, Asked};
 use crate::line::Line;
 use crate::settling::PageToKeep;
-use fax_gateway::{Buffer, RingFault};
+use fax_gateway::Buffer;
 use fax_hold::{HoldingWire, LineWire};
 use fax_repeat::TimedWire;
 use std::alloc::{AllocError, Global};
@@ -105,13 +105,13 @@ impl<W: LineWire + Drop> Place<W> {
         }
     }
 
-    /// A ring.
-    pub fn ring(&mut self, now: u64) -> Result<u32, RingFault>
-        ensures goes { GoesInPlace (Rings now (call_of result) ∷ []) self.old self.new }
-        ensures freed { IsFreed true (call_of result) self.old self.new }
+    /// This is asked of it.
+    pub fn ask(&mut self, what: Asked, now: u64) -> Answered
+        ensures goes { GoesInPlace (Asks now what (Some result) ∷ []) self.old self.new }
+        ensures frees { Frees (side_begun (Some result)) self.old.line.holding self.new.line.holding }
         ensures turned { self.new.turned ≡ self.old.turned }
     {
-        let answer = self.line.ring(now);
+        let answer = self.line.ask(what, now);
         self.due = self.line.next_due();
         answer
     }

@@ -39,10 +39,10 @@ pub fn serve<W: TimedWire + Drop, K: RunKeeper, P: Pace<HoldingWire<W>, K>>(
                 lines.turn(latest);
                 settle(lines, keeper, pace);
             }
-            Order::Ring { line, now } => {
+            Order::Ask { line, now, what } => {
                 latest = latest.max(now);
-                let answer = lines.ring(line, latest);
-                pace.rung(line, answer);
+                let answer = lines.ask(line, what, latest);
+                pace.done(line, answer);
             }
             Order::Wake { line } => lines.wake(line),
         }

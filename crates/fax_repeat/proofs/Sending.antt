@@ -6,7 +6,7 @@ use Rattle.fax_gateway.specs.declared.side.Side.TheVariants as side
 use Rattle.fax_gateway.specs.Wires.{Grows, Handed}
 use Rattle.fax_repeat.specs.declared.policy.RepeatPolicy.{RepeatPolicy}
 use Rattle.fax_repeat.specs.Gaps.{gap_at, gap_behind, gaps}
-use Rattle.fax_repeat.specs.Policies.{LastValue, behind, due_behind, has_come, kept_of, repeat_of, repeated, unknown}
+use Rattle.fax_repeat.specs.Policies.{LastValue, behind, due_behind, has_come, kept_of, other_side, repeat_of, repeated, unknown}
 use Rattle.fax_repeat.specs.Repeats.{IsLast, IsWithin, RepeatsIf, at_most, newest, once, same_octets, same_side, times, told_if}
 
 -- ---- when a datagram is sent again
@@ -90,10 +90,6 @@ times_new : (at : Side) (octets : List ℕ) (last : LastValue) (sent : List Hand
 times_new at octets last sent is other = new_of at octets last.octets last.sends sent is.newest_is is.none other
 
 -- ---- one more send
-
-abbrev other_side : Side → Side
-other_side side.Calling = side.Called
-other_side side.Called = side.Calling
 
 -- the last of a leg, and that of the other one
 record Keeps (at : Side) (most : ℕ) (last beside : LastValue) (sent : List Handed) : Type 0 where

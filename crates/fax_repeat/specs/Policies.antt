@@ -65,6 +65,14 @@ earlier_of None other = other
 earlier_of (Some moment) None = Some moment
 earlier_of (Some moment) (Some other) = Some (min moment other)
 
+-- of a wire that has things to do on both legs
+abbrev pub due_of : {W : Type 0} → (Side → W → Option ℕ) → W → Option ℕ
+due_of due wire = earlier_of (due side.Calling wire) (due side.Called wire)
+
+abbrev pub other_side : Side → Side
+other_side side.Calling = side.Called
+other_side side.Called = side.Calling
+
 -- the last of a leg, and of the other one
 abbrev pub last_on : Side → RepeatingValue → LastValue
 last_on side.Calling wire = wire.calling

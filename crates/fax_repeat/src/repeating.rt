@@ -159,7 +159,7 @@ impl<W: Wire + Drop> Wire for RepeatingWire<W> {
 }
 
 impl<W: Wire + Drop> TimedWire for RepeatingWire<W> {
-    ghost due = { λ wire. earlier_of wire.calling.due wire.called.due };
+    ghost due = { λ side wire. (last_on side wire).due };
 
     /// The last datagram of each leg whose moment has come is sent again, once. A moment before another reads as the latest.
     fn go_on(&mut self, now: u64)

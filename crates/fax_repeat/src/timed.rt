@@ -1,14 +1,14 @@
 //! Wires that are told the time.
-ghost use Rattle.std.specs.Prelude.{◌≡◌, ℕ, Option};
+ghost use Rattle.std.specs.Prelude.{◌≡◌, ℕ, Option, None};
 ghost use Rattle.fax_gateway.specs.declared.side.Side.{Side as SideShown};
-ghost use Rattle.fax_repeat.specs.Policies.{IsToldAs};
+ghost use Rattle.fax_repeat.specs.Policies.{IsToldAs, due_of, other_side};
 
 use fax_gateway::{Side, Wire};
 
 /// A wire that does things of its own as time goes on, none of which is told of it.
 pub trait TimedWire: Wire {
-    /// From which moment on it has something to do.
-    ghost due: { Self → Option ℕ };
+    /// From which moment on it has something to do on a leg.
+    ghost due: { SideShown → Self → Option ℕ };
 
     /// What is made of it where time goes on. By default nothing is told of that.
     ghost goes_on: { Self → Self → Type 0 } = { λ old new. Unit {0} };
@@ -21,12 +21,14 @@ pub trait TimedWire: Wire {
         ensures told { IsToldAs (Self.known self.old) (Self.known self.new) }
         ensures makes { goes_on self.old self.new };
 
-    /// A new call begins on a leg: what was handed over before is sent no more.
+    /// A new call begins on a leg: what was handed over before is sent no more. On the other leg nothing changes.
     fn cease(&mut self, side: Side)
         ensures told { IsToldAs (Self.known self.old) (Self.known self.new) }
+        ensures ended { due side self.new ≡ None }
+        ensures beside { due (other_side side) self.new ≡ due (other_side side) self.old }
         ensures makes { ceases side self.old self.new };
 
     /// From which moment on the wire has something to do. `None`: it has nothing.
     fn next_due(&self) -> Option<u64>
-        ensures { result ≡ due self.now };
+        ensures { result ≡ due_of due self.now };
 }

@@ -5,7 +5,7 @@ use Rattle.fax_answer.specs.Replies.{ConfirmedPage}
 use Rattle.fax_call.specs.Writings.{Writing}
 use Rattle.fax_gateway.specs.Restored.{RestoredCall}
 use Rattle.fax_gateway.specs.Setups.{Setup}
-use Rattle.fax_gateway.specs.Events.{Event, Ring, FromCalling, FromCalled, Tick, clock}
+use Rattle.fax_gateway.specs.Events.{Event, Ring, FromCalling, FromCalled, Tick, Placed, clock}
 use Rattle.fax_gateway.specs.CallingLegs.{CallingLeg, calling_leg}
 use Rattle.fax_gateway.specs.Cuts.{confirmed_at}
 use Rattle.fax_gateway.specs.Lives.{Life}
@@ -66,6 +66,7 @@ on_event : (P : List Deed → Type 0) → P [] → ((given : Option (List ℕ)) 
 on_event P none puts setup trace before (Ring at number) = record { more = []; is = none; told = λ deeds same. same }
 on_event P none puts setup trace before (FromCalling octets at decided read) = record { more = []; is = none; told = λ deeds same. same }
 on_event P none puts setup trace before (FromCalled octets at decided) = record { more = []; is = none; told = λ deeds same. same }
+on_event P none puts setup trace before (Placed at connected) = record { more = []; is = none; told = λ deeds same. same }
 on_event P none puts setup trace before (Tick at given) =
     on_leg P puts (calling_leg setup trace) (clock (Tick at given ∷ trace)) given.on_calling given.report (told_in setup trace before)
 

@@ -5,7 +5,7 @@ use Rattle.fax_jobs.specs.Jobs.{JobValue}
 use Rattle.fax_call.specs.Writings.{Writing}
 use Rattle.fax_gateway.specs.Restored.{CallPage, RestoredCall, pages_restored}
 use Rattle.fax_gateway.specs.Setups.{Setup}
-use Rattle.fax_gateway.specs.Events.{Event, Ring, FromCalling, FromCalled, Tick, clock}
+use Rattle.fax_gateway.specs.Events.{Event, Ring, FromCalling, FromCalled, Tick, Placed, clock}
 use Rattle.fax_gateway.specs.CallingLegs.{CallingLeg, calling_leg}
 use Rattle.fax_gateway.specs.Cuts.{JobsAreCut, confirmed_at}
 use Rattle.fax_gateway.specs.Lives.{AreKept, AreSomeOf, Life, NoneIsLost, all_ended, pages_had, pages_left, pages_left_in, pages_of_jobs}
@@ -96,6 +96,7 @@ since_in setup [] before = (refl, refl)
 since_in setup (Ring at number ∷ earlier) before = since_in setup earlier before
 since_in setup (FromCalling octets at decided read ∷ earlier) before = since_in setup earlier before
 since_in setup (FromCalled octets at decided ∷ earlier) before = since_in setup earlier before
+since_in setup (Placed at connected ∷ earlier) before = since_in setup earlier before
 since_in setup (Tick at given ∷ earlier) before =
     let now : ℕ = clock (Tick at given ∷ earlier) in
     let leg : Option CallingLeg = calling_leg setup earlier in

@@ -14,7 +14,7 @@ use Rattle.fax_answer.specs.Table.{Reading}
 use Rattle.fax_call.specs.Writings.{Writing}
 use Rattle.fax_gateway.specs.Restored.{CallPage, RestoredCall, pages_restored, pages_with}
 use Rattle.fax_gateway.specs.Setups.{Setup}
-use Rattle.fax_gateway.specs.Events.{Event, Given, Ring, FromCalling, FromCalled, Tick, clock, rings}
+use Rattle.fax_gateway.specs.Events.{Event, Given, Ring, FromCalling, FromCalled, Tick, Placed, clock, rings}
 use Rattle.fax_gateway.specs.CallingLegs.{CallingLeg, calling_after, calling_leg, core_of, idle_after, is_idle, leg_ticked, leg_with}
 use Rattle.fax_gateway.specs.Cuts.{AreCutsOf, AreCutsOfRestored, IsBookOf, JobsAreCut, calls_of, confirmed_at, with_confirmed}
 use Rattle.fax_gateway.specs.Lives.{page_list, pages_at, pages_confirmed, pages_in, pages_left_in, pages_of_jobs}
@@ -126,6 +126,10 @@ passed_last : (setup : Setup) (now : ℕ) (octets : List ℕ) (at : ℕ) (decide
 passed_last setup now octets at decided None calls is = is
 passed_last setup now octets at decided (Some l) calls is = is
 
+placed_last : (setup : Setup) (now at : ℕ) (connected : Bool) (o : Option CallingLeg) (calls : List (List Confirmation)) → IsLast o calls → IsLast (calling_after setup o now (Placed at connected)) calls
+placed_last setup now at connected None calls is = is
+placed_last setup now at connected (Some l) calls is = is
+
 one_last : (l : CallingLeg) (o : Option ConfirmedPage) (calls : List (List Confirmation)) → IsLast (Some l) calls → IsLast (Some l) (with_confirmed o calls)
 one_last l None calls is = is
 one_last l (Some c) [] is = absurd is
@@ -174,6 +178,12 @@ calls_are setup writes (FromCalled octets at decided ∷ earlier) t =
       last = passed_last setup (clock (FromCalled octets at decided ∷ earlier)) octets at decided (calling_leg setup earlier) (calls_of setup earlier) was.last;
       many = was.many;
     }
+calls_are setup writes (Placed at connected ∷ earlier) t =
+    let was : CallsAre setup earlier = calls_are setup writes earlier t.1 in
+    record {
+      last = placed_last setup (clock (Placed at connected ∷ earlier)) at connected (calling_leg setup earlier) (calls_of setup earlier) was.last;
+      many = was.many;
+    }
 calls_are setup writes (Tick at given ∷ earlier) t =
     let was : CallsAre setup earlier = calls_are setup writes earlier t.1 in
     let now : ℕ = clock (Tick at given ∷ earlier) in
@@ -202,6 +212,7 @@ calls_told setup writes [] t = refl
 calls_told setup writes (Ring at number ∷ earlier) t = append-nil (in_calls (calls_of setup earlier)) ∙ calls_told setup writes earlier t.1
 calls_told setup writes (FromCalling octets at decided read ∷ earlier) t = calls_told setup writes earlier t.1
 calls_told setup writes (FromCalled octets at decided ∷ earlier) t = calls_told setup writes earlier t.1
+calls_told setup writes (Placed at connected ∷ earlier) t = calls_told setup writes earlier t.1
 calls_told setup writes (Tick at given ∷ earlier) t =
     let now : ℕ = clock (Tick at given ∷ earlier) in
     tick_told now (calling_leg setup earlier) (calls_of setup earlier) (calls_are setup writes earlier t.1).last

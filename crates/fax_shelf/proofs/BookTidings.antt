@@ -8,7 +8,7 @@ use Rattle.fax_answer.specs.Replies.{ConfirmedPage}
 use Rattle.fax_call.specs.Writings.{Writing}
 use Rattle.fax_gateway.specs.Restored.{CallPage, RestoredCall, pages_restored, pages_with}
 use Rattle.fax_gateway.specs.Setups.{Setup}
-use Rattle.fax_gateway.specs.Events.{Event, Ring, FromCalling, FromCalled, Tick, clock}
+use Rattle.fax_gateway.specs.Events.{Event, Ring, FromCalling, FromCalled, Tick, Placed, clock}
 use Rattle.fax_gateway.specs.CallingLegs.{CallingLeg, calling_leg}
 use Rattle.fax_gateway.specs.Cuts.{JobsAreCut, confirmed_at}
 use Rattle.fax_gateway.specs.Lives.{Life, page_list, pages_at, pages_confirmed, pages_in, pages_left_in, pages_of_jobs}
@@ -128,6 +128,7 @@ pages_in_life setup [] before = sym (append-nil (pages_restored setup.restored))
 pages_in_life setup (Ring at number ∷ earlier) before = pages_in_life setup earlier before
 pages_in_life setup (FromCalling octets at decided read ∷ earlier) before = pages_in_life setup earlier before
 pages_in_life setup (FromCalled octets at decided ∷ earlier) before = pages_in_life setup earlier before
+pages_in_life setup (Placed at connected ∷ earlier) before = pages_in_life setup earlier before
 pages_in_life setup (Tick at given ∷ earlier) before =
     let now : ℕ = clock (Tick at given ∷ earlier) in
     let leg : Option CallingLeg = calling_leg setup earlier in
@@ -153,6 +154,7 @@ counts_in_life setup [] before = refl
 counts_in_life setup (Ring at number ∷ earlier) before = counts_in_life setup earlier before
 counts_in_life setup (FromCalling octets at decided read ∷ earlier) before = counts_in_life setup earlier before
 counts_in_life setup (FromCalled octets at decided ∷ earlier) before = counts_in_life setup earlier before
+counts_in_life setup (Placed at connected ∷ earlier) before = counts_in_life setup earlier before
 counts_in_life setup (Tick at given ∷ earlier) before =
     let now : ℕ = clock (Tick at given ∷ earlier) in
     let leg : Option CallingLeg = calling_leg setup earlier in
@@ -209,6 +211,7 @@ sound_in_life cut states setup writes [] before t are = are
 sound_in_life cut states setup writes (Ring at number ∷ earlier) before t are = sound_in_life cut states setup writes earlier before t.1 are
 sound_in_life cut states setup writes (FromCalling octets at decided read ∷ earlier) before t are = sound_in_life cut states setup writes earlier before t.1 are
 sound_in_life cut states setup writes (FromCalled octets at decided ∷ earlier) before t are = sound_in_life cut states setup writes earlier before t.1 are
+sound_in_life cut states setup writes (Placed at connected ∷ earlier) before t are = sound_in_life cut states setup writes earlier before t.1 are
 sound_in_life cut states setup writes (Tick at given ∷ earlier) before t are =
     let now : ℕ = clock (Tick at given ∷ earlier) in
     let leg : Option CallingLeg = calling_leg setup earlier in

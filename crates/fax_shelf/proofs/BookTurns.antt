@@ -19,7 +19,7 @@ use Rattle.fax_gateway.specs.declared.side.Side.{Side}
 use Rattle.fax_gateway.specs.declared.side.Side.TheVariants as side
 use Rattle.fax_gateway.specs.declared.given.Kept.{Kept}
 use Rattle.fax_gateway.specs.Setups.{Setup}
-use Rattle.fax_gateway.specs.Events.{Event, Given, Ring, FromCalling, FromCalled, Tick, clock}
+use Rattle.fax_gateway.specs.Events.{Event, Given, Ring, FromCalling, FromCalled, Tick, Placed, clock}
 use Rattle.fax_gateway.specs.CallingLegs.{CallingLeg, calling_leg}
 use Rattle.fax_gateway.specs.Cuts.{confirmed_at}
 use Rattle.fax_gateway.specs.Newest.{ConfirmsTheNewest}
@@ -67,6 +67,7 @@ comes_quiet setup at now (Accepts (Ring moment number)) older trace h s = absurd
 comes_quiet setup at now (Accepts (FromCalling octets moment decided read)) older trace h s = record { reports = s.reports; pages = s.pages; told = s.told; legs = s.legs }
 comes_quiet setup at now (Accepts (FromCalled octets moment decided)) older trace h s = record { reports = s.reports; pages = s.pages; told = s.told; legs = s.legs }
 comes_quiet setup at now (Accepts (Tick moment given)) older trace h s = absurd h
+comes_quiet setup at now (Accepts (Placed moment connected)) older trace h s = absurd h
 comes_quiet setup at now (RefusesRing fault) older trace h s = absurd h
 comes_quiet setup at now (RefusesDatagram on octets) older trace h s = s
 comes_quiet setup at now (RefusesTick moment) older trace h s = absurd h

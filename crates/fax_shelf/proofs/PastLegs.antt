@@ -7,10 +7,10 @@ use Rattle.fax_gateway.specs.declared.given.Kept.{Kept}
 use Rattle.fax_gateway.specs.declared.side.Side.TheVariants as side
 use Rattle.fax_gateway.specs.Restored.{CallPage}
 use Rattle.fax_gateway.specs.Setups.{Setup}
-use Rattle.fax_gateway.specs.Events.{Event, Ring}
+use Rattle.fax_gateway.specs.Events.{Event, Placed, Ring}
 use Rattle.fax_hold.specs.Holding.{CeasesWhere, HoldingValue, StaysWhere}
 use Rattle.fax_hold.specs.Keeping.{Begins, Deed, HasDone, HasDoneWhere, HoldsBehindWhere, Turn, went_out}
-use Rattle.fax_hold.proofs.Held.{begins_where, done_where_still, mute_until, no_turn_where}
+use Rattle.fax_hold.proofs.Held.{begins_where, ceases_beside, done_where_still, mute_until, no_turn_where}
 use Rattle.fax_line.specs.Actions.{LineValue}
 use Rattle.fax_line.specs.KeptRuns.{kept_if}
 use Rattle.fax_line.specs.Places.{PlaceValue}
@@ -60,6 +60,13 @@ leg_rung setup trace now number old new kept ceases was = record {
   did = begins_on was.deeds old new ceases was.did;
   on_leg = (was.deeds, refl, was.on_leg);
 }
+
+-- a call that is placed on the called leg is none of the calling one
+pub leg_placed : (setup : Setup) (trace : List Event) (now : ℕ) (connected : Bool) (old new : Option HoldingValue) (kept : List CallPage) → CeasesWhere side.Called old new → Leg setup trace old kept
+    → Leg setup (Placed now connected ∷ trace) new kept
+leg_placed setup trace now connected old new kept ceases was =
+    let still = leg_still setup trace old new kept (ceases_beside old new ceases) was in
+    record { deeds = still.deeds; did = still.did; on_leg = still.on_leg }
 
 -- ---- the end of a turn
 

@@ -1,25 +1,30 @@
 -- A run makes history: what becomes of a line and its past, order by order.
-use Rattle.std.proofs.Common.{◌≡◌, ◌≢◌, ◌∙◌, ℕ, zero, suc, max, ◌<◌, ◌≤◌, inl, inr, Bool, true, false, ◌&&◌, ◌||◌, nat_eq, if◌then◌else◌, List, [], ◌∷◌, ◌++◌, length, All, AllPairs, Option, Some, None, is_ok, slice_get, slice_index_or, arith, refl, sym, ap, subst, append_assoc, append-nil}
+use Rattle.std.proofs.Common.{◌≡◌, ◌≢◌, ◌∙◌, ℕ, zero, suc, max, ◌<◌, ◌≤◌, inl, inr, Bool, true, false, ◌&&◌, ◌||◌, nat_eq, if◌then◌else◌, List, [], ◌∷◌, ◌++◌, length, All, AllPairs, Option, Some, None, Result, Ok, Err, is_ok, slice_get, slice_index_or, arith, refl, sym, ap, subst, append_assoc, append-nil}
 use Rattle.std.proofs.lemmas.Bool.{eqb-true}
 use Rattle.fax_pagestore.specs.PageLaws.{PagesAreUnique, PagesAreWritten, WrittenPagesMean}
 use Rattle.fax_jobs.specs.declared.report.Report.{Report}
 use Rattle.fax_call.specs.Writings.{IsWriting, Writing}
+use Rattle.fax_gateway.specs.declared.fault.PlaceFault.{PlaceFault}
+use Rattle.fax_gateway.specs.declared.fault.RingFault.{RingFault}
 use Rattle.fax_gateway.specs.declared.given.Kept.{Kept}
 use Rattle.fax_gateway.specs.declared.turned.Turned.{Turned as Told}
 use Rattle.fax_gateway.specs.Newest.{ConfirmsTheNewest}
 use Rattle.fax_gateway.specs.Origins.{JobsAreOfTheirCalls}
 use Rattle.fax_gateway.specs.Restored.{CallPage, RestoredCall}
 use Rattle.fax_gateway.specs.Setups.{Setup}
-use Rattle.fax_gateway.specs.Events.{Event, Ring}
+use Rattle.fax_gateway.specs.Events.{Event, Placed, Ring}
 use Rattle.fax_gateway.specs.Reached.{GatewayValue, IsReachedBy}
 use Rattle.fax_gateway.specs.Driving.{Accepts, DriverValue, Entry, HasMade, RefusesRing, events}
-use Rattle.fax_gateway.specs.declared.side.Side.TheVariants as side
-use Rattle.fax_hold.specs.Holding.{CeasesWhere, HoldingValue, StaysWhere}
+use Rattle.fax_hold.specs.Holding.{HoldingValue, StaysWhere}
 use Rattle.fax_hold.specs.Keeping.{HoldsByLog, PutsIf, handed_by}
-use Rattle.fax_line.specs.Actions.{Action, Goes, IsRung, LineValue, Rests, Rings, TellsTurn, Turns, Wakes}
-use Rattle.fax_line.specs.Deeds.{AllStayHeld, IsFreed, RingFrees, RingsLine, SlotTells, TellsInSlot, TurnsSlot, WakesLine, Went, actions_of, slot_of}
+use Rattle.fax_line.specs.declared.asked.Answered.{Answered}
+use Rattle.fax_line.specs.declared.asked.Answered.TheVariants as answered
+use Rattle.fax_line.specs.declared.asked.Asked.{Asked}
+use Rattle.fax_line.specs.declared.asked.Asked.TheVariants as asked
+use Rattle.fax_line.specs.Actions.{Action, Asks, Frees, Goes, IsAsked, IsPlaced, IsRung, LineValue, Rests, TellsTurn, Turns, Wakes, side_begun}
+use Rattle.fax_line.specs.Deeds.{AllStayHeld, AskFrees, AsksLine, IsFreed, SlotTells, TellsInSlot, TurnsSlot, WakesLine, Went, actions_of, slot_of}
 use Rattle.fax_line.specs.Places.{PlaceValue, StaysHeld, TellsOrRests}
-use Rattle.fax_line.specs.Runs.{Done, Rung, Turned, Woken, call_if, latest, next_slot}
+use Rattle.fax_line.specs.Runs.{AskedOf, Done, Turned, Woken, latest, next_slot}
 use Rattle.fax_line.specs.KeptRuns.{EndsIf, IsSettled, NotesIf, Ran, TellsFirst, TellsPlace, TellsWhere, kept_if, kept_pages}
 use Rattle.fax_line.specs.Settling.{EndsTurn, EndsWhere, IsOfTurn, IsPageOf, has_page, is_kept_in, was_turned}
 use Rattle.fax_line.specs.declared.settling.PageToKeep.{PageToKeep}
@@ -39,7 +44,7 @@ use Rattle.fax_shelf.specs.SpoolKeeping.{EndsJobIf, IsUnchanged, NotesPage, Puts
 use Rattle.fax_shelf.specs.Histories.{AreKeptOf, HasPast, RunsMakeHistory}
 use Rattle.fax_shelf.specs.OnLeg.{AreOnLeg, HasDoneOn}
 use Rattle.fax_shelf.proofs.BookTurns.{deed_of_turn, turn_has_page}
-use Rattle.fax_shelf.proofs.PastLegs.{Leg, kept_once, leg_ended, leg_fresh, leg_rung, leg_still}
+use Rattle.fax_shelf.proofs.PastLegs.{Leg, kept_once, leg_ended, leg_fresh, leg_placed, leg_rung, leg_still}
 use Rattle.fax_shelf.proofs.Lives.{restarts_are_deeds}
 use Rattle.fax_shelf.proofs.Pasts.{PastAs, wait_map}
 use Rattle.fax_shelf.proofs.PastPuts.{AreOtherNames, HasPage, IsConfirmed, kept_of_none, line_at, own_err, own_ok, puts_others, puts_stay}
@@ -62,20 +67,15 @@ abbrev AreQuiet : List Action → Type 0
 AreQuiet [] = Unit {0}
 AreQuiet (Turns now ∷ actions) = ⊥
 AreQuiet (Rests now ∷ actions) = AreQuiet actions
-AreQuiet (Rings now call ∷ actions) = AreQuiet actions
+AreQuiet (Asks now what answer ∷ actions) = AreQuiet actions
 AreQuiet (Wakes ∷ actions) = AreQuiet actions
 
 -- what they make of what the line's wire holds back
 abbrev HeldBy : Action → Option HoldingValue → Option HoldingValue → Type 0
 HeldBy (Turns now) old new = StaysWhere old new
 HeldBy (Rests now) old new = StaysWhere old new
-HeldBy (Rings now None) old new = StaysWhere old new
-HeldBy (Rings now (Some number)) old new = CeasesWhere side.Calling old new
+HeldBy (Asks now what answer) old new = Frees (side_begun answer) old new
 HeldBy Wakes old new = StaysWhere old new
-
-held_by_ring : (now : ℕ) (call : Option ℕ) (old new : PlaceValue) → IsFreed true call old new → HeldBy (Rings now call) old.line.holding new.line.holding
-held_by_ring now None old new freed = freed
-held_by_ring now (Some number) old new freed = freed
 
 module _ (setup : Setup) (writes : Writing) (before : List Tiding) where
   told_none : (log : List Entry) (trace : List Event) → log ≡ [] → told_in setup (events log ++ trace) before ≡ told_in setup trace before
@@ -84,25 +84,43 @@ module _ (setup : Setup) (writes : Writing) (before : List Tiding) where
   both_none : (newer older log : List Entry) → log ≡ newer ++ older → newer ≡ [] → older ≡ [] → log ≡ []
   both_none newer older log is first second = is ∙ ap (λ (l : List Entry). l ++ older) first ∙ second
 
-  -- of a ring alone nothing is told
-  told_rung : (now : ℕ) (call : Option ℕ) (newer older log : List Entry) (trace : List Event) → log ≡ newer ++ older → IsRung now call newer → older ≡ [] → told_in setup (events log ++ trace) before ≡ told_in setup trace before
-  told_rung now (Some number) newer older log trace is rung none =
-      ap (λ (l : List Entry). told_in setup (events l ++ trace) before) (is ∙ ap (λ (l : List Entry). l ++ older) rung ∙ ap (λ (l : List Entry). Accepts (Ring now number) ∷ l) none)
-  told_rung now None newer older log trace is rung none =
-      ap (λ (l : List Entry). told_in setup (events l ++ trace) before) (is ∙ ap (λ (l : List Entry). l ++ older) rung.1 ∙ ap (λ (l : List Entry). RefusesRing rung.0 ∷ l) none)
-
   -- where no event came
   leg_quiet : (log : List Entry) (trace : List Event) (p : List CallPage) (old new : Option HoldingValue) → log ≡ [] → StaysWhere old new → Leg setup trace old p → Leg setup (events log ++ trace) new p
   leg_quiet log trace p old new none stays leg = subst (λ (l : List Entry). Leg setup (events l ++ trace) new p) (sym none) (leg_still setup trace old new p stays leg)
 
-  leg_by_ring : (now : ℕ) (call : Option ℕ) (newer older log : List Entry) (trace : List Event) (p : List CallPage) (old new : Option HoldingValue) → log ≡ newer ++ older → IsRung now call newer → older ≡ []
-      → HeldBy (Rings now call) old new → Leg setup trace old p → Leg setup (events log ++ trace) new p
-  leg_by_ring now (Some number) newer older log trace p old new is rung none held leg =
-      subst (λ (l : List Entry). Leg setup (events l ++ trace) new p)
-      (sym (is ∙ ap (λ (l : List Entry). l ++ older) rung ∙ ap (λ (l : List Entry). Accepts (Ring now number) ∷ l) none)) (leg_rung setup trace now number old new p held leg)
-  leg_by_ring now None newer older log trace p old new is rung none held leg =
-      subst (λ (l : List Entry). Leg setup (events l ++ trace) new p)
-      (sym (is ∙ ap (λ (l : List Entry). l ++ older) rung.1 ∙ ap (λ (l : List Entry). RefusesRing rung.0 ∷ l) none)) (leg_still setup trace old new p held leg)
+  -- Where this is all that came, nothing is told, and what the wire did is of the trace still.
+  IsInert : List Entry → List Event → List CallPage → Option HoldingValue → Type 0
+  IsInert log trace p new = (told_in setup (events log ++ trace) before ≡ told_in setup trace before) × Leg setup (events log ++ trace) new p
+
+  inert_by : (log is : List Entry) (trace : List Event) (p : List CallPage) (new : Option HoldingValue) → log ≡ is → IsInert is trace p new → IsInert log trace p new
+  inert_by log is trace p new same inert = subst (λ (l : List Entry). IsInert l trace p new) (sym same) inert
+
+  ring_is_inert : (now : ℕ) (result : Result ℕ RingFault) (log : List Entry) (trace : List Event) (p : List CallPage) (old new : Option HoldingValue) → IsRung now result log
+      → Frees (side_begun (Some (answered.Rung result))) old new → Leg setup trace old p → IsInert log trace p new
+  ring_is_inert now (Ok number) log trace p old new is frees leg = inert_by log (Accepts (Ring now number) ∷ []) trace p new is (refl, leg_rung setup trace now number old new p frees leg)
+  ring_is_inert now (Err fault) log trace p old new is frees leg = inert_by log (RefusesRing fault ∷ []) trace p new is (refl, leg_still setup trace old new p frees leg)
+
+  place_is_inert : (behind : List Event) (now : ℕ) (connected : Bool) (result : Result (Unit {0}) PlaceFault) (log : List Entry) (trace : List Event) (p : List CallPage) (old new : Option HoldingValue)
+      → IsPlaced setup writes behind now connected result log → Frees (side_begun (Some (answered.Placed result))) old new → Leg setup trace old p → IsInert log trace p new
+  place_is_inert behind now connected (Ok done) log trace p old new is frees leg =
+      inert_by log (Accepts (Placed now connected) ∷ []) trace p new is (refl, leg_placed setup trace now connected old new p frees leg)
+  place_is_inert behind now connected (Err fault) log trace p old new is frees leg = inert_by log [] trace p new is.0 (refl, leg_still setup trace old new p frees leg)
+
+  -- so it is of what is asked of a line alone
+  ask_is_inert : (behind : List Event) (now : ℕ) (what : Asked) (answer : Option Answered) (log : List Entry) (trace : List Event) (p : List CallPage) (old new : Option HoldingValue)
+      → IsAsked setup writes behind now what answer log → Frees (side_begun answer) old new → Leg setup trace old p → IsInert log trace p new
+  ask_is_inert behind now asked.Ring (Some (answered.Rung result)) log trace p old new is frees leg = ring_is_inert now result log trace p old new is frees leg
+  ask_is_inert behind now asked.Ring (Some (answered.Placed result)) log trace p old new is frees leg = absurd is
+  ask_is_inert behind now asked.Connect (Some (answered.Rung result)) log trace p old new is frees leg = absurd is
+  ask_is_inert behind now asked.Connect (Some (answered.Placed result)) log trace p old new is frees leg = place_is_inert behind now true result log trace p old new is frees leg
+  ask_is_inert behind now asked.NotConnected (Some (answered.Rung result)) log trace p old new is frees leg = absurd is
+  ask_is_inert behind now asked.NotConnected (Some (answered.Placed result)) log trace p old new is frees leg = place_is_inert behind now false result log trace p old new is frees leg
+  ask_is_inert behind now asked.Ring None log trace p old new is frees leg = absurd is
+  ask_is_inert behind now asked.Connect None log trace p old new is frees leg = absurd is
+  ask_is_inert behind now asked.NotConnected None log trace p old new is frees leg = absurd is
+
+  one_part : (newer older log : List Entry) → log ≡ newer ++ older → older ≡ [] → log ≡ newer
+  one_part newer older log is none = is ∙ ap (λ (l : List Entry). newer ++ l) none ∙ append-nil newer
 
   goes_with : (t : List Tiding) (p : List CallPage) (old new : LineValue) (action : Action) → AreQuiet (action ∷ []) → IsWriting writes → Goes (action ∷ []) old new → HeldBy action old.holding new.holding → Reaches setup writes before t p old
       → Reaches setup writes before t p new
@@ -117,15 +135,17 @@ module _ (setup : Setup) (writes : Writing) (before : List Tiding) where
         told = told_none it.0 was.trace (both_none it.1.0 it.1.1 it.0 it.1.2 it.1.3.0 it.1.4) ∙ was.told;
         leg = leg_quiet it.0 was.trace p old.holding new.holding (both_none it.1.0 it.1.1 it.0 it.1.2 it.1.3.0 it.1.4) stays was.leg;
       }
-  goes_with t p old new (Rings now call) quiet writing goes freed was =
+  goes_with t p old new (Asks now what answer) quiet writing goes frees was =
       let it = goes.goes setup writes was.trace was.made writing was.reached was.driven in
+      let inert = inert_by it.0 it.1.0 was.trace p new.holding (one_part it.1.0 it.1.1 it.0 it.1.2 it.1.4)
+      (ask_is_inert (events it.1.1 ++ was.trace) now what answer it.1.0 was.trace p old.holding new.holding it.1.3 frees was.leg) in
       record {
         trace = events it.0 ++ was.trace;
         made = it.0 ++ was.made;
         reached = it.2.reached;
         driven = it.3;
-        told = told_rung now call it.1.0 it.1.1 it.0 was.trace it.1.2 it.1.3 it.1.4 ∙ was.told;
-        leg = leg_by_ring now call it.1.0 it.1.1 it.0 was.trace p old.holding new.holding it.1.2 it.1.3 it.1.4 freed was.leg;
+        told = inert.0 ∙ was.told;
+        leg = inert.1;
       }
   goes_with t p old new Wakes quiet writing goes stays was =
       let it = goes.goes setup writes was.trace was.made writing was.reached was.driven in
@@ -629,8 +649,9 @@ module _
             let turns : TellsOrRests now false old new = told_so true false is rest in
             turns_on q ends slot now end was.tidings was.puts was.on_leg mid turned lines k l many (ap (λ (c : Bool). c && new.turned) is ∙ turns.0) turns.1 settled was.are_put was.are_on_leg was.reaches was.held
 
-    ring_on : (q : List CallPage) (ends : List SlotEnd) (rung now : ℕ) (call : Option ℕ) (mid lines : List PlaceValue) (k : K) → Went (RingsLine rung now call ∷ []) mid lines → RingFrees rung call mid lines → Stands q ends mid k → Stands q ends lines k
-    ring_on q ends rung now call mid lines k went frees was = record { many = went.as_many ∙ was.many; tidings = was.tidings; puts = was.puts; are_put = was.are_put; on_leg = was.on_leg; are_on_leg = was.are_on_leg; reaches = by (nat_eq number rung) refl; held = was.held }
+    ask_on : (q : List CallPage) (ends : List SlotEnd) (of now : ℕ) (what : Asked) (answer : Option Answered) (mid lines : List PlaceValue) (k : K) → Went (AsksLine of now what answer ∷ []) mid lines → AskFrees of answer mid lines → Stands q ends mid k
+        → Stands q ends lines k
+    ask_on q ends of now what answer mid lines k went frees was = record { many = went.as_many ∙ was.many; tidings = was.tidings; puts = was.puts; are_put = was.are_put; on_leg = was.on_leg; are_on_leg = was.are_on_leg; reaches = by (nat_eq number of) refl; held = was.held }
       where
         old : PlaceValue
         old = slice_index_or mid number other
@@ -638,19 +659,19 @@ module _
         new : PlaceValue
         new = slice_index_or lines number other
 
-        goes : Goes (actions_of number (RingsLine rung now call ∷ [])) old.line new.line
+        goes : Goes (actions_of number (AsksLine of now what answer ∷ [])) old.line new.line
         goes = (went.each number other (low_in mid was.many)).goes
 
-        freed : IsFreed (nat_eq number rung) call old new
+        freed : IsFreed (nat_eq number of) answer old new
         freed = frees.each number other (low_in mid was.many)
 
-        by : (b : Bool) → nat_eq number rung ≡ b → Reaches setup writes before was.tidings was.on_leg new.line
+        by : (b : Bool) → nat_eq number of ≡ b → Reaches setup writes before was.tidings was.on_leg new.line
         by true is =
-            goes_with setup writes before was.tidings was.on_leg old.line new.line (Rings now call) tt writing (subst (λ (c : Bool). Goes (if c then Rings now call ∷ [] else []) old.line new.line) is goes)
-            (held_by_ring now call old new (subst (λ (c : Bool). IsFreed c call old new) is freed)) was.reaches
+            goes_with setup writes before was.tidings was.on_leg old.line new.line (Asks now what answer) tt writing (subst (λ (c : Bool). Goes (if c then Asks now what answer ∷ [] else []) old.line new.line) is goes)
+            (subst (λ (c : Bool). IsFreed c answer old new) is freed) was.reaches
         by false is =
-            goes_still setup writes before was.tidings was.on_leg old.line new.line writing (subst (λ (c : Bool). Goes (if c then Rings now call ∷ [] else []) old.line new.line) is goes)
-            (subst (λ (c : Bool). IsFreed c call old new) is freed) was.reaches
+            goes_still setup writes before was.tidings was.on_leg old.line new.line writing (subst (λ (c : Bool). Goes (if c then Asks now what answer ∷ [] else []) old.line new.line) is goes)
+            (subst (λ (c : Bool). IsFreed c answer old new) is freed) was.reaches
 
     wake_on : (q : List CallPage) (ends : List SlotEnd) (woken : ℕ) (mid lines : List PlaceValue) (k : K) → Went (WakesLine woken ∷ []) mid lines → AllStayHeld mid lines → Stands q ends mid k → Stands q ends lines k
     wake_on q ends woken mid lines k went stays was = record { many = went.as_many ∙ was.many; tidings = was.tidings; puts = was.puts; are_put = was.are_put; on_leg = was.on_leg; are_on_leg = was.are_on_leg; reaches = by (nat_eq number woken) refl; held = was.held }
@@ -677,8 +698,8 @@ module _
     run_on q first (Turned now rests ∷ done) [] begun left k l ran was = absurd ran
     run_on q first (Turned now rests ∷ done) (end ∷ settled) begun left k l ran was =
         turn_on q settled (next_slot first done) (max (latest done) now) rests end ran.0 ran.1 left ran.2 l ran.4 ran.5 ran.6 (run_on q first done settled begun ran.0 k ran.2 ran.3 was)
-    run_on q first (Rung rung now answer ∷ done) settled begun left k l ran was =
-        ring_on q settled rung (max (latest done) now) (call_if answer) ran.0 left l ran.2 ran.3 (run_on q first done settled begun ran.0 k l ran.1 was)
+    run_on q first (AskedOf line now what answer ∷ done) settled begun left k l ran was =
+        ask_on q settled line (max (latest done) now) what answer ran.0 left l ran.2 ran.3 (run_on q first done settled begun ran.0 k l ran.1 was)
     run_on q first (Woken woken ∷ done) settled begun left k l ran was = wake_on q settled woken ran.0 left l ran.2 ran.3 (run_on q first done settled begun ran.0 k l ran.1 was)
 
 -- ---- a run makes history

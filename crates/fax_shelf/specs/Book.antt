@@ -7,7 +7,7 @@ use Rattle.fax_answer.specs.Replies.{ConfirmedPage}
 use Rattle.fax_call.specs.Writings.{Writing}
 use Rattle.fax_gateway.specs.Restored.{CallPage, RestoredCall}
 use Rattle.fax_gateway.specs.Setups.{Setup}
-use Rattle.fax_gateway.specs.Events.{Event, Ring, FromCalling, FromCalled, Tick, clock}
+use Rattle.fax_gateway.specs.Events.{Event, Ring, FromCalling, FromCalled, Tick, Placed, clock}
 use Rattle.fax_gateway.specs.CallingLegs.{CallingLeg, calling_leg}
 use Rattle.fax_gateway.specs.Cuts.{confirmed_at}
 use Rattle.fax_gateway.specs.Sides.{book_of, past_of, sides}
@@ -66,6 +66,7 @@ told_in setup (FromCalling octets at decided read ∷ earlier) before = told_in 
 told_in setup (FromCalled octets at decided ∷ earlier) before = told_in setup earlier before
 told_in setup (Tick at given ∷ earlier) before =
     reports given.report (confirms_on (calling_leg setup earlier) (clock (Tick at given ∷ earlier)) given.on_calling (told_in setup earlier before))
+told_in setup (Placed at connected ∷ earlier) before = told_in setup earlier before
 
 abbrev pub told_over : List Life → List Tiding
 told_over [] = []

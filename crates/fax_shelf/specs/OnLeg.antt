@@ -4,7 +4,7 @@ use Rattle.std.specs.Prelude.{◌≡◌, ◌⊎◌, ℕ, Bool, true, false, List
 use Rattle.fax_answer.specs.Replies.{ConfirmedPage}
 use Rattle.fax_gateway.specs.Restored.{CallPage}
 use Rattle.fax_gateway.specs.Setups.{Setup}
-use Rattle.fax_gateway.specs.Events.{Event, Given, Ring, FromCalling, FromCalled, Tick, clock}
+use Rattle.fax_gateway.specs.Events.{Event, Given, Ring, FromCalling, FromCalled, Tick, Placed, clock}
 use Rattle.fax_gateway.specs.CallingLegs.{CallingLeg, calling_leg}
 use Rattle.fax_gateway.specs.Cuts.{confirmed_at}
 use Rattle.fax_hold.specs.Holding.{HoldingValue}
@@ -39,7 +39,7 @@ IsTurnOnLeg rest gave (Some page) deeds kept =
 
 -- THE DEEDS OF A WIRE ARE THOSE OF THIS TRACE: each tick is a turn, which hands over what the tick gave on the calling leg, and confirms a
 -- page where the tick does, which is kept where it was put with an Ok; these are the pages that were. Each ring begins a call. Nothing
--- else is done.
+-- else is done: a call that is placed is one of the called leg.
 abbrev pub AreOnLeg : Setup → List Deed → List Event → List CallPage → Type 0
 AreOnLeg setup deeds [] kept = (deeds ≡ []) × (kept ≡ [])
 AreOnLeg setup deeds (Ring at number ∷ earlier) kept = (before : List Deed) × (deeds ≡ Begins ∷ before) × AreOnLeg setup before earlier kept
@@ -47,6 +47,7 @@ AreOnLeg setup deeds (FromCalling octets at decided read ∷ earlier) kept = Are
 AreOnLeg setup deeds (FromCalled octets at decided ∷ earlier) kept = AreOnLeg setup deeds earlier kept
 AreOnLeg setup deeds (Tick at given ∷ earlier) kept =
     IsTurnOnLeg (λ before pages. AreOnLeg setup before earlier pages) given.on_calling (page_at (calling_leg setup earlier) (clock (Tick at given ∷ earlier))) deeds kept
+AreOnLeg setup deeds (Placed at connected ∷ earlier) kept = AreOnLeg setup deeds earlier kept
 
 -- WHERE A PAGE WAS NOT PUT WITH AN OK, NOTHING GOES OUT in the tick that confirms it: by the deeds of a wire that are those of a trace.
 abbrev pub UnputPagesLetNothingOut : Type 0

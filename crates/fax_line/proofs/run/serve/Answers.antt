@@ -4,12 +4,12 @@ use Rattle.fax_gateway.proofs.DrivingLemmas.{grows_more, grows_none}
 use Rattle.fax_line.specs.declared.order.Order.{Order}
 use Rattle.fax_line.specs.Deeds.{SlotTells, TurnsSlot, Went, rests_at, slot_before}
 use Rattle.fax_line.specs.KeptRuns.{IsSettledIf}
-use Rattle.fax_line.specs.Runs.{Done, Rung, Turned, Woken, call_if, words_of}
+use Rattle.fax_line.specs.Runs.{AskedOf, Done, Turned, Woken, words_of}
 use Rattle.fax_line.specs.Words.{Asks}
-use Rattle.fax_line.proofs.KeptRunning.{of_turn, ran_is, ran_none, ran_rung, ran_turned, ran_woken, slot_back, went_ring}
-use Rattle.fax_line.proofs.Running.{no_order, rising, run_is, rung_on, settled_on, turned_on, went_none, woken_on}
+use Rattle.fax_line.proofs.KeptRunning.{of_turn, ran_asked, ran_is, ran_none, ran_turned, ran_woken, slot_back, went_asked}
+use Rattle.fax_line.proofs.Running.{asked_on, no_order, rising, run_is, settled_on, turned_on, went_none, woken_on}
 use Rattle.fax_line.proofs.run.serve.Goals as goal
-use Rattle.fax_line.proofs.run.serve.Goals.{in-Turn, in-Ring, in-Wake}
+use Rattle.fax_line.proofs.run.serve.Goals.{in-Turn, in-Ask, in-Wake}
 
 pub loop-init : goal.loop-init
 loop-init g c = (
@@ -70,19 +70,20 @@ loop-preserved g c =
             ran_is K same puts notes ends first (d ∷ done) olds w.settle.new.lines c.match-order.lines kept w.settle.new.keeper c.match-order.keeper w.lines-is w.keeper-is
                 (ran_turned K same puts notes ends first w.in-Turn.now rests done olds c.loop.lines.lines w.turn.new.self.lines w.settle.new.lines.lines kept c.loop.keeper w.settle.new.keeper ran went tells settled),
           )
-      | in-Ring w ↦
-          let asked = subst (λ (o : Option Order). Grows (Asks o ∷ []) now_told asked_of) (c.in-Some.is ∙ ap (λ (o : Order). Some o) w.in-Ring.is) c.next.ensures in
-          let told = g.P.Pace.words w.rung.new.self in
-          let answer = w.ring-answer.result in
-          let d : Done = Rung w.in-Ring.line w.in-Ring.now answer in
-          let more = rung_on first w.in-Ring.line w.in-Ring.now c.loop.latest w.max-latest-in-Ring.result c.loop.counter c.loop.lines.slot w.ring-answer.new.self.slot answer done olds c.loop.lines.lines w.ring-answer.new.self.lines
-          before now_told asked_of told run w.max-latest-in-Ring.ensures w.ring-answer.ensures.went w.ring-answer.ensures.slot asked w.rung.ensures in
-          let went = went_ring w.in-Ring.now c.loop.latest w.max-latest-in-Ring.result w.in-Ring.line (call_if answer) done c.loop.lines.lines w.ring-answer.new.self.lines run.moment_is w.max-latest-in-Ring.ensures w.ring-answer.ensures.went in (
+      | in-Ask w ↦
+          let asked = subst (λ (o : Option Order). Grows (Asks o ∷ []) now_told asked_of) (c.in-Some.is ∙ ap (λ (o : Order). Some o) w.in-Ask.is) c.next.ensures in
+          let told = g.P.Pace.words w.done.new.self in
+          let what = w.in-Ask.what in
+          let answer = w.ask-answer.result in
+          let d : Done = AskedOf w.in-Ask.line w.in-Ask.now what answer in
+          let more = asked_on first w.in-Ask.line w.in-Ask.now c.loop.latest w.max-latest-in-Ask.result c.loop.counter c.loop.lines.slot w.ask-answer.new.self.slot what answer done olds c.loop.lines.lines w.ask-answer.new.self.lines
+          before now_told asked_of told run w.max-latest-in-Ask.ensures w.ask-answer.ensures.went w.ask-answer.ensures.slot asked w.done.ensures in
+          let went = went_asked w.in-Ask.now c.loop.latest w.max-latest-in-Ask.result w.in-Ask.line what answer done c.loop.lines.lines w.ask-answer.new.self.lines run.moment_is w.max-latest-in-Ask.ensures w.ask-answer.ensures.went in (
             d ∷ done,
-            run_is first (c.loop.counter + 1) (d ∷ done) olds before w.max-latest-in-Ring.result c.match-order.latest w.ring-answer.new.self c.match-order.lines told (g.P.Pace.words c.match-order.pace)
+            run_is first (c.loop.counter + 1) (d ∷ done) olds before w.max-latest-in-Ask.result c.match-order.latest w.ask-answer.new.self c.match-order.lines told (g.P.Pace.words c.match-order.pace)
                 w.latest-is w.lines-is (ap g.P.Pace.words w.pace-is) more,
-            ran_is K same puts notes ends first (d ∷ done) olds w.ring-answer.new.self c.match-order.lines kept c.loop.keeper c.match-order.keeper w.lines-is w.keeper-is
-                (ran_rung K same puts notes ends first w.in-Ring.line w.in-Ring.now answer done olds c.loop.lines.lines w.ring-answer.new.self.lines kept c.loop.keeper ran went w.ring-answer.ensures.frees),
+            ran_is K same puts notes ends first (d ∷ done) olds w.ask-answer.new.self c.match-order.lines kept c.loop.keeper c.match-order.keeper w.lines-is w.keeper-is
+                (ran_asked K same puts notes ends first w.in-Ask.line w.in-Ask.now what answer done olds c.loop.lines.lines w.ask-answer.new.self.lines kept c.loop.keeper ran went w.ask-answer.ensures.frees),
           )
       | in-Wake w ↦
           let asked = subst (λ (o : Option Order). Grows (Asks o ∷ []) now_told asked_of) (c.in-Some.is ∙ ap (λ (o : Order). Some o) w.in-Wake.is) c.next.ensures in

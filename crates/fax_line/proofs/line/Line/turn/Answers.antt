@@ -5,6 +5,7 @@ use Rattle.fax_gateway.specs.Setups.{Setup}
 use Rattle.fax_gateway.specs.Reached.{IsReachedBy}
 use Rattle.fax_gateway.specs.Driving.{Entry, HasMade}
 use Rattle.fax_gateway.proofs.DrivingLemmas.{wire_shown}
+use Rattle.fax_repeat.specs.Policies.{due_of}
 use Rattle.fax_hold.specs.Holding.{SendsWhere, StaysWhere}
 use Rattle.fax_hold.proofs.Held.{held_later, logs_are_held}
 use Rattle.fax_line.specs.Actions.{Goes, LineValue, TellsTurn, Turns}
@@ -13,22 +14,22 @@ use Rattle.fax_line.proofs.line.Line.turn.Goals as goal
 
 pub returns-clause-goes : goal.returns-clause-goes
 returns-clause-goes g c =
-    let new : LineValue = line_of c.turn-self-inside.new.gateway c.turn-self-inside.new.self (g.W.Wire.known c.turn-self-inside.new.wire) (g.W.TimedWire.due c.turn-self-inside.new.wire) (g.W.LineWire.holding c.turn-self-inside.new.wire) c.turn-self-inside.result in
+    let new : LineValue = line_of c.turn-self-inside.new.gateway c.turn-self-inside.new.self (g.W.Wire.known c.turn-self-inside.new.wire) (due_of g.W.TimedWire.due c.turn-self-inside.new.wire) (g.W.LineWire.holding c.turn-self-inside.new.wire) c.turn-self-inside.result in
     subst (λ (l : LineValue). Goes (Turns c.args.now ∷ []) l new) c.self.view_is
     (goes_turn c.args.now c.self.inside.gateway c.turn-self-inside.new.gateway c.self.inside.engine c.turn-self-inside.new.self (g.W.Wire.known c.self.inside.wire) (g.W.Wire.known c.go_on.new.self)
-    (g.W.Wire.known c.turn-self-inside.new.wire) (g.W.TimedWire.due c.self.inside.wire) (g.W.TimedWire.due c.turn-self-inside.new.wire) (g.W.LineWire.holding c.self.inside.wire) (g.W.LineWire.holding c.turn-self-inside.new.wire) c.self.inside.turned c.turn-self-inside.result c.go_on.ensures.told
+    (g.W.Wire.known c.turn-self-inside.new.wire) (due_of g.W.TimedWire.due c.self.inside.wire) (due_of g.W.TimedWire.due c.turn-self-inside.new.wire) (g.W.LineWire.holding c.self.inside.wire) (g.W.LineWire.holding c.turn-self-inside.new.wire) c.self.inside.turned c.turn-self-inside.result c.go_on.ensures.told
     (λ (setup : Setup) (writes : Writing) (trace : List Event) (earlier : List Entry) (writing : IsWriting writes) (reached : IsReachedBy setup writes trace c.self.inside.gateway) (made : HasMade earlier c.self.inside.engine).
     let t = c.turn-self-inside.ensures.turned setup writes trace earlier writing reached made in (t.0, t.1, t.2, t.3, t.4)))
 
 pub returns-clause-tells : goal.returns-clause-tells
 returns-clause-tells g c =
-    let new : LineValue = line_of c.turn-self-inside.new.gateway c.turn-self-inside.new.self (g.W.Wire.known c.turn-self-inside.new.wire) (g.W.TimedWire.due c.turn-self-inside.new.wire) (g.W.LineWire.holding c.turn-self-inside.new.wire) c.turn-self-inside.result in
+    let new : LineValue = line_of c.turn-self-inside.new.gateway c.turn-self-inside.new.self (g.W.Wire.known c.turn-self-inside.new.wire) (due_of g.W.TimedWire.due c.turn-self-inside.new.wire) (g.W.LineWire.holding c.turn-self-inside.new.wire) c.turn-self-inside.result in
     let was = g.W.LineWire.holding c.self.inside.wire in
     let mid = g.W.LineWire.holding c.go_on.new.self in
     let is = g.W.LineWire.holding c.turn-self-inside.new.wire in
     subst (λ (l : LineValue). TellsTurn c.args.now l new) c.self.view_is
     (tells_turn c.args.now c.self.inside.gateway c.turn-self-inside.new.gateway c.self.inside.engine c.turn-self-inside.new.self (g.W.Wire.known c.self.inside.wire) (g.W.Wire.known c.go_on.new.self)
-    (g.W.Wire.known c.turn-self-inside.new.wire) (g.W.TimedWire.due c.self.inside.wire) (g.W.TimedWire.due c.turn-self-inside.new.wire) was is c.self.inside.turned c.turn-self-inside.result c.go_on.ensures.told
+    (g.W.Wire.known c.turn-self-inside.new.wire) (due_of g.W.TimedWire.due c.self.inside.wire) (due_of g.W.TimedWire.due c.turn-self-inside.new.wire) was is c.self.inside.turned c.turn-self-inside.result c.go_on.ensures.told
     (λ (setup : Setup) (writes : Writing) (trace : List Event) (earlier : List Entry) (writing : IsWriting writes) (reached : IsReachedBy setup writes trace c.self.inside.gateway) (made : HasMade earlier c.self.inside.engine).
     let t = c.turn-self-inside.ensures.turned setup writes trace earlier writing reached made in (
       t.0,
