@@ -7,7 +7,7 @@ use Rattle.fax_runcodes.specs.declared.Width.{Width}
 use Rattle.fax_runcodes.specs.declared.Width.TheVariants.{W1728, W2048, W2432}
 use Rattle.fax_runcodes.specs.declared.format.Format.{Format}
 use Rattle.fax_jobs.specs.declared.outcome.Outcome.{Outcome}
-use Rattle.fax_jobs.specs.declared.outcome.Outcome.TheVariants.{Delivered, NotReceiver, WidthLacking, FineLacking, RatesSpent, NoAnswer, NoReply, PageRefused, HungUp}
+use Rattle.fax_jobs.specs.declared.outcome.Outcome.TheVariants.{Delivered, NotReceiver, WidthLacking, FineLacking, RatesSpent, NoAnswer, NoReply, PageRefused, HungUp, NotPlaced}
 use Rattle.fax_jobs.specs.Outcomes.{outcome_number}
 use Rattle.fax_spool.specs.RecordOctets.{PageValue, EndedValue, PageFits, EndFits, page_octets, ended_octets, epoch_octets, short_octets, width_octet, flag_octet}
 use Rattle.fax_spool.specs.KeptRecords.{IsReadAs, AreReadAs}
@@ -39,7 +39,7 @@ same_flag : (a b : Bool) → flag_octet a ≡ flag_octet b → a ≡ b
 same_flag a b same = sym (flag_back a) ∙ ap (λ (n : ℕ). get_or (false ∷ true ∷ []) n false) same ∙ flag_back b
 
 outcomes : List Outcome
-outcomes = Delivered ∷ NotReceiver ∷ WidthLacking ∷ FineLacking ∷ RatesSpent ∷ NoAnswer ∷ NoReply ∷ PageRefused ∷ HungUp ∷ []
+outcomes = Delivered ∷ NotReceiver ∷ WidthLacking ∷ FineLacking ∷ RatesSpent ∷ NoAnswer ∷ NoReply ∷ PageRefused ∷ HungUp ∷ NotPlaced ∷ []
 
 outcome_back : (o : Outcome) → get_or outcomes (outcome_number o) Delivered ≡ o
 unfolding outcomes
@@ -52,6 +52,7 @@ outcome_back NoAnswer = refl
 outcome_back NoReply = refl
 outcome_back PageRefused = refl
 outcome_back HungUp = refl
+outcome_back NotPlaced = refl
 
 same_outcome : (a b : Outcome) → outcome_number a ≡ outcome_number b → a ≡ b
 same_outcome a b same = sym (outcome_back a) ∙ ap (λ (n : ℕ). get_or outcomes n Delivered) same ∙ outcome_back b

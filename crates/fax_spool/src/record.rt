@@ -343,6 +343,7 @@ fn outcome_of(number: u8) -> Option<Outcome>
         6 => Some(Outcome::NoReply),
         7 => Some(Outcome::PageRefused),
         8 => Some(Outcome::HungUp),
+        9 => Some(Outcome::NotPlaced),
         _ => None,
     }
 }
