@@ -10,11 +10,11 @@ use Rattle.fax_call.specs.Calls.{Calling}
 use Rattle.fax_call.specs.Delivery.{is_over}
 use Rattle.fax_gateway.specs.declared.side.Side.TheVariants as side
 use Rattle.fax_gateway.specs.Setups.{Setup}
-use Rattle.fax_gateway.specs.Events.{Event, Ring, FromCalling, FromCalled, Tick, Given, clock}
+use Rattle.fax_gateway.specs.Events.{Event, Ring, FromCalling, FromCalled, Tick, Placed, Given, clock}
 use Rattle.fax_gateway.specs.CallingLegs.{CallingLeg, calling_after, calling_leg, core_of, is_idle, leg_with}
 use Rattle.fax_gateway.specs.CalledLegs as called
 use Rattle.fax_gateway.specs.CalledLegs.{CalledLeg}
-use Rattle.fax_gateway.specs.Sides.{Sides, book_of, heard_in_tick, in_tick, leg_of, sends, sends_if, sides}
+use Rattle.fax_gateway.specs.Sides.{Sides, begins_next, book_of, heard_in_tick, in_tick, leg_of, sends, sends_if, sides}
 use Rattle.fax_gateway.specs.Driving.{Entry, Accepts, RefusesRing, RefusesDatagram, RefusesTick, ReceivesNothing, FailsToReceive, Sends, events, receipts}
 use Rattle.fax_gateway.specs.Reached.{arrived_on, ticked_on}
 use Rattle.fax_loop.specs.Exchanges.{Round, answerer_behind, moment_behind}
@@ -45,6 +45,7 @@ AreFrom others (Ring at number ∷ earlier) = AreFrom others earlier
 AreFrom others (FromCalling octets at decided read ∷ earlier) = IsIn others octets × AreFrom others earlier
 AreFrom others (FromCalled octets at decided ∷ earlier) = AreFrom others earlier
 AreFrom others (Tick at given ∷ earlier) = AreFrom others earlier
+AreFrom others (Placed at connected ∷ earlier) = AreFrom others earlier
 
 ring_read : (setup : Setup) (others : List (List ℕ)) (o : Option CallingLeg) (now at number : ℕ) → AreReadOf others (arrived_on (calling_after setup o now (Ring at number)))
 ring_read setup others None now at number = tt
@@ -58,6 +59,10 @@ tick_read : (setup : Setup) (others : List (List ℕ)) (o : Option CallingLeg) (
 tick_read setup others None now at given a = a
 tick_read setup others (Some l) now at given a = a
 
+placed_read : (setup : Setup) (others : List (List ℕ)) (o : Option CallingLeg) (now at : ℕ) (connected : Bool) → AreReadOf others (arrived_on o) → AreReadOf others (arrived_on (calling_after setup o now (Placed at connected)))
+placed_read setup others None now at connected a = a
+placed_read setup others (Some l) now at connected a = a
+
 from_read : (setup : Setup) (others : List (List ℕ)) (trace : List Event) → AreFrom others trace → AreReadOf others (arrived_on (calling_leg setup trace))
 from_read setup others [] f = tt
 from_read setup others (Ring at number ∷ earlier) f = ring_read setup others (calling_leg setup earlier) (clock (Ring at number ∷ earlier)) at number
@@ -66,6 +71,7 @@ from_read setup others (FromCalling octets at decided read ∷ earlier) f =
 from_read setup others (FromCalled octets at decided ∷ earlier) f =
     called_read setup others (calling_leg setup earlier) (clock (FromCalled octets at decided ∷ earlier)) octets at decided (from_read setup others earlier f)
 from_read setup others (Tick at given ∷ earlier) f = tick_read setup others (calling_leg setup earlier) (clock (Tick at given ∷ earlier)) at given (from_read setup others earlier f)
+from_read setup others (Placed at connected ∷ earlier) f = placed_read setup others (calling_leg setup earlier) (clock (Placed at connected ∷ earlier)) at connected (from_read setup others earlier f)
 
 -- as its log tells
 logged_from : (others : List (List ℕ)) (log : List Entry) → AreIn others (came_calling (receipts log)) → AreFrom others (events log ++ Ring 0 0 ∷ [])
@@ -74,6 +80,7 @@ logged_from others (Accepts (Ring at number) ∷ log) a = logged_from others log
 logged_from others (Accepts (FromCalling octets at decided read) ∷ log) a = (a.0, logged_from others log a.1)
 logged_from others (Accepts (FromCalled octets at decided) ∷ log) a = logged_from others log a
 logged_from others (Accepts (Tick at given) ∷ log) a = logged_from others log a
+logged_from others (Accepts (Placed at connected) ∷ log) a = logged_from others log a
 logged_from others (RefusesRing fault ∷ log) a = logged_from others log a
 logged_from others (RefusesDatagram side.Calling octets ∷ log) a = logged_from others log a.1
 logged_from others (RefusesDatagram side.Called octets ∷ log) a = logged_from others log a
@@ -132,15 +139,18 @@ ticked_by writes others (Some l) now a = by l.entered
     by true = a
     by false = a
 
-begun_by : (others : List (List ℕ)) (o : Option JobValue) (leg : Option CalledLeg) (before : Calling) (now : ℕ) → ReadBy others leg → ReadBy others (leg_of o before now leg)
-begun_by others None leg before now a = a
-begun_by others (Some job) leg before now a = tt
+begun_by : (others : List (List ℕ)) (connected : Bool) (o : Option JobValue) (leg : Option CalledLeg) (before : Calling) (now : ℕ) → ReadBy others leg → ReadBy others (leg_of connected o before now leg)
+begun_by others connected None leg before now a = a
+begun_by others connected (Some job) leg before now a = tt
+
+placed_by : (connected : Bool) (setup : Setup) (writes : Writing) (others : List (List ℕ)) (now : ℕ) (s : Sides) → ReadBy others s.leg → ReadBy others (sends connected setup writes now s).leg
+placed_by connected setup writes others now s a = begun_by others connected (book_of (sends connected setup writes now s)).sending s.leg (called.core_left setup writes s.leg) now a
 
 sends_by : (setup : Setup) (writes : Writing) (others : List (List ℕ)) (now : ℕ) (s : Sides) → ReadBy others s.leg → ReadBy others (sends_if setup writes now s).leg
-sends_by setup writes others now s a = by (called.is_free s.leg)
+sends_by setup writes others now s a = by (begins_next setup s.leg)
   where
-    by : (b : Bool) → ReadBy others (if◌then◌else◌ {A = Sides} b (sends setup writes now s) s).leg
-    by true = begun_by others (book_of (sends setup writes now s)).sending s.leg (called.core_left setup writes s.leg) now a
+    by : (b : Bool) → ReadBy others (if◌then◌else◌ {A = Sides} b (sends true setup writes now s) s).leg
+    by true = placed_by true setup writes others now s a
     by false = a
 
 abbrev AreBack : List (List ℕ) → List Event → Type 0
@@ -149,6 +159,7 @@ AreBack others (Ring at number ∷ earlier) = AreBack others earlier
 AreBack others (FromCalling octets at decided read ∷ earlier) = AreBack others earlier
 AreBack others (FromCalled octets at decided ∷ earlier) = IsIn others octets × AreBack others earlier
 AreBack others (Tick at given ∷ earlier) = AreBack others earlier
+AreBack others (Placed at connected ∷ earlier) = AreBack others earlier
 
 back_read : (setup : Setup) (writes : Writing) (others : List (List ℕ)) (trace : List Event) → AreBack others trace → ReadBy others (sides setup writes trace).leg
 back_read setup writes others [] b = tt
@@ -161,6 +172,8 @@ back_read setup writes others (Tick at given ∷ earlier) b =
     let old : Sides = sides setup writes earlier in
     let z : Sides = record old { steps = heard_in_tick (calling_leg setup earlier) now old.steps } in
     ticked_by writes others (in_tick setup writes earlier at).leg now (sends_by setup writes others now z (back_read setup writes others earlier b))
+back_read setup writes others (Placed at connected ∷ earlier) b =
+    placed_by connected setup writes others (clock (Placed at connected ∷ earlier)) (sides setup writes earlier) (back_read setup writes others earlier b)
 
 logged_back : (others : List (List ℕ)) (log : List Entry) → AreIn others (came_called (receipts log)) → AreBack others (events log ++ Ring 0 0 ∷ [])
 logged_back others [] a = tt
@@ -168,6 +181,7 @@ logged_back others (Accepts (Ring at number) ∷ log) a = logged_back others log
 logged_back others (Accepts (FromCalling octets at decided read) ∷ log) a = logged_back others log a
 logged_back others (Accepts (FromCalled octets at decided) ∷ log) a = (a.0, logged_back others log a.1)
 logged_back others (Accepts (Tick at given) ∷ log) a = logged_back others log a
+logged_back others (Accepts (Placed at connected) ∷ log) a = logged_back others log a
 logged_back others (RefusesRing fault ∷ log) a = logged_back others log a
 logged_back others (RefusesDatagram side.Calling octets ∷ log) a = logged_back others log a
 logged_back others (RefusesDatagram side.Called octets ∷ log) a = logged_back others log a.1

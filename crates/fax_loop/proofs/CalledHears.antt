@@ -15,11 +15,11 @@ use Rattle.fax_call.specs.Writings.{Writing}
 use Rattle.fax_call.specs.Calls.{Calling, CallEvent, Comes}
 use Rattle.fax_call.specs.Delivery.{is_over}
 use Rattle.fax_gateway.specs.Setups.{Setup}
-use Rattle.fax_gateway.specs.Events.{Event, Ring, FromCalling, FromCalled, Tick, clock}
+use Rattle.fax_gateway.specs.Events.{Event, Ring, FromCalling, FromCalled, Tick, Placed, clock}
 use Rattle.fax_gateway.specs.Legs.{new_pieces}
 use Rattle.fax_gateway.specs.CallingLegs.{calling_leg}
-use Rattle.fax_gateway.specs.CalledLegs.{CalledLeg, calls, comes_to, core_left, core_of, hears, is_free, leg_ticked, leg_with, with_tick}
-use Rattle.fax_gateway.specs.Sides.{Sides, book_of, heard_in_tick, in_tick, leg_of, sends, sends_if, sides}
+use Rattle.fax_gateway.specs.CalledLegs.{CalledLeg, calls, comes_to, core_left, core_of, hears, leg_ticked, leg_with, with_tick}
+use Rattle.fax_gateway.specs.Sides.{Sides, begins_next, book_of, heard_in_tick, in_tick, leg_of, sends, sends_if, sides}
 use Rattle.fax_loop.proofs.McfHeard.{came_pieces}
 
 -- as in `fax_gateway`, which keeps these lemmas to itself
@@ -81,15 +81,18 @@ ticked_heard writes (Some l) now h = by l.entered
     by true = h
     by false = h
 
-begun_heard : (o : Option JobValue) (leg : Option CalledLeg) (before : Calling) (now : ℕ) → HeardSo leg → HeardSo (leg_of o before now leg)
-begun_heard None leg before now h = h
-begun_heard (Some job) leg before now h = none_newest
+begun_heard : (connected : Bool) (o : Option JobValue) (leg : Option CalledLeg) (before : Calling) (now : ℕ) → HeardSo leg → HeardSo (leg_of connected o before now leg)
+begun_heard connected None leg before now h = h
+begun_heard connected (Some job) leg before now h = none_newest
+
+placed_heard : (connected : Bool) (setup : Setup) (writes : Writing) (now : ℕ) (s : Sides) → HeardSo s.leg → HeardSo (sends connected setup writes now s).leg
+placed_heard connected setup writes now s h = begun_heard connected (book_of (sends connected setup writes now s)).sending s.leg (core_left setup writes s.leg) now h
 
 sends_heard : (setup : Setup) (writes : Writing) (now : ℕ) (s : Sides) → HeardSo s.leg → HeardSo (sends_if setup writes now s).leg
-sends_heard setup writes now s h = by (is_free s.leg)
+sends_heard setup writes now s h = by (begins_next setup s.leg)
   where
-    by : (b : Bool) → HeardSo (if◌then◌else◌ {A = Sides} b (sends setup writes now s) s).leg
-    by true = begun_heard (book_of (sends setup writes now s)).sending s.leg (core_left setup writes s.leg) now h
+    by : (b : Bool) → HeardSo (if◌then◌else◌ {A = Sides} b (sends true setup writes now s) s).leg
+    by true = placed_heard true setup writes now s h
     by false = h
 
 pub called_heard : (setup : Setup) (writes : Writing) (trace : List Event) → HeardSo (sides setup writes trace).leg
@@ -103,3 +106,4 @@ called_heard setup writes (Tick at given ∷ earlier) =
     let old : Sides = sides setup writes earlier in
     let z : Sides = record old { steps = heard_in_tick (calling_leg setup earlier) now old.steps } in
     ticked_heard writes (in_tick setup writes earlier at).leg now (sends_heard setup writes now z (called_heard setup writes earlier))
+called_heard setup writes (Placed at connected ∷ earlier) = placed_heard connected setup writes (clock (Placed at connected ∷ earlier)) (sides setup writes earlier) (called_heard setup writes earlier)

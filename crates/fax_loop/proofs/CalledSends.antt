@@ -1,5 +1,5 @@
 -- What a call of a called leg gives: the machine that calls, and the gateway's called leg.
-use Rattle.std.proofs.Common.{◌≡◌, ℕ, Bool, true, false, List, [], ◌∷◌, map, Option, Some, None, Result, Ok, Err, refl, ◌∙◌, ap, if◌then◌else◌}
+use Rattle.std.proofs.Common.{◌≡◌, ℕ, Bool, true, false, List, [], ◌∷◌, map, Option, Some, None, Result, Ok, Err, refl, sym, ◌∙◌, ap, if◌then◌else◌}
 use Rattle.fax_udptl.specs.declared.fault.UdptlFault.{UdptlFault}
 use Rattle.fax_udptl.specs.Datagrams.{DatagramValue, datagram_of}
 use Rattle.fax_ifp.specs.Pieces.{Piece}
@@ -8,23 +8,26 @@ use Rattle.fax_pagestore.specs.Pages.{PageValue}
 use Rattle.fax_jobs.specs.Jobs.{JobValue, IsJob}
 use Rattle.fax_call.specs.Writings.{Writing, IsWriting}
 use Rattle.fax_call.specs.Replies.{Packet, written}
-use Rattle.fax_call.specs.Calls.{Calling, CallEvent, Comes}
+use Rattle.fax_call.specs.Calls.{Calling, CallEvent, Comes, after_events, ticked}
 use Rattle.fax_call.specs.Delivery.{is_over}
 use Rattle.fax_call.specs.Given as call
 use Rattle.fax_call.proofs.ClosedPackets.{gives_closed_packets}
 use Rattle.fax_gateway.specs.Setups.{Setup}
 use Rattle.fax_gateway.specs.Legs.{new_pieces}
-use Rattle.fax_gateway.specs.CalledLegs.{CalledLeg, begun_core, begun_leg, calls, comes_to, core_of, hears, leg_ticked, leg_with, packets_given, with_tick}
+use Rattle.fax_gateway.specs.CalledLegs.{CalledLeg, begun_leg, calls, comes_to, core_of, hears, leg_ticked, leg_with, packets_given, with_tick}
 use Rattle.fax_loop.specs.Exchanges.{Round, caller_behind, moment_behind}
 use Rattle.fax_loop.specs.Machines.{calling_turned, calling_with}
-use Rattle.fax_loop.proofs.OnePage.{AreAll, Gives}
+use Rattle.fax_loop.proofs.OnePage.{AreAll, Gives, begun_is, call_begun}
 
 -- it begins
 pub begun_gives : (writes : Writing) (page : PageValue) (job : JobValue) (before : Calling) (now : ℕ) → IsJob job → AreAll page job.pages → Gives writes page (begun_leg job before now)
-begun_gives writes page job before now is all = record { is_job = is; pages = all; given_is = refl; closed = tt }
+begun_gives writes page job before now is all = record { is_job = is; pages = all; placed = refl; given_is = refl; closed = tt }
 
 -- a tick
-one_closed : (writes : Writing) (page : PageValue) (l : CalledLeg) (now : ℕ) (o : Option Packet) → IsWriting writes → Gives writes page l → (calls writes l now).given ≡ o → AreClosed (packets_given o l.given)
+abbrev call_gives : Writing → CalledLeg → ℕ → Option Packet
+call_gives writes l now = (ticked writes l.job (after_events writes l.job (call_begun l) l.events) now).given
+
+one_closed : (writes : Writing) (page : PageValue) (l : CalledLeg) (now : ℕ) (o : Option Packet) → IsWriting writes → Gives writes page l → call_gives writes l now ≡ o → AreClosed (packets_given o l.given)
 one_closed writes page l now None w g e = g.closed
 one_closed writes page l now (Some packet) w g e = (gives_closed_packets writes l.job l.before l.begun now l.events packet w g.is_job e, g.closed)
 
@@ -33,12 +36,16 @@ one_given None given packets e = e
 one_given (Some packet) given packets e = ap (λ (xs : List (List ℕ)). written packet ∷ xs) e
 
 with_tick_gives : (writes : Writing) (page : PageValue) (l : CalledLeg) (now : ℕ) → IsWriting writes → Gives writes page l → Gives writes page (with_tick (calls writes l now) now l)
-with_tick_gives writes page l now w g = record {
-  is_job = g.is_job;
-  pages = g.pages;
-  given_is = one_given (calls writes l now).given l.given (call.packets_given writes l.job (begun_core l) l.events) g.given_is;
-  closed = one_closed writes page l now (calls writes l now).given w g refl;
-}
+with_tick_gives writes page l now w g =
+    let same : (calls writes l now).given ≡ call_gives writes l now = ap (λ (a : Calling). (ticked writes l.job (after_events writes l.job a l.events) now).given) (begun_is l g.placed) in
+    record {
+      is_job = g.is_job;
+      pages = g.pages;
+      placed = g.placed;
+      given_is = ap (λ (o : Option Packet). packets_given o l.given) same
+          ∙ one_given (call_gives writes l now) l.given (call.packets_given writes l.job (call_begun l) l.events) g.given_is;
+      closed = one_closed writes page l now (calls writes l now).given w g (sym same);
+    }
 
 pub ticked_gives : (writes : Writing) (page : PageValue) (l : CalledLeg) (now : ℕ) → IsWriting writes → Gives writes page l → Gives writes page (leg_ticked writes now l)
 ticked_gives writes page l now w g = by l.entered
@@ -56,7 +63,8 @@ with_gives : (writes : Writing) (page : PageValue) (l : CalledLeg) (now : ℕ) (
 with_gives writes page l now (Ok d) g = record {
   is_job = g.is_job;
   pages = g.pages;
-  given_is = g.given_is ∙ ap (map written) (comes_given writes l.job (begun_core l) (new_pieces l.arrived d) now l.events);
+  placed = g.placed;
+  given_is = g.given_is ∙ ap (map written) (comes_given writes l.job (call_begun l) (new_pieces l.arrived d) now l.events);
   closed = g.closed;
 }
 with_gives writes page l now (Err f) g = g

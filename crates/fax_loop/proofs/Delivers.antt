@@ -12,6 +12,7 @@ use Rattle.fax_ifp.specs.Pieces as pieces
 use Rattle.fax_ifp.specs.Pieces.{Piece}
 use Rattle.fax_ifp.specs.Schedules.{AreClosed, slots_of}
 use Rattle.fax_ifp.proofs.SentFrames.{Has, contained, contains, frames_are_sent}
+use Rattle.fax_pagestore.specs.Pages.{PageValue}
 use Rattle.fax_jobs.specs.declared.outcome.Outcome.{Outcome}
 use Rattle.fax_jobs.specs.declared.outcome.Outcome.TheVariants as outcomes
 use Rattle.fax_jobs.specs.declared.report.Report.{Report}
@@ -20,13 +21,13 @@ use Rattle.fax_answer.specs.Table.{Reading}
 use Rattle.fax_answer.specs.Replies.{Waiting}
 use Rattle.fax_answer.specs.Calls.{Answering, CallEvent, Comes, rung}
 use Rattle.fax_answer.specs.Readings.{comes_all}
-use Rattle.fax_call.specs.Writings.{Writing}
-use Rattle.fax_call.specs.Calls.{Calling}
+use Rattle.fax_call.specs.Writings.{Writing, IsWriting}
+use Rattle.fax_call.specs.Calls.{Calling, after_events}
 use Rattle.fax_call.specs.Delivery.{is_over}
 use Rattle.fax_call.specs.Replies.{written}
 use Rattle.fax_call.proofs.SignalsGiven.{map_back}
 use Rattle.fax_gateway.specs.Setups.{Setup}
-use Rattle.fax_gateway.specs.Events.{Event, Ring, FromCalling, FromCalled, Tick, Given, clock}
+use Rattle.fax_gateway.specs.Events.{Event, Ring, FromCalling, FromCalled, Tick, Placed, Given, clock}
 use Rattle.fax_gateway.specs.Legs.{new_pieces}
 use Rattle.fax_gateway.specs.CallingLegs.{CallingLeg, calling_after, calling_leg, answers, core_of, is_idle, leg_with, packets_with}
 use Rattle.fax_gateway.specs.CalledLegs as called
@@ -48,7 +49,7 @@ use Rattle.fax_loop.proofs.FramesTold.{said, told_frames}
 use Rattle.fax_loop.proofs.McfGiven.{IsNoAck, TellsNoMcf, given_of, tells_no_mcf}
 use Rattle.fax_loop.proofs.McfHeard.{HasAckFrame, acks_frame, came_pieces, delivered_acks, is_idle as is_idle_call, turned_frame}
 use Rattle.fax_loop.proofs.OneCall.{IsTicked, IsTurned, OnlyComes, behind_is, is_turned, none_reported, trace_before}
-use Rattle.fax_loop.proofs.OnePage.{Gives}
+use Rattle.fax_loop.proofs.OnePage.{Gives, begun_is, call_begun}
 use Rattle.fax_loop.proofs.Relayed.{Carries, IfGives, called_gives, sends_of}
 
 -- ---- WHAT THE MACHINE THAT IS CALLED GAVE is what its call gave
@@ -80,6 +81,8 @@ step_given setup None now (FromCalled octets at decided) h = tt
 step_given setup (Some l) now (FromCalled octets at decided) h = h
 step_given setup None now (Tick at given) h = tt
 step_given setup (Some l) now (Tick at given) h = ticked_packets l now (answers l now).given h
+step_given setup None now (Placed at connected) h = tt
+step_given setup (Some l) now (Placed at connected) h = h
 
 given_so : (setup : Setup) (trace : List Event) → GivenSo (calling_leg setup trace)
 given_so setup [] = tt
@@ -154,6 +157,7 @@ comes_reports (Ring at number ∷ came) trace c = absurd c
 comes_reports (FromCalling octets at decided read ∷ came) trace c = comes_reports came trace c
 comes_reports (FromCalled octets at decided ∷ came) trace c = comes_reports came trace c
 comes_reports (Tick at given ∷ came) trace c = absurd c
+comes_reports (Placed at connected ∷ came) trace c = absurd c
 
 no_report : (report : Report) → slice_get (last_of kept_reports []) 0 ≡ Some report → ⊥
 no_report report e = cc
@@ -202,6 +206,15 @@ rounds_ended law setup writes (round ∷ earlier) report a t e d =
     turn_ended law setup writes (trace_behind earlier) (trace_behind (round ∷ earlier)) report t (none_reported law setup writes (trace_behind earlier) old a.0.unreported)
     (is_turned (moment_behind earlier) round.gateway (trace_behind earlier) (trace_behind (round ∷ earlier)) a.0.turn (behind_is round earlier)) e d
 
+-- its leg heard an acknowledgement
+leg_acks : (writes : Writing) (page : PageValue) (l : CalledLeg) → IsWriting writes → Gives writes page l → is_over (called.core_of writes l).state ≡ true → (called.core_of writes l).outcome ≡ Some outcomes.Delivered
+    → HasAckFrame (came_pieces l.events)
+leg_acks writes page l w g over delivered =
+    let core : Calling = after_events writes l.job (call_begun l) l.events in
+    let same : called.core_of writes l ≡ core = ap (λ (a : Calling). after_events writes l.job a l.events) (begun_is l g.placed) in
+    acks_frame l.events
+    (delivered_acks writes l w g.is_job (is_idle_call core.state (subst (λ (a : Calling). is_over a.state ≡ true) same over)) (subst (λ (a : Calling). a.outcome ≡ Some outcomes.Delivered) same delivered))
+
 -- ---- THE LAW
 pub confirms_if_delivered : JobsAreOfTheirCalls → JobsHaveStates → ConfirmsIfDelivered
 confirms_if_delivered law states setup writes page rounds report new w is rounds_are t h back e d none =
@@ -215,6 +228,6 @@ confirms_if_delivered law states setup writes page rounds report new w is rounds
     let own : Gives writes page l = subst (IfGives writes page) ended.is_leg leg_gives in
     let heard : came_pieces l.events ≡ reverse (pieces.pieces (newest_slots l.arrived)) = subst HeardSo ended.is_leg (called_heard setup writes (trace_behind rounds)) in
     let frame : HasAckFrame (pieces.pieces (newest_slots l.arrived)) =
-    turned_frame (pieces.pieces (newest_slots l.arrived)) (subst HasAckFrame heard (acks_frame l.events (delivered_acks writes l w own.is_job (is_idle_call (called.core_of writes l).state ended.over) ended.outcome))) in
+    turned_frame (pieces.pieces (newest_slots l.arrived)) (subst HasAckFrame heard (leg_acks writes page l w own ended.over ended.outcome)) in
     let carried : AreCarried (given_on (answerer_behind setup rounds)) l.arrived = subst (λ (o : Option CalledLeg). AreCarried (given_on (answerer_behind setup rounds)) (arrived_by o)) ended.is_leg back in
     none_heard (given_on (answerer_behind setup rounds)) l.arrived (none_told setup writes (moment_behind rounds) (answerer_behind setup rounds) (answerer_followed setup writes writes rounds rounds_are) none) carried frame

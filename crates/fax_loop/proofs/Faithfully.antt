@@ -14,7 +14,7 @@ use Rattle.fax_answer.proofs.Accepted.{confirms_what_it_accepted}
 use Rattle.fax_call.specs.Writings.{Writing, IsWriting}
 use Rattle.fax_gateway.specs.declared.side.Side.{Side}
 use Rattle.fax_gateway.specs.Setups.{Setup}
-use Rattle.fax_gateway.specs.Events.{Event, Ring, FromCalling, FromCalled, Tick}
+use Rattle.fax_gateway.specs.Events.{Event, Ring, FromCalling, FromCalled, Tick, Placed}
 use Rattle.fax_gateway.specs.Driving.{Entry as Logged, Accepts as AcceptsEvent, RefusesRing, RefusesDatagram, RefusesTick, ReceivesNothing, FailsToReceive, Sends as SendsOut, AreReceives, BringsNone, Comes, IsSent, IsTick, IsTurn, events}
 use Rattle.fax_gateway.specs.CallingLegs.{CallingLeg, calling_leg, core_of}
 use Rattle.fax_gateway.specs.CalledLegs.{CalledLeg}
@@ -31,12 +31,13 @@ use Rattle.fax_loop.proofs.CalledSends.{caller_gives}
 use Rattle.fax_loop.proofs.OnePage.{Accepts, AreAll, Gives}
 use Rattle.fax_loop.proofs.Relayed.{Carries, IfGives, RingsFirst, called_gives, hears_the_page, sends_of}
 
--- ---- THE ONE RING of the gateway's trace
+-- ---- THE ONE RING of the gateway's trace, in which no call is placed
 abbrev NoRing : Event → Type 0
 NoRing (Ring at number) = ⊥
 NoRing (FromCalling octets at decided read) = Unit {0}
 NoRing (FromCalled octets at decided) = Unit {0}
 NoRing (Tick at given) = Unit {0}
+NoRing (Placed at connected) = ⊥
 
 abbrev NoRingIn : Logged → Type 0
 NoRingIn (AcceptsEvent event) = NoRing event
@@ -60,6 +61,7 @@ comes_none at now (AcceptsEvent (Ring moment number)) c = absurd c
 comes_none at now (AcceptsEvent (FromCalling octets moment decided read)) c = tt
 comes_none at now (AcceptsEvent (FromCalled octets moment decided)) c = tt
 comes_none at now (AcceptsEvent (Tick moment given)) c = tt
+comes_none at now (AcceptsEvent (Placed moment connected)) c = absurd c
 comes_none at now (RefusesRing fault) c = tt
 comes_none at now (RefusesDatagram on octets) c = tt
 comes_none at now (RefusesTick moment) c = tt
@@ -100,6 +102,7 @@ rings_first (AcceptsEvent (Ring at number) ∷ log) n = absurd n.0
 rings_first (AcceptsEvent (FromCalling octets at decided read) ∷ log) n = rings_first log n.1
 rings_first (AcceptsEvent (FromCalled octets at decided) ∷ log) n = rings_first log n.1
 rings_first (AcceptsEvent (Tick at given) ∷ log) n = rings_first log n.1
+rings_first (AcceptsEvent (Placed at connected) ∷ log) n = absurd n.0
 rings_first (RefusesRing fault ∷ log) n = rings_first log n.1
 rings_first (RefusesDatagram at octets ∷ log) n = rings_first log n.1
 rings_first (RefusesTick now ∷ log) n = rings_first log n.1

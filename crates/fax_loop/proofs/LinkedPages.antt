@@ -120,6 +120,6 @@ confirms_the_page_over law states setup writes page before after report pages ne
 pub exchange_is_faithful : ConfirmsThePageOver → (settings : Settings) (page : PageValue) (before after : Lines) (report : Option Report) (pages : List PageValue) → AreAllowed settings → IsPage page
     → IsExchange settings (job_of 0 page) before after report pages → IsFaithful before after page report pages
 exchange_is_faithful law settings page before after report pages allowed is e =
-    let setup : Setup = record { redundancy = settings.redundancy; few = allowed.0; pause = settings.preamble_ms; is_pause = allowed.1; restored = []; are_pages = tt } in
-    let set : AreSet setup settings = record { set = record { redundancy = refl; pause = refl }; restored = refl } in
+    let setup : Setup = record { redundancy = settings.redundancy; few = allowed.0; pause = settings.preamble_ms; is_pause = allowed.1; asks = settings.asks; restored = []; are_pages = tt } in
+    let set : AreSet setup settings = record { set = record { redundancy = refl; pause = refl; asks = refl }; restored = refl } in
     law setup pages_have_texts.0 page before after report pages refl pages_have_texts.1 is (e setup pages_have_texts.0 set pages_have_texts.1)

@@ -1,6 +1,6 @@
 -- In an exchange the gateway makes one call, and the datagrams that it hands over on its called leg are those of the packets that it
 -- gives there.
-use Rattle.std.proofs.Common.{◌≡◌, ℕ, ◌-◌, max, Bool, true, false, List, [], ◌∷◌, ◌++◌, length, drop, slice_get, ◌⊎◌, inl, inr, is_some, Option, Some, None, option_map, Result, Ok, Err, refl, sym, ◌∙◌, ap, subst, arith, append-nil, append_assoc, length-drop, if◌then◌else◌}
+use Rattle.std.proofs.Common.{◌≡◌, ℕ, ◌-◌, max, Bool, true, false, not, ◌&&◌, List, [], ◌∷◌, ◌++◌, length, drop, slice_get, ◌⊎◌, inl, inr, is_some, Option, Some, None, option_map, Result, Ok, Err, refl, sym, ◌∙◌, ap, subst, arith, append-nil, append_assoc, length-drop, if◌then◌else◌}
 use Rattle.std.specs.List.{AllByRecursion}
 use Rattle.std.proofs.lemmas.List.Concat.{flat_map-append}
 use Rattle.std.proofs.lemmas.List.Elements.{recursion_from_All}
@@ -17,12 +17,12 @@ use Rattle.fax_call.specs.Replies.{Packet}
 use Rattle.fax_gateway.specs.declared.side.Side.{Side}
 use Rattle.fax_gateway.specs.declared.side.Side.TheVariants as side
 use Rattle.fax_gateway.specs.Setups.{Setup}
-use Rattle.fax_gateway.specs.Events.{Event, Ring, FromCalling, FromCalled, Tick, Given, clock}
+use Rattle.fax_gateway.specs.Events.{Event, Ring, FromCalling, FromCalled, Tick, Placed, Given, clock}
 use Rattle.fax_gateway.specs.CallingLegs.{calling_leg}
 use Rattle.fax_gateway.specs.CalledLegs.{CalledLeg, calls, core_left, core_of, delivered_told, hears, is_free, leg_ticked, leg_with, outcome_of, packets_given, report_by, told_by, told_called, told_report, with_tick}
 use Rattle.fax_gateway.specs.Driving.{Entry, Accepts, RefusesRing, RefusesDatagram, RefusesTick, ReceivesNothing, FailsToReceive, Sends, AreReceives, BringsNone, Comes, IsSent, IsTick, IsTurn, events, events_in, sent, sent_in}
 use Rattle.fax_gateway.specs.Reports.{JobsHaveStates, report_list, reports_given}
-use Rattle.fax_gateway.specs.Sides.{Sides, book_of, heard_in_tick, in_tick, leg_of, sends, sends_if, sides}
+use Rattle.fax_gateway.specs.Sides.{Sides, begins_next, book_of, heard_in_tick, in_tick, leg_of, sends, sends_if, sides}
 use Rattle.fax_gateway.specs.Traces.{IsTrace}
 use Rattle.fax_gateway.specs.Wires.{Handed}
 use Rattle.fax_loop.specs.Ends.{handed}
@@ -64,15 +64,18 @@ served_report writes (Some l) now reports h = by l.entered h
     by true f = λ e. some_before reports [] (f refl)
     by false f = ends (outcome_of core)
 
-begun_report : (o : Option JobValue) (leg : Option CalledLeg) (before : Calling) (now : ℕ) (reports : List Report) → HasReport leg reports → HasReport (leg_of o before now leg) reports
-begun_report None leg before now reports h = h
-begun_report (Some job) leg before now reports h = λ e. absurd (let f : false ≡ true = e in cc)
+begun_report : (connected : Bool) (o : Option JobValue) (leg : Option CalledLeg) (before : Calling) (now : ℕ) (reports : List Report) → HasReport leg reports → HasReport (leg_of connected o before now leg) reports
+begun_report connected None leg before now reports h = h
+begun_report connected (Some job) leg before now reports h = λ e. absurd (let f : false ≡ true = e in cc)
+
+placed_report : (connected : Bool) (setup : Setup) (writes : Writing) (now : ℕ) (s : Sides) (reports : List Report) → HasReport s.leg reports → HasReport (sends connected setup writes now s).leg reports
+placed_report connected setup writes now s reports h = begun_report connected (book_of (sends connected setup writes now s)).sending s.leg (core_left setup writes s.leg) now reports h
 
 sends_report : (setup : Setup) (writes : Writing) (now : ℕ) (s : Sides) (reports : List Report) → HasReport s.leg reports → HasReport (sends_if setup writes now s).leg reports
-sends_report setup writes now s reports h = by (is_free s.leg)
+sends_report setup writes now s reports h = by (begins_next setup s.leg)
   where
-    by : (b : Bool) → HasReport (if◌then◌else◌ {A = Sides} b (sends setup writes now s) s).leg reports
-    by true = begun_report (book_of (sends setup writes now s)).sending s.leg (core_left setup writes s.leg) now reports h
+    by : (b : Bool) → HasReport (if◌then◌else◌ {A = Sides} b (sends true setup writes now s) s).leg reports
+    by true = placed_report true setup writes now s reports h
     by false = h
 
 with_report : (l : CalledLeg) (now : ℕ) (r : Result DatagramValue UdptlFault) (reports : List Report) → HasReport (Some l) reports → HasReport (Some (leg_with r now l)) reports
@@ -100,6 +103,8 @@ has_report setup writes (Tick at given ∷ earlier) t =
     let middle : Sides = in_tick setup writes earlier at in
     subst (λ (r : Option Report). HasReport (option_map (leg_ticked writes now) middle.leg) (reports_given earlier ++ report_list r)) (sym (ap (λ (g : Given). g.report) t.0))
     (served_report writes middle.leg now (reports_given earlier) (sends_report setup writes now z (reports_given earlier) (has_report setup writes earlier t.1)))
+has_report setup writes (Placed at connected ∷ earlier) t =
+    placed_report connected setup writes (clock (Placed at connected ∷ earlier)) (sides setup writes earlier) (reports_given earlier) (has_report setup writes earlier t.1)
 
 -- none was reported: the call, where one is on, is not over
 abbrev IsOpen : Option CalledLeg → Type 0
@@ -142,6 +147,7 @@ OnlyComes (Ring at number ∷ earlier) = ⊥
 OnlyComes (FromCalling octets at decided read ∷ earlier) = OnlyComes earlier
 OnlyComes (FromCalled octets at decided ∷ earlier) = OnlyComes earlier
 OnlyComes (Tick at given ∷ earlier) = ⊥
+OnlyComes (Placed at connected ∷ earlier) = ⊥
 
 record IsAs (old new : Option CalledLeg) : Type 0 where
   given : given_by new ≡ given_by old
@@ -169,21 +175,26 @@ comes_as setup writes (FromCalled octets at decided ∷ came) trace c =
     let b = hears_as writes (sides setup writes (came ++ trace)).leg octets (clock (FromCalled octets at decided ∷ (came ++ trace))) in
     record { given = b.given ∙ a.given; stays = λ h. b.stays (a.stays h) }
 comes_as setup writes (Tick at given ∷ came) trace c = absurd c
+comes_as setup writes (Placed at connected ∷ came) trace c = absurd c
 
 -- ---- A TICK gives a packet at most, in the call that is on
-begun_given : (o : Option JobValue) (before : Calling) (now : ℕ) → given_by (leg_of o before now None) ≡ []
+begun_given : (o : Option JobValue) (before : Calling) (now : ℕ) → given_by (leg_of true o before now None) ≡ []
 begun_given None before now = refl
 begun_given (Some job) before now = refl
 
 sends_given : (setup : Setup) (writes : Writing) (now : ℕ) (s : Sides) (leg : Option CalledLeg) → s.leg ≡ leg → IsOpen leg → given_by (sends_if setup writes now s).leg ≡ given_by leg
-sends_given setup writes now s None e h = by (is_free s.leg)
+sends_given setup writes now s None e h = by (begins_next setup s.leg)
   where
-    by : (b : Bool) → given_by (if◌then◌else◌ {A = Sides} b (sends setup writes now s) s).leg ≡ []
-    by true = ap (λ (o : Option CalledLeg). given_by (leg_of (book_of (sends setup writes now s)).sending (core_left setup writes s.leg) now o)) e ∙ begun_given (book_of (sends setup writes now s)).sending (core_left setup writes s.leg) now
+    by : (b : Bool) → given_by (if◌then◌else◌ {A = Sides} b (sends true setup writes now s) s).leg ≡ []
+    by true = ap (λ (o : Option CalledLeg). given_by (leg_of true (book_of (sends true setup writes now s)).sending (core_left setup writes s.leg) now o)) e ∙ begun_given (book_of (sends true setup writes now s)).sending (core_left setup writes s.leg) now
     by false = ap given_by e
-sends_given setup writes now s (Some l) e h = by (is_free s.leg) (ap is_free e ∙ h)
+sends_given setup writes now s (Some l) e h = by (begins_next setup s.leg) (none_begins setup.asks)
   where
-    by : (b : Bool) → b ≡ false → given_by (if◌then◌else◌ {A = Sides} b (sends setup writes now s) s).leg ≡ l.given
+    none_begins : (asks : Bool) → (not asks && is_free s.leg) ≡ false
+    none_begins true = refl
+    none_begins false = ap is_free e ∙ h
+
+    by : (b : Bool) → b ≡ false → given_by (if◌then◌else◌ {A = Sides} b (sends true setup writes now s) s).leg ≡ l.given
     by true f = cc
     by false f = ap given_by e
 
@@ -218,6 +229,7 @@ IsQuiet (Accepts (Ring at number)) = ⊥
 IsQuiet (Accepts (FromCalling octets at decided read)) = Unit {0}
 IsQuiet (Accepts (FromCalled octets at decided)) = Unit {0}
 IsQuiet (Accepts (Tick at given)) = ⊥
+IsQuiet (Accepts (Placed at connected)) = ⊥
 IsQuiet (RefusesRing fault) = Unit {0}
 IsQuiet (RefusesDatagram at octets) = Unit {0}
 IsQuiet (RefusesTick now) = Unit {0}
@@ -238,6 +250,7 @@ comes_quiet at now (Accepts (Ring moment number)) c = absurd c
 comes_quiet at now (Accepts (FromCalling octets moment decided read)) c = tt
 comes_quiet at now (Accepts (FromCalled octets moment decided)) c = tt
 comes_quiet at now (Accepts (Tick moment given)) c = absurd c
+comes_quiet at now (Accepts (Placed moment connected)) c = absurd c
 comes_quiet at now (RefusesRing fault) c = tt
 comes_quiet at now (RefusesDatagram on octets) c = tt
 comes_quiet at now (RefusesTick moment) c = tt
@@ -263,6 +276,7 @@ quiet_events (Accepts (Ring at number) ∷ log) q = absurd q.0
 quiet_events (Accepts (FromCalling octets at decided read) ∷ log) q = quiet_events log q.1
 quiet_events (Accepts (FromCalled octets at decided) ∷ log) q = quiet_events log q.1
 quiet_events (Accepts (Tick at given) ∷ log) q = absurd q.0
+quiet_events (Accepts (Placed at connected) ∷ log) q = absurd q.0
 quiet_events (RefusesRing fault ∷ log) q = quiet_events log q.1
 quiet_events (RefusesDatagram at octets ∷ log) q = quiet_events log q.1
 quiet_events (RefusesTick now ∷ log) q = quiet_events log q.1
@@ -276,6 +290,7 @@ quiet_sent (Accepts (Ring at number) ∷ log) q = absurd q.0
 quiet_sent (Accepts (FromCalling octets at decided read) ∷ log) q = quiet_sent log q.1
 quiet_sent (Accepts (FromCalled octets at decided) ∷ log) q = quiet_sent log q.1
 quiet_sent (Accepts (Tick at given) ∷ log) q = absurd q.0
+quiet_sent (Accepts (Placed at connected) ∷ log) q = absurd q.0
 quiet_sent (RefusesRing fault ∷ log) q = quiet_sent log q.1
 quiet_sent (RefusesDatagram at octets ∷ log) q = quiet_sent log q.1
 quiet_sent (RefusesTick now ∷ log) q = quiet_sent log q.1

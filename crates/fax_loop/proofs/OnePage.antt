@@ -17,7 +17,7 @@ use Rattle.fax_answer.specs.History.{Entry}
 use Rattle.fax_answer.specs.Sent.{pieces_heard, IsOfSignal, page_accepted, RisesBy, Rises}
 use Rattle.fax_call.specs.Writings.{Writing, IsWriting}
 use Rattle.fax_call.specs.Replies.{written, same_width, same_bool, same_format, turn_if}
-use Rattle.fax_call.specs.Calls.{formats_of}
+use Rattle.fax_call.specs.Calls.{Calling, formats_of, not_placed, started}
 use Rattle.fax_call.specs.Given.{IsOfKind, packets_given}
 use Rattle.fax_call.specs.GivenSignals.{IsImage}
 use Rattle.fax_call.proofs.FinePackets.{OneKind}
@@ -76,11 +76,18 @@ turn_none f (Some g) (Some h) a b = none_turns f g h a b
 pub one_format : (page : PageValue) (job : JobValue) → AreAll page job.pages → IsOneFormat (formats_of job)
 one_format page job a n = turn_none page.format (slice_get (formats_of job) n) (slice_get (formats_of job) (n + 1)) (if_format page job.pages n a) (if_format page job.pages (n + 1) a)
 
--- ---- A LEG that gave what the call of its job gives, and whose pages are all one
+-- ---- A LEG whose call was placed, that gave what the call of its job gives, and whose pages are all one
+abbrev pub call_begun : CalledLeg → Calling
+call_begun l = started l.before l.job l.begun
+
+pub begun_is : (l : CalledLeg) → l.placed ≡ true → begun_core l ≡ call_begun l
+begun_is l e = subst (λ (b : Bool). (if◌then◌else◌ {A = Calling} b (call_begun l) (not_placed l.before l.job)) ≡ call_begun l) (sym e) refl
+
 pub record Gives (writes : Writing) (page : PageValue) (l : CalledLeg) : Type 0 where
   pub is_job : IsJob l.job
   pub pages : AreAll page l.job.pages
-  pub given_is : l.given ≡ map written (packets_given writes l.job (begun_core l) l.events)
+  pub placed : l.placed ≡ true
+  pub given_is : l.given ≡ map written (packets_given writes l.job (call_begun l) l.events)
   pub closed : AreClosed l.given
 
 -- ---- WHO HEARS IT: each page for which MCF is decided is the one
@@ -90,7 +97,7 @@ Accepts page (e ∷ before) = IfSome (page_accepted e.decision) (λ p. p ≡ pag
 
 -- a signal that it gave to its end at a place
 abbrev Signal : (writes : Writing) (l : CalledLeg) → ℕ → List ℕ → Type 0
-Signal writes l place octets = IsEnded (CheckOrImage writes l.job [] (begun_core l) l.events) (packets_given writes l.job (begun_core l) l.events) place octets
+Signal writes l place octets = IsEnded (CheckOrImage writes l.job [] (call_begun l) l.events) (packets_given writes l.job (call_begun l) l.events) place octets
 
 signal_is : (writes : Writing) (page : PageValue) (l : CalledLeg) (place : ℕ) (octets : List ℕ) → IsWriting writes → Gives writes page l → signal_at (reverse l.given) place ≡ Some octets → Signal writes l place octets
 signal_is writes page l place octets w g h =
@@ -106,11 +113,11 @@ of_signal writes page l one h p place w g k s =
     let x : Signal writes l place s.octets = signal_is writes page l place s.octets w g s.signal in
     by x x.holds
   where
-    by : (x : Signal writes l place s.octets) → CheckOrImage writes l.job [] (begun_core l) l.events x.older s.octets → p ≡ page
+    by : (x : Signal writes l place s.octets) → CheckOrImage writes l.job [] (call_begun l) l.events x.older s.octets → p ≡ page
     by x (inl check) = absurd (zeros_mean_none check.0 (format_of s.dcs) (coding_of s.dcs) p (subst (λ (os : List ℕ). MeansPage (format_of s.dcs) (coding_of s.dcs) os p) check.1 s.means))
     by x (inr b) =
-        let i : IsImage writes l.job [] (begun_core l) l.events s.octets = b.image in
-        let own : IsOfKind l.job.format one.coding i.dcs = image_kind (IsOfKind l.job.format one.coding) writes l.job [] (begun_core l) l.events s.octets i one.given in
+        let i : IsImage writes l.job [] (call_begun l) l.events s.octets = b.image in
+        let own : IsOfKind l.job.format one.coding i.dcs = image_kind (IsOfKind l.job.format one.coding) writes l.job [] (call_begun l) l.events s.octets i one.given in
         same_under l.job.format one.coding s.dcs i.dcs s.octets p i.means.page (k s.dcs (answered_in h s.dcs s.answered)) own s.means i.means.means
         ∙ page_at page l.job.pages i.page i.means.page g.pages i.means.is_page
 
@@ -130,7 +137,7 @@ pub accepts_the_page : (writes : Writing) (page : PageValue) (l : CalledLeg) (h 
     → ((octets : List ℕ) → Has (pieces_heard h) octets → Contains (pieces.pieces (slots_of (reverse l.given))) (pieces.Frame octets)) → Accepts page h
 accepts_the_page writes page l h bound w g r frames =
     let one : OneKind writes l.job l.before l.begun l.events = one_kind_of writes l.job l.before l.begun l.events w g.is_job (one_format page l.job g.pages) in
-    let slots : slots_of (reverse l.given) ≡ map Some (map written (packets_given writes l.job (begun_core l) l.events)) =
+    let slots : slots_of (reverse l.given) ≡ map Some (map written (packets_given writes l.job (call_begun l) l.events)) =
     map_back l.given ∙ ap (λ (packets : List (List ℕ)). let ss : List Slot = map Some packets in ss) g.given_is in
     rises_accept writes page l one h bound w g
     (λ dcs x. one.heard x.octets dcs (subst (λ (ss : List Slot). Contains (pieces.pieces ss) (pieces.Frame x.octets)) slots (frames x.octets x.heard)) x.says) r

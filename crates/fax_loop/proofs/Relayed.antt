@@ -21,14 +21,14 @@ use Rattle.fax_answer.specs.Sent.{page_accepted, pieces_heard}
 use Rattle.fax_call.specs.Writings.{Writing, IsWriting}
 use Rattle.fax_call.specs.Calls.{Calling}
 use Rattle.fax_gateway.specs.Setups.{Setup}
-use Rattle.fax_gateway.specs.Events.{Event, Ring, FromCalling, FromCalled, Tick, Given, clock}
+use Rattle.fax_gateway.specs.Events.{Event, Ring, FromCalling, FromCalled, Tick, Placed, Given, clock}
 use Rattle.fax_gateway.specs.CallingLegs.{CallingLeg, calling_after, calling_leg, core_of, is_idle, leg_with}
-use Rattle.fax_gateway.specs.CalledLegs.{CalledLeg, core_left, delivered_told, hears, is_free, leg_ticked, outcome_told}
+use Rattle.fax_gateway.specs.CalledLegs.{CalledLeg, core_left, delivered_told, hears, leg_ticked, outcome_told}
 use Rattle.fax_gateway.specs.Forwards.{OrRestored, WasConfirmedIn}
 use Rattle.fax_gateway.specs.Origins.{AreConfirmed, AreOfTheirCalls, IsOfItsCall, JobsAreOfTheirCalls}
 use Rattle.fax_gateway.specs.Reached.{arrived_on}
 use Rattle.fax_gateway.specs.Restored.{RestoredCall, pages_restored}
-use Rattle.fax_gateway.specs.Sides.{Sides, book_of, enters, heard_in_tick, in_tick, leg_of, sends, sends_if, sides}
+use Rattle.fax_gateway.specs.Sides.{Sides, begins_next, book_of, enters, heard_in_tick, in_tick, leg_of, sends, sends_if, sides}
 use Rattle.fax_gateway.specs.Traces.{IsTrace}
 use Rattle.fax_gateway.proofs.SentPages.{leg_confirms_signals, leg_hears_sent_frames}
 use Rattle.fax_loop.specs.Faithful.{AreCarried}
@@ -48,13 +48,14 @@ hears_the_page setup writes trace l page others caller t is w g c =
     (leg_confirms_signals setup writes trace l packets c.arrivals t is c.honest c.arrived_are)
     (λ octets has. leg_hears_sent_frames setup writes trace l packets c.arrivals t is c.honest c.arrived_are (inr (turned caller.given [] g.closed tt)) octets (contains (pieces_heard (core_of l).history) octets has))
 
--- ---- A TRACE WITH ONE RING, its first event
+-- ---- A TRACE WITH ONE RING, its first event, in which no call is placed: a tick begins it
 abbrev pub RingsFirst : List Event → Type 0
 RingsFirst [] = Unit {0}
 RingsFirst (Ring at number ∷ earlier) = earlier ≡ []
 RingsFirst (FromCalling octets at decided read ∷ earlier) = RingsFirst earlier
 RingsFirst (FromCalled octets at decided ∷ earlier) = RingsFirst earlier
 RingsFirst (Tick at given ∷ earlier) = RingsFirst earlier
+RingsFirst (Placed at connected ∷ earlier) = ⊥
 
 abbrev IsBack : List (List ℕ) → Option CallingLeg → Option CallingLeg → Type 0
 IsBack given new old = AreCarried given (arrived_on new) → AreCarried given (arrived_on old)
@@ -113,6 +114,7 @@ earlier_carries setup writes given (Tick at told) earlier c = record {
   rings = c.rings;
   carried = tick_back setup given (calling_leg setup earlier) (clock (Tick at told ∷ earlier)) at told c.carried;
 }
+earlier_carries setup writes given (Placed at connected) earlier c = absurd c.rings
 
 before_carries : (setup : Setup) (writes : Writing) (given : List (List ℕ)) (later earlier : List Event) → Carries setup writes given (later ++ earlier) → Carries setup writes given earlier
 before_carries setup writes given [] earlier c = c
@@ -198,15 +200,15 @@ abbrev pub IfGives : Writing → PageValue → Option CalledLeg → Type 0
 IfGives writes page None = Unit {0}
 IfGives writes page (Some l) = Gives writes page l
 
-begins : (writes : Writing) (page : PageValue) (o : Option JobValue) (leg : Option CalledLeg) (before : Calling) (now : ℕ) → IfSome o (IsOfPage page) → IfGives writes page leg → IfGives writes page (leg_of o before now leg)
+begins : (writes : Writing) (page : PageValue) (o : Option JobValue) (leg : Option CalledLeg) (before : Calling) (now : ℕ) → IfSome o (IsOfPage page) → IfGives writes page leg → IfGives writes page (leg_of true o before now leg)
 begins writes page None leg before now h g = g
 begins writes page (Some job) leg before now h g = begun_gives writes page job before now h.is_job h.pages
 
 sends_gives : (setup : Setup) (writes : Writing) (page : PageValue) (now : ℕ) (s : Sides) → IfSome (book_of (sends_if setup writes now s)).sending (IsOfPage page) → IfGives writes page s.leg → IfGives writes page (sends_if setup writes now s).leg
-sends_gives setup writes page now s h g = by (is_free s.leg) h
+sends_gives setup writes page now s h g = by (begins_next setup s.leg) h
   where
-    by : (b : Bool) → IfSome (book_of (if◌then◌else◌ {A = Sides} b (sends setup writes now s) s)).sending (IsOfPage page) → IfGives writes page (if◌then◌else◌ {A = Sides} b (sends setup writes now s) s).leg
-    by true k = begins writes page (book_of (sends setup writes now s)).sending s.leg (core_left setup writes s.leg) now k g
+    by : (b : Bool) → IfSome (book_of (if◌then◌else◌ {A = Sides} b (sends true setup writes now s) s)).sending (IsOfPage page) → IfGives writes page (if◌then◌else◌ {A = Sides} b (sends true setup writes now s) s).leg
+    by true k = begins writes page (book_of (sends true setup writes now s)).sending s.leg (core_left setup writes s.leg) now k g
     by false k = g
 
 serves_gives : (writes : Writing) (page : PageValue) (leg : Option CalledLeg) (now : ℕ) → IsWriting writes → IfGives writes page leg → IfGives writes page (option_map (leg_ticked writes now) leg)
@@ -239,3 +241,4 @@ called_gives law setup writes (e ∷ earlier) page given new w s c = by e c (cal
         let sent : IfSome (book_of middle).sending (IsOfItsCall setup trace) = in_tick_sent setup trace (delivered_told writes middle.leg now) (outcome_told writes middle.leg now) middle.steps (law setup writes trace c.is_trace).0 in
         let job : IfSome (book_of middle).sending (IsOfPage page) = if_of_page (IsOfItsCall setup trace) (IsOfPage page) (book_of middle).sending (λ job o. of_page setup writes trace page given job new s c o) sent in
         serves_gives writes page middle.leg now w (sends_gives setup writes page now z job g)
+    by (Placed at connected) c g = absurd c.rings

@@ -15,9 +15,9 @@ use Rattle.fax_call.specs.Replies.{Packet, Tells, Part, Due, One, Text, written,
 use Rattle.fax_call.specs.Table.{Move, Stays, Trains, Sends, AsksAgain, Turns, Closes, HangsUp}
 use Rattle.fax_call.specs.Calls.{Calling, moved, heard, timed, text_at, Taken, after_giving, given_first, Ticked, ticked, CallEvent, Comes, Ticks, after_events}
 use Rattle.fax_call.specs.Given.{packets_with, packets_given}
-use Rattle.fax_gateway.specs.CalledLegs.{CalledLeg, begun_core}
+use Rattle.fax_gateway.specs.CalledLegs.{CalledLeg}
 use Rattle.fax_pagestore.specs.Pages.{PageValue}
-use Rattle.fax_loop.proofs.OnePage.{Gives}
+use Rattle.fax_loop.proofs.OnePage.{Gives, call_begun}
 
 abbrev IsShort : Packet → Type 0
 IsShort packet = length (written packet) ≤ 16383
@@ -150,4 +150,4 @@ given_short writes job a (Ticks now ∷ before) q =
     (tick_short writes job (after_events writes job a before) now (events_short writes job a before q)).given (given_short writes job a before q)
 
 pub gives_short : (writes : Writing) (page : PageValue) (l : CalledLeg) → Gives writes page l → AreShort l.given
-gives_short writes page l g = subst AreShort (sym g.given_is) (given_short writes l.job (begun_core l) l.events (omega arith, tt))
+gives_short writes page l g = subst AreShort (sym g.given_is) (given_short writes l.job (call_begun l) l.events (omega arith, tt))

@@ -66,6 +66,7 @@ job_status job.NoAnswer = 5
 job_status job.NoReply = 5
 job_status job.PageRefused = 5
 job_status job.HungUp = 5
+job_status job.NotPlaced = 5
 
 abbrev pub ending_status : Ending → ℕ
 ending_status (endings.Reported outcome) = job_status outcome
