@@ -86,6 +86,8 @@ const SLOW: Training = Training {
 enum Event {
     /// The call of the job begins.
     Start(u64),
+    /// It could not be placed, and is over.
+    FailsToPlace,
     /// A datagram with the next number and this packet comes.
     Comes(&'static str),
     /// DCN comes so, and the call is over at once.
@@ -257,6 +259,7 @@ impl Leg {
     fn play_event(&mut self, rt: &impl Abort, event: Event) -> Result<bool, NoMemory> {
         match event {
             Event::Start(after) => Ok(self.start(rt, after)),
+            Event::FailsToPlace => Ok(self.fail_to_place(rt)),
             Event::Comes(packet) => self.come(packet),
             Event::HangsUp => self.hang_up(),
             Event::Datagram(text) => self.come_as(text),
@@ -290,6 +293,15 @@ impl Leg {
         self.outcome = None;
         self.machine.start(rt, self.now);
         true
+    }
+
+    /// The call of the job could not be placed: whether it is over.
+    fn fail_to_place(&mut self, rt: &impl Abort) -> bool {
+        self.receiver = Receiver::new();
+        self.number = 0;
+        self.outcome = Some(Outcome::NotPlaced);
+        self.machine.fail_to_place(rt);
+        self.machine.state() == State::Idle
     }
 
     /// The octets of a datagram come.

@@ -1,4 +1,5 @@
 //! A whole call on both legs, and what is refused.
+mod asking;
 mod call;
 mod chain;
 mod driving;

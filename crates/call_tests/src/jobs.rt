@@ -100,6 +100,7 @@ const OUTCOMES: &[(Outcome, u8, &str)] = &[
     (Outcome::NoReply, 6, "NoReply"),
     (Outcome::PageRefused, 7, "PageRefused"),
     (Outcome::HungUp, 8, "HungUp"),
+    (Outcome::NotPlaced, 9, "NotPlaced"),
 ];
 
 #[test]
@@ -154,6 +155,36 @@ fn a_job_goes_through_the_book(rt: HostRuntime) -> Result<(), Fail> {
     };
     assert!(rt; refuse_one(&mut jobs) == Some((0, true, 7, true)));
     assert!(rt; jobs.report(0) == Some(wanted) && jobs.report(1).is_none());
+    Ok(())
+}
+
+/// The call of the job that is sent next: before a job waits, while those of calls 9 and 3 do, while the first of them is sent, and
+/// while the second is.
+fn next_calls(rt: &impl Abort, alloc: Global) -> Result<[Option<u32>; 4], Fail> {
+    let mut jobs = Jobs::new(alloc)?;
+    let none = next_call(&jobs);
+    tell(rt, alloc, &mut jobs, &Event::Confirms(9, STANDARD, true))?;
+    tell(rt, alloc, &mut jobs, &Event::Confirms(3, STANDARD, true))?;
+    let first = next_call(&jobs);
+    let sent_first = send_one(&mut jobs);
+    let second = next_call(&jobs);
+    let sent_second = send_one(&mut jobs);
+    assert!(rt; sent_first == Some((9, false, 1)) && sent_second == Some((3, false, 1)));
+    Ok([none, first, second, next_call(&jobs)])
+}
+
+/// The call of the job that waits first.
+fn next_call(jobs: &Jobs<PlainRows>) -> Option<u32> {
+    match jobs.first_waiting() {
+        Some(job) => Some(job.call()),
+        None => None,
+    }
+}
+
+#[test]
+fn the_job_that_was_closed_first_is_next(rt: HostRuntime) -> Result<(), Fail> {
+    let calls = next_calls(&rt, rt.alloc())?;
+    assert!(rt; calls == [None, Some(9), Some(3), None]);
     Ok(())
 }
 

@@ -4,7 +4,7 @@ use super::{
     MPS_GIVEN, ONE, PREAMBLE, PageText, RTN, RTP, SLOW, STANDARD, STARTED, TRAINED, TWO, Training,
     WHITE, WHITE_PAGE, play_each,
 };
-use fax_call::Outcome;
+use fax_call::{Outcome, State};
 use fax_pagestore::Format;
 use fax_runcodes::Width;
 use std::test::Fail;
@@ -195,7 +195,17 @@ const EARLY: &[Event] = &[
 /// The second of two slots, and behind it the first: both confirm the page.
 const TWICE: &str = "000309c002800002ffc83140000109c002800002ffc83140";
 
-static CALLS: [Call; 14] = [
+/// The next call of the job could not be placed: nothing is given, and nothing that comes is heard.
+const UNPLACED: &[Event] = &[
+    Event::FailsToPlace,
+    Event::Delivered(0),
+    Event::Quiet(40),
+    Event::Comes(DIS),
+    Event::Quiet(100),
+    Event::In(State::Idle),
+];
+
+static CALLS: [Call; 15] = [
     Call {
         name: "a call with one page",
         pages: ONE,
@@ -363,6 +373,25 @@ static CALLS: [Call; 14] = [
                 Event::Ends(41, Outcome::Delivered),
                 Event::Delivered(2),
             ],
+        ],
+    },
+    Call {
+        name: "a call that could not be placed, between two that were",
+        pages: ONE,
+        scripts: &[
+            STARTED,
+            TRAINED,
+            WHITE_PAGE,
+            EOP_GIVEN,
+            CONFIRMED,
+            &[Event::Delivered(1)],
+            UNPLACED,
+            STARTED,
+            TRAINED,
+            WHITE_PAGE,
+            EOP_GIVEN,
+            CONFIRMED,
+            &[Event::Delivered(1)],
         ],
     },
 ];

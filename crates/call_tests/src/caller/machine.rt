@@ -46,6 +46,17 @@ impl CallingMachine {
             .start(self.job.format(), self.job.page_count(), now);
     }
 
+    /// The call of the job could not be placed, where none is on.
+    pub fn fail_to_place(&mut self, rt: &impl Abort) {
+        let State::Idle = self.caller.state() else {
+            rt.abort()
+        };
+        // what it ensures of the job is that it has a page
+        let _ = self.job.pages();
+        self.caller
+            .fail_to_place(self.job.format(), self.job.page_count());
+    }
+
     /// The slots of a datagram come.
     pub fn slots(&mut self, decided: &Decided<'_>, now: u64) -> Result<(), NoMemory> {
         self.caller.slots(decided, now)?;

@@ -14,10 +14,10 @@ use std::process::Abort;
 pub(super) const TURNS: u32 = 55;
 
 /// The turn in which its job ends.
-const LAST_TURN: u32 = 54;
+pub(super) const LAST_TURN: u32 = 54;
 
 /// The first turn in which the called leg gives a datagram. Each leg gives one a turn.
-const FIRST_CALLED: u32 = 6;
+pub(super) const FIRST_CALLED: u32 = 6;
 
 /// How many datagrams are given, on the calling and on the called leg.
 pub(super) const SENDS: u32 = 7 + 49;

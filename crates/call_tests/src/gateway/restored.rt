@@ -8,7 +8,7 @@ use std::alloc::Global;
 /// How many turns there are, 40 ms apart: longer than two calls that nobody answers (ITU-T T.30, 5.4.3.1: T1 is 35 s at least).
 const TURNS: u64 = 2500;
 
-const FORMAT: Format = Format {
+pub(super) const FORMAT: Format = Format {
     width: Width::W1728,
     fine: false,
 };
@@ -57,7 +57,7 @@ fn reported(gateway: &Gateway<PlainRows>, i: usize) -> Option<(u32, u32)> {
 }
 
 /// Both calls, the older one first.
-fn calls(alloc: Global) -> Option<Vec<RestoredCall<PlainRows>>> {
+pub(super) fn calls(alloc: Global) -> Option<Vec<RestoredCall<PlainRows>>> {
     let mut older = Vec::new(alloc);
     older.push(confirmed(alloc, false)?).ok()?;
     older.push(confirmed(alloc, true)?).ok()?;
