@@ -4,6 +4,7 @@ use Rattle.std.proofs.lemmas.List.{length-append}
 use Rattle.fax_frames.specs.declared.dcs.Dcs.{Dcs}
 use Rattle.fax_frames.specs.Capabilities.{format_of, coding_of}
 use Rattle.fax_pagestore.specs.Pages.{PageValue}
+use Rattle.fax_pagestore.specs.Fill.{less_fill, zeros_after}
 use Rattle.fax_pagestore.specs.Readers.{ReaderValue, new_reader}
 use Rattle.fax_pagestore.proofs.ReaderLemmas.{nothing_read}
 use Rattle.fax_ifp.specs.Pieces.{Frame, Start, Octets, End, Gap}
@@ -164,7 +165,8 @@ begun_in : (s : State) (dcs : Dcs) (readers : List ReaderValue) → s ≡ Page d
 begun_in s dcs readers e = ap (λ (x : State). begun x readers) e
 
 new_of : (dcs : Dcs) → IsReaderOf dcs [] (new_reader (format_of dcs) (coding_of dcs))
-new_of dcs = record { format = refl; coding = refl; read = nothing_read (format_of dcs) (coding_of dcs) }
+unfolding less_fill zeros_after
+new_of dcs = record { format = refl; coding = refl; read = record { behind = nothing_read (format_of dcs) (coding_of dcs); zeros = λ not_yet. refl } }
 
 pub holds_start : (s : State) (h : List Entry) (i : ImageValue) (kind : ℕ) → Holds s (record { piece = Start kind; decision = PassesOver } ∷ h) (record { readers = begun s i.readers; accepted = i.accepted; run = 0; longest = 0 })
 holds_start s h i kind =

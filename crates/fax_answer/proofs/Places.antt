@@ -149,7 +149,7 @@ back_first (here ∷ before) readers xs count mark c m g e =
 reader_again : (here now : ReaderValue) → Extends here now → reader_at (mark_of here) now.rows ≡ here
 reader_again here now e =
     let rows : take (length here.rows) now.rows ≡ here.rows = ap (take (length here.rows)) e.rows ∙ take_at here.rows e.more (length here.rows) refl in
-    ap (λ (r : List Elements). let k : ReaderValue = record { format = here.format; coding = here.coding; rows = r; tag = here.tag; left = here.left; settled = here.settled } in k) rows
+    ap (λ (r : List Elements). let k : ReaderValue = record { format = here.format; coding = here.coding; rows = r; tag = here.tag; left = here.left; zeros = here.zeros; settled = here.settled } in k) rows
 
 -- the reader that is put back
 pub back_to : (old readers : List ReaderValue) (xs popped : List ReaderValue) (count : ℕ) (mark : MarkValue) (r : ReaderValue) → count ≡ length old → mark_of_first old ≡ Some mark → GoesOn old readers → reverse xs ≡ readers
