@@ -1,6 +1,6 @@
 -- A trace worked through on the definitions: a ring and four ticks, with all that a gateway answers. The newest event stands
 -- first.
-use Rattle.std.proofs.Common.{◌≡◌, ℕ, List, [], ◌∷◌, Option, Some, None, refl, ap}
+use Rattle.std.proofs.Common.{◌≡◌, ℕ, false, List, [], ◌∷◌, Option, Some, None, refl, ap}
 use Rattle.std.proofs.Common.{arith, lit<}
 use Rattle.fax_bits.specs.Bits as bits
 use Rattle.fax_udptl.specs.Datagrams.{datagram_of, packet_at, packets_at, length_at, secondaries_at, written_length, written_packet, written_datagram}
@@ -36,7 +36,7 @@ identifies = Tick 80 (gives (Some dis)) ∷ Tick 40 (gives (Some preamble)) ∷ 
 
 -- the usual setup
 abbrev pub usual : Setup
-usual = record { redundancy = 3; few = omega arith; pause = 40; is_pause = (omega arith, omega arith); restored = []; are_pages = tt }
+usual = record { redundancy = 3; few = omega arith; pause = 40; is_pause = (omega arith, omega arith); asks = false; restored = []; are_pages = tt }
 
 is_trace : (writes : Writing) → IsTrace usual writes identifies
 unfolding identifies rung ced preamble dis gives written_datagram written_packet written_length written_behind
