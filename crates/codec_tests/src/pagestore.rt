@@ -733,6 +733,29 @@ fn reads_long_texts_whole_and_in_pieces(rt: HostRuntime) -> Result<(), Fail> {
     Ok(())
 }
 
+#[test]
+fn fill_is_not_kept(rt: HostRuntime) -> Result<(), Fail> {
+    let mut reader: PageReader<PackedRows> = PageReader::new(rt.alloc(), STANDARD, Coding::Mh);
+    // an EOL, a white line, and the EOLs of the end, with fill before each and behind the last
+    for piece in [
+        &[0x00, 0x01, 0x4d, 0x9a, 0x80][..],
+        &[0x01],
+        &[0x80, 0x08, 0x00, 0x80],
+    ] {
+        reader.feed(piece)?;
+        for _ in 0..100 {
+            reader.feed(&[0x00; 100])?;
+            assert!(rt; reader.pending() <= 12, "{}", reader.pending());
+        }
+    }
+    assert!(rt; !reader.is_settled());
+    reader.feed(&[0x08, 0x00, 0x80, 0x08, 0x00, 0x80])?;
+    assert!(rt; reader.is_settled());
+    assert_eq!(rt; reader.pending(), 0);
+    assert!(rt; reader.check().is_ok());
+    Ok(())
+}
+
 /// The standard format of a page of 1728 elements a row.
 const STANDARD: Format = Format {
     width: Width::W1728,
