@@ -89,7 +89,7 @@ module _ (setup : Setup) (writes : Writing) (before : List Tiding) where
   leg_quiet log trace p old new none stays leg = subst (λ (l : List Entry). Leg setup (events l ++ trace) new p) (sym none) (leg_still setup trace old new p stays leg)
 
   -- Where this is all that came, nothing is told, and what the wire did is of the trace still.
-  IsInert : List Entry → List Event → List CallPage → Option HoldingValue → Type 0
+  abbrev IsInert : List Entry → List Event → List CallPage → Option HoldingValue → Type 0
   IsInert log trace p new = (told_in setup (events log ++ trace) before ≡ told_in setup trace before) × Leg setup (events log ++ trace) new p
 
   inert_by : (log is : List Entry) (trace : List Event) (p : List CallPage) (new : Option HoldingValue) → log ≡ is → IsInert is trace p new → IsInert log trace p new
