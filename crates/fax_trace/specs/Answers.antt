@@ -38,7 +38,7 @@ Ends behind others (Err NoMemory) = Unit {0}
 -- are told of them, and these last ones behind.
 pub record AreTold (setup : Setup) (writes : Writing) (events : List ScriptEvent) (last : List (List ℕ)) (text : List ℕ) : Type 0 where
   pub played : Played
-  pub is_played : PlaysAll setup nothing_played events played
+  pub is_played : PlaysAll setup writes nothing_played events played
   pub is_trace : IsTrace setup writes played.trace
   pub text_is : text ≡ text_of_lines (played.lines ++ last)
 

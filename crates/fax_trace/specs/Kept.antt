@@ -1,7 +1,8 @@
 -- What a player and an answer hold of what was played.
-use Rattle.std.specs.Prelude.{◌≡◌, ℕ, List, [], ◌++◌, length, codes}
+use Rattle.std.specs.Prelude.{◌≡◌, ℕ, ◌⊎◌, List, [], ◌∷◌, ◌++◌, length, codes}
 use Rattle.fax_call.specs.Writings.{IsWriting, Writing}
 use Rattle.fax_gateway.specs.declared.settings.Settings.{Settings}
+use Rattle.fax_gateway.specs.Events.{Event, moment_of}
 use Rattle.fax_gateway.specs.Setups.{AreSet, Setup}
 use Rattle.fax_gateway.specs.Reached.{IsReachedBy}
 use Rattle.fax_command.specs.RowLines.{lines_of, text_of_lines}
@@ -10,7 +11,8 @@ use Rattle.fax_trace.specs.declared.player.Player.{Player}
 use Rattle.fax_trace.specs.declared.answer.Answer.{Answer}
 use Rattle.fax_trace.specs.declared.answer.Answer.TheVariants.{Done, Fault, NoMemory}
 use Rattle.fax_trace.specs.Scripts.{TellEvents}
-use Rattle.fax_trace.specs.Playing.{Played, Plays, nothing_played}
+use Rattle.fax_trace.specs.Told.{lines_told}
+use Rattle.fax_trace.specs.Playing.{Played, Plays, IsRefusal, moment_at, nothing_played, scripted}
 use Rattle.fax_trace.specs.Answers.{Outcome, Ends, AreTold}
 
 -- this was played on its gateway, and told in its text
@@ -22,8 +24,28 @@ pub record IsPlaying (setup : Setup) (writes : Writing) (played : Played) (playe
 -- one event more
 pub record PlaysOn (setup : Setup) (writes : Writing) (old : Played) (event : ScriptEvent) (player : Player) : Type 0 where
   pub new : Played
-  pub plays : Plays setup old event new
+  pub plays : Plays setup writes old event new
   pub is_playing : IsPlaying setup writes new player
+
+-- Its gateway accepted one event more, and a text has the lines of its answer.
+pub record HasAccepted (setup : Setup) (writes : Writing) (old : Played) (event : ScriptEvent) (text : List ℕ) (player : Player) : Type 0 where
+  pub accepted : Event
+  pub event_is : scripted accepted ≡ event
+  pub at : moment_of accepted ≡ moment_at event old.moment
+  pub reached : IsReachedBy setup writes (accepted ∷ old.trace) player.gateway
+  pub moment : player.moment ≡ moment_of accepted
+  pub text_is : text ≡ text_of_lines (lines_told accepted)
+
+-- or it refused it, and a text has the line that says why
+pub record HasRefused (setup : Setup) (writes : Writing) (old : Played) (event : ScriptEvent) (text : List ℕ) (player : Player) : Type 0 where
+  pub line : List ℕ
+  pub cause : IsRefusal setup writes old.trace event line
+  pub reached : IsReachedBy setup writes old.trace player.gateway
+  pub moment : player.moment ≡ moment_at event old.moment
+  pub text_is : text ≡ text_of_lines (line ∷ [])
+
+abbrev pub HasAnswered : Setup → Writing → Played → ScriptEvent → List ℕ → Player → Type 0
+HasAnswered setup writes old event text player = HasAccepted setup writes old event text player ⊎ HasRefused setup writes old event text player
 
 -- nothing was played
 abbrev pub IsNew : Player → Type 0

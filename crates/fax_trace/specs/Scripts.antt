@@ -3,22 +3,29 @@ use Rattle.std.specs.Prelude.{◌≡◌, ℕ, ◌<◌, ◌^◌, List, [], ◌∷
 use Rattle.std.specs.Str.Parse.{IsNumeral, digits_value}
 use Rattle.hex.specs.Hex.{decode_of}
 use Rattle.fax_trace.specs.declared.event.ScriptEvent.{ScriptEvent}
-use Rattle.fax_trace.specs.declared.event.ScriptEvent.TheVariants.{Ring, FromCalling, FromCalled, Tick}
+use Rattle.fax_trace.specs.declared.event.ScriptEvent.TheVariants.{Ring, FromCalling, FromCalled, Tick, Connected, NotConnected}
 
 -- one or more decimal digits tell a moment below 2^64
 abbrev pub TellsMoment : List ℕ → ℕ → Type 0
 TellsMoment digits moment = IsNumeral 10 digits × (digits_value 10 digits ≡ moment) × (moment < 2 ^ 64)
 
+-- a letter, a space, and a moment
+abbrev pub TellsMomentBehind : List ℕ → List ℕ → ℕ → Type 0
+TellsMomentBehind letter line moment = (digits : List ℕ) × (line ≡ letter ++ digits) × TellsMoment digits moment
+
 -- a letter, a space, and hex text of these octets, in either case
 abbrev pub TellsDatagram : List ℕ → List ℕ → List ℕ → Type 0
 TellsDatagram letter line octets = (text : List ℕ) × (line ≡ letter ++ text) × (decode_of text ≡ Ok octets)
 
--- a line tells an event: a ring, a datagram of either leg, or that time goes on to a moment
+-- a line tells an event: a ring; a datagram of either leg; that time goes on to a moment; or that at a moment the call of the job
+-- that is asked for is placed, or could not be
 abbrev pub TellsEvent : List ℕ → ScriptEvent → Type 0
 TellsEvent line Ring = line ≡ codes "R"
 TellsEvent line (FromCalling octets) = TellsDatagram (codes "A ") line octets
 TellsEvent line (FromCalled octets) = TellsDatagram (codes "B ") line octets
-TellsEvent line (Tick moment) = (digits : List ℕ) × (line ≡ codes "T " ++ digits) × TellsMoment digits moment
+TellsEvent line (Tick moment) = TellsMomentBehind (codes "T ") line moment
+TellsEvent line (Connected moment) = TellsMomentBehind (codes "C ") line moment
+TellsEvent line (NotConnected moment) = TellsMomentBehind (codes "N ") line moment
 
 -- lines tell these events, one by one
 abbrev pub TellEvents : List (List ℕ) → List ScriptEvent → Type 0

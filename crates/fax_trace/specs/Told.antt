@@ -3,7 +3,7 @@ use Rattle.std.specs.Prelude.{ℕ, List, [], ◌∷◌, ◌++◌, codes, decimal
 use Rattle.hex.specs.Hex.{encode_lower}
 use Rattle.fax_jobs.specs.ReportTexts.{report_text}
 use Rattle.fax_jobs.specs.declared.report.Report.{Report}
-use Rattle.fax_gateway.specs.Events.{Event, Ring, FromCalling, FromCalled, Tick, Given}
+use Rattle.fax_gateway.specs.Events.{Event, Ring, FromCalling, FromCalled, Tick, Placed, Given}
 
 -- the line of a datagram that a tick gives, where it gives one
 abbrev pub datagram_lines : List ℕ → Option (List ℕ) → List (List ℕ)
@@ -20,9 +20,15 @@ abbrev pub given_lines : Given → List (List ℕ)
 given_lines given =
     datagram_lines (codes "a ") given.on_calling ++ (datagram_lines (codes "b ") given.on_called ++ job_lines given.report)
 
--- the lines of an accepted event
+-- the line of a call that is asked for, where one is
+abbrev pub asked_lines : Option ℕ → List (List ℕ)
+asked_lines None = []
+asked_lines (Some call) = (codes "asks " ++ decimal call) ∷ []
+
+-- the lines of what a gateway answers to an accepted event
 abbrev pub lines_told : Event → List (List ℕ)
 lines_told (Ring now number) = (codes "ring " ++ decimal number) ∷ []
 lines_told (FromCalling octets now decided read) = []
 lines_told (FromCalled octets now decided) = []
 lines_told (Tick now given) = given_lines given
+lines_told (Placed now connected) = []

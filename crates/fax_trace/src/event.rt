@@ -17,6 +17,11 @@ pub enum ScriptEvent {
     FromCalled(Octets),
     /// `T` and a number: time goes on to this moment, in milliseconds.
     Tick(u64),
+    /// `C` and a number: at this moment, in milliseconds, the call of the job that is asked for is placed: the called machine
+    /// has answered.
+    Connected(u64),
+    /// `N` and a number: at this moment that machine could not be reached.
+    NotConnected(u64),
 }
 
 /// The event that a line tells.
@@ -33,8 +38,14 @@ pub fn event_of_line(alloc: Global, line: &[u8]) -> Result<Option<ScriptEvent>, 
     if let Some(text) = behind(line, b'B') {
         return Ok(octets_of_hex(alloc, text)?.map(ScriptEvent::FromCalled));
     }
-    match behind(line, b'T') {
-        Some(digits) => Ok(moment_of(digits).map(ScriptEvent::Tick)),
+    if let Some(digits) = behind(line, b'T') {
+        return Ok(moment_of(digits).map(ScriptEvent::Tick));
+    }
+    if let Some(digits) = behind(line, b'C') {
+        return Ok(moment_of(digits).map(ScriptEvent::Connected));
+    }
+    match behind(line, b'N') {
+        Some(digits) => Ok(moment_of(digits).map(ScriptEvent::NotConnected)),
         None => Ok(None),
     }
 }

@@ -4,12 +4,12 @@ ghost use Rattle.fax_call.specs.Writings.{IsWriting, Writing};
 ghost use Rattle.fax_gateway.specs.Setups.{AreAllowed, Setup};
 ghost use Rattle.fax_trace.specs.declared.event.ScriptEvent.TheVariants as script;
 ghost use Rattle.fax_trace.specs.Playing.{Played};
-ghost use Rattle.fax_trace.specs.Kept.{IsNew, IsPlaying, PlaysOn};
+ghost use Rattle.fax_trace.specs.Kept.{HasAnswered, IsNew, IsPlaying, PlaysOn};
 
 use crate::event::ScriptEvent;
-use crate::told::{lines_of_given, numbered_line};
+use crate::told::{lines_of_given, numbered_line, push_asked};
 use fax_bits::NoMemory;
-use fax_gateway::{Gateway, RingFault, Settings};
+use fax_gateway::{Gateway, PlaceFault, RingFault, Settings};
 use fax_pagestore::PackedRows;
 use std::alloc::Global;
 
@@ -18,7 +18,7 @@ use std::alloc::Global;
 pub(crate) struct Player {
     alloc: Global,
     gateway: Gateway<PackedRows>,
-    /// The moment of the last tick of the script, in milliseconds; 0 before the first.
+    /// The last moment that the script told, in milliseconds; 0 before the first.
     moment: u64,
     text: Vec<u8>,
 }
@@ -39,18 +39,18 @@ impl Player {
         })
     }
 
-    /// Plays an event, and tells what the gateway answers. An `Err` leaves the text as it was.
+    /// Plays an event, and tells what the gateway answers, and the call that it asks for from then on. An `Err` leaves the text as
+    /// it was.
     pub fn play(&mut self, event: ScriptEvent) -> Result<(), NoMemory>
         ensures played { OnOk result ((setup : Setup) (writes : Writing) (old : Played) → IsWriting writes → IsPlaying setup writes old self.old
             → PlaysOn setup writes old event self.new) }
         ensures err { OnErr result (self.new.text.items ≡ self.old.text.items) }
     {
-        match event {
-            ScriptEvent::Ring => self.ring(),
-            ScriptEvent::FromCalling(octets) => self.hear_calling(octets.as_slice()),
-            ScriptEvent::FromCalled(octets) => self.hear_called(octets.as_slice()),
-            ScriptEvent::Tick(moment) => self.tick(moment),
-        }
+        let was_asked = self.gateway.asked();
+        let mut lines = self.answer(event)?;
+        push_asked(self.alloc, &mut lines, was_asked, self.gateway.asked())?;
+        self.text.extend_from_slice(lines.as_slice())?;
+        Ok(())
     }
 
     /// What was told.
@@ -60,54 +60,107 @@ impl Player {
         self.text
     }
 
-    /// It rings at the moment of the last tick.
-    fn ring(&mut self) -> Result<(), NoMemory>
-        ensures played { OnOk result ((setup : Setup) (writes : Writing) (old : Played) → IsPlaying setup writes old self.old
-            → PlaysOn setup writes old script.Ring self.new) }
-        ensures err { OnErr result (self.new.text.items ≡ self.old.text.items) }
+    /// The script told a moment: what comes behind it comes then.
+    fn go_on_to(&mut self, moment: u64)
+        ensures { self.new ≡ record self.old { moment = moment } }
     {
-        match self.gateway.ring(self.moment) {
-            Ok(number) => {
-                let line = numbered_line(self.alloc, b"ring ", number)?;
-                self.text.extend_from_slice(line.as_slice())?;
-            }
-            Err(RingFault::Busy) => self.text.extend_from_slice(b"ring refused 1 Busy\n")?,
-            Err(RingFault::NoNumber) => self.text.extend_from_slice(b"ring refused 2 NoNumber\n")?,
-            Err(RingFault::NoMemory) => return Err(NoMemory),
-        }
-        Ok(())
+        self.moment = moment;
     }
 
-    /// The octets of a datagram come on the calling leg, at the moment of the last tick.
-    fn hear_calling(&mut self, octets: &[u8]) -> Result<(), NoMemory>
-        ensures played { OnOk result ((setup : Setup) (writes : Writing) (old : Played) → IsPlaying setup writes old self.old
-            → PlaysOn setup writes old (script.FromCalling octets.now) self.new) }
-        ensures err { OnErr result (self.new.text.items ≡ self.old.text.items) }
+    /// Hands an event to the gateway: the lines of what it answers.
+    fn answer(&mut self, event: ScriptEvent) -> Result<Vec<u8>, NoMemory>
+        ensures answered { IfOk result (λ lines. (setup : Setup) (writes : Writing) (old : Played) → IsWriting writes → IsPlaying setup writes old self.old
+            → HasAnswered setup writes old event lines.items self.new) }
+        ensures text { self.new.text ≡ self.old.text }
+    {
+        match event {
+            ScriptEvent::Ring => self.ring(),
+            ScriptEvent::FromCalling(octets) => self.hear_calling(octets.as_slice()),
+            ScriptEvent::FromCalled(octets) => self.hear_called(octets.as_slice()),
+            ScriptEvent::Tick(moment) => self.tick(moment),
+            ScriptEvent::Connected(moment) => self.connect(moment),
+            ScriptEvent::NotConnected(moment) => self.not_connected(moment),
+        }
+    }
+
+    /// It rings at the last moment.
+    fn ring(&mut self) -> Result<Vec<u8>, NoMemory>
+        ensures answered { IfOk result (λ lines. (setup : Setup) (writes : Writing) (old : Played) → IsPlaying setup writes old self.old
+            → HasAnswered setup writes old script.Ring lines.items self.new) }
+        ensures text { self.new.text ≡ self.old.text }
+    {
+        let alloc = self.alloc;
+        match self.gateway.ring(self.moment) {
+            Ok(number) => numbered_line(alloc, b"ring ", number),
+            Err(RingFault::Busy) => Ok(Vec::from_slice(alloc, b"ring refused 1 Busy\n")?),
+            Err(RingFault::NoNumber) => Ok(Vec::from_slice(alloc, b"ring refused 2 NoNumber\n")?),
+            Err(RingFault::NoMemory) => Err(NoMemory),
+        }
+    }
+
+    /// The octets of a datagram come on the calling leg, at the last moment.
+    fn hear_calling(&mut self, octets: &[u8]) -> Result<Vec<u8>, NoMemory>
+        ensures answered { IfOk result (λ lines. (setup : Setup) (writes : Writing) (old : Played) → IsPlaying setup writes old self.old
+            → HasAnswered setup writes old (script.FromCalling octets.now) lines.items self.new) }
+        ensures text { self.new.text ≡ self.old.text }
     {
         self.gateway.from_calling(octets, self.moment)?;
-        Ok(())
+        Ok(Vec::new(self.alloc))
     }
 
     /// The same on the called leg.
-    fn hear_called(&mut self, octets: &[u8]) -> Result<(), NoMemory>
-        ensures played { OnOk result ((setup : Setup) (writes : Writing) (old : Played) → IsPlaying setup writes old self.old
-            → PlaysOn setup writes old (script.FromCalled octets.now) self.new) }
-        ensures err { OnErr result (self.new.text.items ≡ self.old.text.items) }
+    fn hear_called(&mut self, octets: &[u8]) -> Result<Vec<u8>, NoMemory>
+        ensures answered { IfOk result (λ lines. (setup : Setup) (writes : Writing) (old : Played) → IsPlaying setup writes old self.old
+            → HasAnswered setup writes old (script.FromCalled octets.now) lines.items self.new) }
+        ensures text { self.new.text ≡ self.old.text }
     {
         self.gateway.from_called(octets, self.moment)?;
-        Ok(())
+        Ok(Vec::new(self.alloc))
     }
 
     /// Time goes on to a moment.
-    fn tick(&mut self, moment: u64) -> Result<(), NoMemory>
-        ensures played { OnOk result ((setup : Setup) (writes : Writing) (old : Played) → IsWriting writes → IsPlaying setup writes old self.old
-            → PlaysOn setup writes old (script.Tick moment) self.new) }
-        ensures err { OnErr result (self.new.text.items ≡ self.old.text.items) }
+    fn tick(&mut self, moment: u64) -> Result<Vec<u8>, NoMemory>
+        ensures answered { IfOk result (λ lines. (setup : Setup) (writes : Writing) (old : Played) → IsWriting writes → IsPlaying setup writes old self.old
+            → HasAnswered setup writes old (script.Tick moment) lines.items self.new) }
+        ensures text { self.new.text ≡ self.old.text }
     {
+        self.go_on_to(moment);
         let given = self.gateway.tick(moment)?;
-        let lines = lines_of_given(self.alloc, &given)?;
-        self.text.extend_from_slice(lines.as_slice())?;
-        self.moment = moment;
-        Ok(())
+        lines_of_given(self.alloc, &given)
+    }
+
+    /// The call of the job that is asked for is placed at a moment.
+    fn connect(&mut self, moment: u64) -> Result<Vec<u8>, NoMemory>
+        ensures answered { IfOk result (λ lines. (setup : Setup) (writes : Writing) (old : Played) → IsPlaying setup writes old self.old
+            → HasAnswered setup writes old (script.Connected moment) lines.items self.new) }
+        ensures text { self.new.text ≡ self.old.text }
+    {
+        let alloc = self.alloc;
+        self.go_on_to(moment);
+        match self.gateway.connect(moment) {
+            Ok(()) => Ok(Vec::new(alloc)),
+            Err(PlaceFault::NotAsked) => Ok(Vec::from_slice(
+                alloc,
+                b"connect refused 1 NotAsked\n",
+            )?),
+            Err(PlaceFault::NoMemory) => Err(NoMemory),
+        }
+    }
+
+    /// It could not be placed, at a moment.
+    fn not_connected(&mut self, moment: u64) -> Result<Vec<u8>, NoMemory>
+        ensures answered { IfOk result (λ lines. (setup : Setup) (writes : Writing) (old : Played) → IsPlaying setup writes old self.old
+            → HasAnswered setup writes old (script.NotConnected moment) lines.items self.new) }
+        ensures text { self.new.text ≡ self.old.text }
+    {
+        let alloc = self.alloc;
+        self.go_on_to(moment);
+        match self.gateway.not_connected(moment) {
+            Ok(()) => Ok(Vec::new(alloc)),
+            Err(PlaceFault::NotAsked) => {
+                Ok(Vec::from_slice(alloc, b"not-connected refused 1 NotAsked\n")?)
+            }
+            Err(PlaceFault::NoMemory) => Err(NoMemory),
+        }
     }
 }

@@ -2,7 +2,8 @@
 ghost use Rattle.std.specs.Prelude.{ℕ, ◌≡◌, ◌++◌, ◌∷◌, [], List, codes, decimal, IfOk, OnOk, string_bytes};
 ghost use Rattle.fax_command.specs.RowLines.{text_of_lines};
 ghost use Rattle.fax_gateway.specs.Reached.{given_shown};
-ghost use Rattle.fax_trace.specs.Told.{datagram_lines, given_lines, job_lines};
+ghost use Rattle.fax_gateway.specs.Turns.{call_if_new};
+ghost use Rattle.fax_trace.specs.Told.{asked_lines, datagram_lines, given_lines, job_lines};
 
 use crate::hex_text::push_hex;
 use fax_bits::{NoMemory, Octets};
@@ -24,6 +25,23 @@ pub(crate) fn numbered_line<I: Integer>(
     text.extend_from_slice(buffer.format(number).as_bytes())?;
     text.push(b'\n')?;
     Ok(text)
+}
+
+/// Adds the line of the call that is asked for, where none was.
+pub(crate) fn push_asked(
+    alloc: Global,
+    text: &mut Vec<u8>,
+    was_asked: Option<u32>,
+    is_asked: Option<u32>,
+) -> Result<(), NoMemory>
+    ensures { OnOk result (text.new.items ≡ text.old.items ++ text_of_lines (asked_lines (call_if_new was_asked is_asked))) }
+{
+    let (None, Some(call)) = (was_asked, is_asked) else {
+        return Ok(());
+    };
+    let line = numbered_line(alloc, b"asks ", call)?;
+    text.extend_from_slice(line.as_slice())?;
+    Ok(())
 }
 
 /// The lines of what a tick gives.
