@@ -3,7 +3,7 @@ use Rattle.std.specs.Prelude.{Bool, true, false, ℕ, List, [], ◌++◌, Option
 use Rattle.fax_frames.specs.declared.frame.Frame.{Frame}
 use Rattle.fax_frames.specs.declared.frame.Frame.TheVariants as frames
 use Rattle.fax_jobs.specs.declared.outcome.Outcome.{Outcome}
-use Rattle.fax_jobs.specs.declared.outcome.Outcome.TheVariants.{Delivered, NotReceiver, WidthLacking, FineLacking, RatesSpent, NoAnswer, NoReply, PageRefused, HungUp}
+use Rattle.fax_jobs.specs.declared.outcome.Outcome.TheVariants.{Delivered, NotReceiver, WidthLacking, FineLacking, RatesSpent, NoAnswer, NoReply, PageRefused, HungUp, NotPlaced}
 use Rattle.fax_answer.specs.declared.refusal.Refusal.{Refusal}
 use Rattle.fax_answer.specs.declared.refusal.Refusal.TheVariants.{Fault, NotWhole, GapBehind, SeveralImages, NoImage, Untrained}
 use Rattle.fax_telling.specs.declared.exchange.Exchange.{Exchange}
@@ -78,3 +78,4 @@ ended_text NoAnswer unanswered = codes ": T1, no DIS in 35 s"
 ended_text NoReply unanswered = unanswered_text unanswered
 ended_text PageRefused unanswered = codes ": it refused a page three times"
 ended_text HungUp unanswered = codes ": it ended the call"
+ended_text NotPlaced unanswered = codes ": it could not be reached"

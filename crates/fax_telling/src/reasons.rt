@@ -40,6 +40,7 @@ pub fn why_ended(
         Outcome::NoReply => return why_unanswered(alloc, unanswered),
         Outcome::PageRefused => ": it refused a page three times",
         Outcome::HungUp => ": it ended the call",
+        Outcome::NotPlaced => ": it could not be reached",
     };
     Ok(String::from_str(alloc, words)?)
 }
