@@ -33,7 +33,7 @@ loop-line-preserved c =
       played = λ setup writes set written.
           let p = so_far.played setup writes set written in
           let next = c.in_ok-play.ensures.played setup writes p.0 written p.2 in
-          (next.new, PlaysAll-push setup nothing_played so_far.events event p.0 next.new p.1 next.plays, next.is_playing);
+          (next.new, PlaysAll-push setup writes nothing_played so_far.events event p.0 next.new p.1 next.plays, next.is_playing);
     }
 
 pub returns : goal.returns

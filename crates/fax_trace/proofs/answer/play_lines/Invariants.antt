@@ -18,7 +18,7 @@ invariant-loop-line l =
       short : l.lines + length l.rest ≤ length l.script;
       events : List ScriptEvent;
       tell : TellEvents before events;
-      played : (setup : Setup) (writes : Writing) → AreSet setup l.fn.player.gateway.settings → IsWriting writes → (p : Played) × PlaysAll setup nothing_played events p × IsPlaying setup writes p l.player;
+      played : (setup : Setup) (writes : Writing) → AreSet setup l.fn.player.gateway.settings → IsWriting writes → (p : Played) × PlaysAll setup writes nothing_played events p × IsPlaying setup writes p l.player;
     }
 
 abbrev pub decreases-loop-line : goal.decreases-loop-line
