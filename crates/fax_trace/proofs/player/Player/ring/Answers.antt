@@ -1,4 +1,4 @@
-use Rattle.std.proofs.Common.{◌≡◌, ℕ, Bool, true, false, List, Result, Err, codes, inl, inr, refl, ap}
+use Rattle.std.proofs.Common.{◌≡◌, ℕ, Bool, true, false, Result, Err, codes, inl, inr, refl, ap}
 use Rattle.fax_gateway.specs.declared.fault.RingFault.{RingFault}
 use Rattle.fax_gateway.specs.declared.fault.RingFault.TheVariants.{NoNumber}
 use Rattle.fax_gateway.specs.CallingLegs.{calling_leg, idle_after}
