@@ -3,6 +3,7 @@ use Rattle.std.proofs.Common.{◌≡◌, ℕ, List, [], ◌∷◌, ◌++◌, Opt
 use Rattle.fax_command.specs.RowLines.{text_of_lines}
 use Rattle.fax_gateway.specs.declared.given.Refused.{Refused}
 use Rattle.fax_gateway.specs.Setups.{Setup}
+use Rattle.fax_call.specs.Writings.{Writing}
 use Rattle.fax_trace.specs.declared.event.ScriptEvent.{ScriptEvent}
 use Rattle.fax_trace.specs.Playing.{Played, moment_at}
 use Rattle.fax_telling.specs.declared.lane.Lane.{Lane}
@@ -20,25 +21,26 @@ paragraph_lines moment (telling ∷ told) =
     ap (λ (rest : List ℕ). (line_text moment telling ++ 10 ∷ []) ++ rest) (paragraph_lines moment told)
 
 -- the moment behind an event is that of the event
-pub moment_behind : (setup : Setup) (old : Played) (event : ScriptEvent) (new : Played) (told : List Telling) → TellsPlay setup old event new told
-    → new.moment ≡ moment_at event old.moment
-moment_behind setup old event new told (inl t) = ap (λ (p : Played). p.moment) t.accepts.new_is ∙ t.accepts.at
-moment_behind setup old event new told (inr t) = ap (λ (p : Played). p.moment) t.refuses.new_is ∙ sym (ap (λ (e : ScriptEvent). moment_at e old.moment) t.refuses.is_ring)
+pub moment_behind : (setup : Setup) (writes : Writing) (old : Played) (event : ScriptEvent) (new : Played) (told : List Telling)
+    → TellsPlay setup writes old event new told → new.moment ≡ moment_at event old.moment
+moment_behind setup writes old event new told (inl t) = ap (λ (p : Played). p.moment) t.accepts.new_is ∙ t.accepts.at
+moment_behind setup writes old event new told (inr t) = ap (λ (p : Played). p.moment) t.refuses.new_is
 
 -- one event more
-pub TellAll-push : (setup : Setup) (old : Played) (events : List ScriptEvent) (event : ScriptEvent) (mid new : Played) (lines : List (List ℕ)) (told : List Telling)
-    → TellAll setup old events mid lines → TellsPlay setup mid event new told → TellAll setup old (events ++ event ∷ []) new (lines ++ map (line_text new.moment) told)
-TellAll-push setup old [] event mid new lines told all one =
+pub TellAll-push : (setup : Setup) (writes : Writing) (old : Played) (events : List ScriptEvent) (event : ScriptEvent) (mid new : Played) (lines : List (List ℕ))
+    (told : List Telling) → TellAll setup writes old events mid lines → TellsPlay setup writes mid event new told
+    → TellAll setup writes old (events ++ event ∷ []) new (lines ++ map (line_text new.moment) told)
+TellAll-push setup writes old [] event mid new lines told all one =
     let own : List (List ℕ) = map (line_text new.moment) told in
-    (new, told, [], subst (λ (p : Played). TellsPlay setup p event new told) all.0 one, ap (λ l. l ++ own) all.1 ∙ sym (append-nil own), (refl, refl))
-TellAll-push setup old (e ∷ events) event mid new lines told all one =
+    (new, told, [], subst (λ (p : Played). TellsPlay setup writes p event new told) all.0 one, ap (λ l. l ++ own) all.1 ∙ sym (append-nil own), (refl, refl))
+TellAll-push setup writes old (e ∷ events) event mid new lines told all one =
     let own : List (List ℕ) = map (line_text new.moment) told in (
       all.0,
       all.1,
       all.2 ++ own,
       all.3,
       ap (λ l. l ++ own) all.4 ∙ append_assoc (map (line_text all.0.moment) all.1) all.2 own,
-      TellAll-push setup all.0 events event mid new all.2 told all.5 one,
+      TellAll-push setup writes all.0 events event mid new all.2 told all.5 one,
     )
 
 -- why a page is refused stays told

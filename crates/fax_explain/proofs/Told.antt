@@ -15,7 +15,7 @@ use Rattle.fax_telling.specs.Tellings.{Telling}
 -- events were played on a gateway, up to this moment, and lines tell them
 pub record IsTold (setup : Setup) (writes : Writing) (events : List ScriptEvent) (lines : List (List ℕ)) (moment : ℕ) (gateway : GatewayValue) : Type 0 where
   pub played : Played
-  pub told : TellAll setup nothing_played events played lines
+  pub told : TellAll setup writes nothing_played events played lines
   pub at : moment ≡ played.moment
   pub reached : IsReachedBy setup writes played.trace gateway
 
@@ -31,11 +31,11 @@ pub IsTold-push : (setup : Setup) (writes : Writing) (events : List ScriptEvent)
 IsTold-push setup writes events event lines told last moment old new t is plays =
     let now : moment ≡ moment_at event t.played.moment = is ∙ ap (moment_at event) t.at in
     let on : PlaysOn setup writes t.played event told new = plays now in
-    let at : moment ≡ on.new.moment = now ∙ sym (moment_behind setup t.played event on.new told on.tells) in
+    let at : moment ≡ on.new.moment = now ∙ sym (moment_behind setup writes t.played event on.new told on.tells) in
     record {
       played = on.new;
-      told = subst (λ (m : ℕ). TellAll setup nothing_played (events ++ event ∷ []) on.new (lines ++ map (line_text m) told)) (sym at)
-          (TellAll-push setup nothing_played events event t.played on.new lines told t.told on.tells);
+      told = subst (λ (m : ℕ). TellAll setup writes nothing_played (events ++ event ∷ []) on.new (lines ++ map (line_text m) told)) (sym at)
+          (TellAll-push setup writes nothing_played events event t.played on.new lines told t.told on.tells);
       at = at;
       reached = on.reached;
     }

@@ -14,7 +14,7 @@ use Rattle.fax_explain.specs.Ladders.{TellAll}
 -- A new gateway answers the events by a trace, where this function gives the texts of pages, and lines tell them and its answers.
 pub record AreExplained (setup : Setup) (writes : Writing) (events : List ScriptEvent) (lines : List (List ℕ)) : Type 0 where
   pub played : Played
-  pub told : TellAll setup nothing_played events played lines
+  pub told : TellAll setup writes nothing_played events played lines
   pub is_trace : IsTrace setup writes played.trace
 
 -- The lines of a script were read as events up to where playing ended, as `faxgate trace` reads them, and a text tells these

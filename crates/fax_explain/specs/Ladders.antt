@@ -1,19 +1,24 @@
 -- LADDERS: the lines that `faxgate explain` prints: what is told of each event, at its moment. (This project's profile.)
-use Rattle.std.specs.Prelude.{◌≡◌, ℕ, ◌⊎◌, max, List, [], ◌∷◌, ◌++◌, Option, Some, None, codes, decimal, map}
+use Rattle.std.specs.Prelude.{◌≡◌, ℕ, ◌⊎◌, max, Bool, true, false, List, [], ◌∷◌, ◌++◌, length, Option, Some, None, codes, decimal, map}
 use Rattle.fax_jobs.specs.declared.report.Report.{Report}
+use Rattle.fax_jobs.specs.Jobs.{JobValue}
 use Rattle.fax_jobs.specs.ReportTexts.{report_text}
+use Rattle.fax_call.specs.Writings.{Writing}
+use Rattle.fax_gateway.specs.Asking.{asked_behind}
 use Rattle.fax_gateway.specs.declared.given.Refused.{Refused}
 use Rattle.fax_gateway.specs.CallingLegs.{calling_leg}
-use Rattle.fax_gateway.specs.Events.{Event, Ring, FromCalling, FromCalled, Tick, clock}
+use Rattle.fax_gateway.specs.Events.{Event, Ring, FromCalling, FromCalled, Tick, Placed, clock}
 use Rattle.fax_gateway.specs.Setups.{Setup}
 use Rattle.fax_gateway.specs.Turns.{IsRefusedAt}
 use Rattle.fax_trace.specs.declared.event.ScriptEvent.{ScriptEvent}
-use Rattle.fax_trace.specs.Playing.{Played, Accepts, Refuses}
+use Rattle.fax_trace.specs.Playing.{Played, Accepts, Refuses, newly_asked}
 use Rattle.fax_telling.specs.declared.command.Command.{Command}
 use Rattle.fax_telling.specs.declared.lane.Lane.{Lane}
+use Rattle.fax_telling.specs.declared.lane.Lane.TheVariants.{ToCalled}
 use Rattle.fax_telling.specs.Reasons.{ended_text, refusal_text}
 use Rattle.fax_telling.specs.Tales.{inside, line_text}
 use Rattle.fax_telling.specs.Tellings.{Telling}
+use Rattle.fax_telling.specs.Words.{format_text}
 
 -- where a job ended, its report is told last, in the gateway itself, and behind it why it ended so: with the command that had
 -- no answer, where one waited for it
@@ -37,32 +42,58 @@ abbrev pub SaysWhy : Setup → (earlier : List Event) → (now : ℕ) → List T
 SaysWhy setup earlier now told =
     (refused : Option Refused) × IsRefusedAt (calling_leg setup earlier) (max now (clock earlier)) refused × TellsRefusal refused told
 
--- what is told of an event that is accepted behind these has the gateway's answer: a ring its call's number, and a tick why a
--- page is refused in it, and the report of the job that ended in it
-abbrev pub HasAnswer : Setup → (earlier : List Event) → Event → List Telling → Type 0
-HasAnswer setup earlier (Ring now number) told = told ≡ inside (codes "ring " ++ decimal number) ∷ []
-HasAnswer setup earlier (FromCalling octets now decided read) told = Unit {0}
-HasAnswer setup earlier (FromCalled octets now decided) told = Unit {0}
-HasAnswer setup earlier (Tick now given) told = SaysWhy setup earlier now told × EndsWithReport given.report told
+-- where the call of a job begins, that is told in the gateway itself: with the number of the call that its pages came in, the format
+-- of the first, and how many there are
+abbrev pub begun_text : JobValue → List ℕ
+begun_text job =
+    codes "the job of call " ++ (decimal job.call ++ (codes " is sent on: " ++ (format_text job.format ++ (codes ", pages: " ++ decimal (length job.pages)))))
 
--- the gateway accepts an event, and its answer is told
-pub record TellsAccepted (setup : Setup) (old : Played) (event : ScriptEvent) (new : Played) (told : List Telling) : Type 0 where
-  pub accepts : Accepts old event new
-  pub answer : HasAnswer setup old.trace accepts.accepted told
+abbrev pub begun_tellings : Option JobValue → List Telling
+begun_tellings None = []
+begun_tellings (Some job) = inside (begun_text job) ∷ []
 
--- or it refuses a ring, and why is told as `faxgate trace` tells it
-pub record TellsRefused (setup : Setup) (old : Played) (event : ScriptEvent) (new : Played) (told : List Telling) : Type 0 where
-  pub refuses : Refuses setup old event new
+-- the call of a job is placed, which is told on the called leg, and begins; or it could not be placed
+abbrev pub on_called : List ℕ → Telling
+on_called words = record { lane = ToCalled; words = words }
+
+abbrev pub placed_tellings : (connected : Bool) → JobValue → List Telling
+placed_tellings true job = on_called (codes "the call is placed: it has answered") ∷ inside (begun_text job) ∷ []
+placed_tellings false job = on_called (codes "the call could not be placed") ∷ []
+
+-- what is told of an event that is accepted behind these has the gateway's answer: a ring its call's number; a tick why a page is
+-- refused in it, and the report of the job that ended in it; and a call that is placed or not the job that was asked for
+abbrev pub HasAnswer : Setup → Writing → (earlier : List Event) → Event → List Telling → Type 0
+HasAnswer setup writes earlier (Ring now number) told = told ≡ inside (codes "ring " ++ decimal number) ∷ []
+HasAnswer setup writes earlier (FromCalling octets now decided read) told = Unit {0}
+HasAnswer setup writes earlier (FromCalled octets now decided) told = Unit {0}
+HasAnswer setup writes earlier (Tick now given) told = SaysWhy setup earlier now told × EndsWithReport given.report told
+HasAnswer setup writes earlier (Placed now connected) told = (job : JobValue) × (asked_behind setup writes earlier ≡ Some job) × (told ≡ placed_tellings connected job)
+
+-- the call of a job is asked for
+abbrev pub asked_tellings : Option ℕ → List Telling
+asked_tellings None = []
+asked_tellings (Some call) = inside (codes "asks " ++ (decimal call ++ (codes ": a call is to be placed for the job of call " ++ decimal call))) ∷ []
+
+-- the gateway accepts an event, and its answer is told, and behind it the call that it asks for from then on
+pub record TellsAccepted (setup : Setup) (writes : Writing) (old : Played) (event : ScriptEvent) (new : Played) (told : List Telling) : Type 0 where
+  pub accepts : Accepts setup writes old event new
+  pub own : List Telling
+  pub answer : HasAnswer setup writes old.trace accepts.accepted own
+  pub told_is : told ≡ own ++ asked_tellings (newly_asked setup writes old.trace accepts.accepted)
+
+-- or it refuses an event, and why is told as `faxgate trace` tells it
+pub record TellsRefused (setup : Setup) (writes : Writing) (old : Played) (event : ScriptEvent) (new : Played) (told : List Telling) : Type 0 where
+  pub refuses : Refuses setup writes old event new
   pub why : List ℕ
   pub told_is : told ≡ inside (refuses.line ++ why) ∷ []
 
-abbrev pub TellsPlay : Setup → Played → ScriptEvent → Played → List Telling → Type 0
-TellsPlay setup old event new told = TellsAccepted setup old event new told ⊎ TellsRefused setup old event new told
+abbrev pub TellsPlay : Setup → Writing → Played → ScriptEvent → Played → List Telling → Type 0
+TellsPlay setup writes old event new told = TellsAccepted setup writes old event new told ⊎ TellsRefused setup writes old event new told
 
 -- Events are played on a gateway, and lines tell them: a line for each thing that is told of an event, at its moment, those of
 -- each event together, in the order of the events.
-abbrev pub TellAll : Setup → Played → List ScriptEvent → Played → List (List ℕ) → Type 0
-TellAll setup old [] new lines = (new ≡ old) × (lines ≡ [])
-TellAll setup old (event ∷ events) new lines =
-    (next : Played) × (told : List Telling) × (rest : List (List ℕ)) × TellsPlay setup old event next told
-    × (lines ≡ map (line_text next.moment) told ++ rest) × TellAll setup next events new rest
+abbrev pub TellAll : Setup → Writing → Played → List ScriptEvent → Played → List (List ℕ) → Type 0
+TellAll setup writes old [] new lines = (new ≡ old) × (lines ≡ [])
+TellAll setup writes old (event ∷ events) new lines =
+    (next : Played) × (told : List Telling) × (rest : List (List ℕ)) × TellsPlay setup writes old event next told
+    × (lines ≡ map (line_text next.moment) told ++ rest) × TellAll setup writes next events new rest

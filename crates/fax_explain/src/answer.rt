@@ -103,13 +103,14 @@ fn add(text: &mut Vec<u8>, own: &[u8]) -> Result<(), NoMemory>
     Ok(())
 }
 
-/// The moment of an event, by that of the last tick.
+/// The moment of an event, by the last that the script told.
 fn moment_of(event: &ScriptEvent, last: u64) -> u64
     ensures { result ≡ moment_at event.now last }
 {
     match event {
         ScriptEvent::Tick(moment) => *moment,
-        _ => last,
+        ScriptEvent::Connected(moment) | ScriptEvent::NotConnected(moment) => *moment,
+        ScriptEvent::Ring | ScriptEvent::FromCalling(_) | ScriptEvent::FromCalled(_) => last,
     }
 }
 

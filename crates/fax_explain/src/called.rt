@@ -73,6 +73,18 @@ impl CalledLeg {
         }
     }
 
+    /// The call of a job could not be placed, whose pages came in this call: what comes is passed over.
+    pub(crate) fn fail(&mut self, call: u32)
+        ensures asked { self.new.asked ≡ None }
+        ensures call { self.new.call ≡ Some call }
+        ensures delivered { self.new.delivered ≡ 0 }
+        ensures before { self.old.call ≡ Some call → self.new.before ≡ self.old.before }
+        ensures first { self.old.call ≢ Some call → self.new.before ≡ 0 }
+    {
+        self.begin(call);
+        self.theirs.end_call();
+    }
+
     /// A job has ended that had so many pages.
     pub(crate) fn end(&mut self, pages: u32)
         ensures { self.new ≡ record self.old { before = min (self.old.before + pages) (2 ^ 32 - 1) } }

@@ -3,16 +3,17 @@ ghost use Rattle.std.specs.Prelude.{ℕ, ◌≡◌, ◌++◌, ◌∷◌, [], IfO
 ghost use Rattle.fax_call.specs.Writings.{IsWriting, Writing};
 ghost use Rattle.fax_gateway.specs.Setups.{AreAllowed, Setup};
 ghost use Rattle.fax_gateway.specs.Reached.{IsReachedBy};
+ghost use Rattle.fax_gateway.specs.Turns.{call_if_new};
 ghost use Rattle.fax_trace.specs.declared.event.ScriptEvent.TheVariants as script;
 ghost use Rattle.fax_trace.specs.Playing.{Played, moment_at};
-ghost use Rattle.fax_explain.specs.Ladders.{EndsWithReport, TellsRefusal};
-ghost use Rattle.fax_explain.specs.Staged.{GoesOn, IsNew, PlaysOn};
+ghost use Rattle.fax_explain.specs.Ladders.{EndsWithReport, TellsRefusal, asked_tellings, begun_tellings};
+ghost use Rattle.fax_explain.specs.Staged.{GoesOn, HasAnswered, IsNew, PlaysOn};
 
 use crate::called::CalledLeg;
 use crate::calling::CallingLeg;
 use crate::keeper::Place;
 use fax_bits::NoMemory;
-use fax_gateway::{Gateway, Given, RingFault, Settings};
+use fax_gateway::{Gateway, Given, PlaceFault, RingFault, Settings};
 use fax_pagestore::{PackedRows, Page};
 use fax_telling::{Lane, Tale, why_ended, why_refused, words_of_format};
 use fax_trace::ScriptEvent;
@@ -74,16 +75,18 @@ impl Stage {
         ensures { IfOk result (λ scene. (setup : Setup) (writes : Writing) (old : Played) → IsWriting writes → moment ≡ moment_at event.now old.moment
             → IsReachedBy setup writes old.trace self.old.gateway → PlaysOn setup writes old event.now scene.tale self.new.gateway) }
     {
+        let was_asked = self.gateway.asked();
         let mut scene = Scene::new(self.alloc);
         self.act(event, moment, &mut scene)?;
+        tell_asked(self.alloc, was_asked, self.gateway.asked(), &mut scene.tale)?;
         Ok(scene)
     }
 
-    /// Plays an event at a moment, of which nothing was told.
+    /// Hands an event at a moment to the gateway, of which nothing was told, and tells what it answers.
     fn act(&mut self, event: &ScriptEvent, moment: u64, scene: &mut Scene) -> Result<(), NoMemory>
         requires { scene.old.tale ≡ [] }
         ensures { OnOk result ((setup : Setup) (writes : Writing) (old : Played) → IsWriting writes → moment ≡ moment_at event.now old.moment
-            → IsReachedBy setup writes old.trace self.old.gateway → PlaysOn setup writes old event.now scene.new.tale self.new.gateway) }
+            → IsReachedBy setup writes old.trace self.old.gateway → HasAnswered setup writes old event.now scene.new.tale self.new.gateway) }
     {
         match event {
             ScriptEvent::Ring => self.ring(moment, &mut scene.tale),
@@ -94,6 +97,8 @@ impl Stage {
                 self.hear_called(octets.as_slice(), moment, &mut scene.tale)
             }
             ScriptEvent::Tick(moment) => self.tick(*moment, scene),
+            ScriptEvent::Connected(moment) => self.connect(*moment, &mut scene.tale),
+            ScriptEvent::NotConnected(moment) => self.not_connected(*moment, &mut scene.tale),
         }
     }
 
@@ -101,7 +106,7 @@ impl Stage {
     fn ring(&mut self, moment: u64, tale: &mut Tale) -> Result<(), NoMemory>
         requires { tale.old ≡ [] }
         ensures { OnOk result ((setup : Setup) (writes : Writing) (old : Played) → moment ≡ old.moment → IsReachedBy setup writes old.trace self.old.gateway
-            → PlaysOn setup writes old script.Ring tale.new self.new.gateway) }
+            → HasAnswered setup writes old script.Ring tale.new self.new.gateway) }
     {
         match self.gateway.ring(moment) {
             Ok(call) => {
@@ -118,7 +123,7 @@ impl Stage {
     /// A datagram comes on the calling leg.
     fn hear_calling(&mut self, octets: &[u8], moment: u64, tale: &mut Tale) -> Result<(), NoMemory>
         ensures { OnOk result ((setup : Setup) (writes : Writing) (old : Played) → moment ≡ old.moment → IsReachedBy setup writes old.trace self.old.gateway
-            → PlaysOn setup writes old (script.FromCalling octets.now) tale.new self.new.gateway) }
+            → HasAnswered setup writes old (script.FromCalling octets.now) tale.new self.new.gateway) }
     {
         let call = self.gateway.call();
         self.gateway.from_calling(octets, moment)?;
@@ -132,7 +137,7 @@ impl Stage {
     /// A datagram comes on the called leg.
     fn hear_called(&mut self, octets: &[u8], moment: u64, tale: &mut Tale) -> Result<(), NoMemory>
         ensures { OnOk result ((setup : Setup) (writes : Writing) (old : Played) → moment ≡ old.moment → IsReachedBy setup writes old.trace self.old.gateway
-            → PlaysOn setup writes old (script.FromCalled octets.now) tale.new self.new.gateway) }
+            → HasAnswered setup writes old (script.FromCalled octets.now) tale.new self.new.gateway) }
     {
         let is_on = self.gateway.sending().is_some();
         self.gateway.from_called(octets, moment)?;
@@ -146,7 +151,7 @@ impl Stage {
     /// Time goes on to a moment.
     fn tick(&mut self, moment: u64, scene: &mut Scene) -> Result<(), NoMemory>
         ensures { OnOk result ((setup : Setup) (writes : Writing) (old : Played) → IsWriting writes → IsReachedBy setup writes old.trace self.old.gateway
-            → PlaysOn setup writes old (script.Tick moment) scene.new.tale self.new.gateway) }
+            → HasAnswered setup writes old (script.Tick moment) scene.new.tale self.new.gateway) }
     {
         let call = self.gateway.call();
         let was_sending = self.gateway.sending().is_some();
@@ -156,6 +161,44 @@ impl Stage {
         self.begin_job(was_sending, &mut scene.tale)?;
         self.give_called(&given, scene)?;
         self.end_job(&given, &mut scene.tale)
+    }
+
+    /// The call of the job that is asked for is placed at a moment.
+    fn connect(&mut self, moment: u64, tale: &mut Tale) -> Result<(), NoMemory>
+        requires { tale.old ≡ [] }
+        ensures { OnOk result ((setup : Setup) (writes : Writing) (old : Played) → IsReachedBy setup writes old.trace self.old.gateway
+            → HasAnswered setup writes old (script.Connected moment) tale.new self.new.gateway) }
+    {
+        match self.gateway.connect(moment) {
+            Ok(()) => {
+                tale.tell(Lane::ToCalled, "the call is placed: it has answered")?;
+                self.begin_call(tale)
+            }
+            Err(PlaceFault::NotAsked) => tale.tell(
+                Lane::Inside,
+                "connect refused 1 NotAsked: no call is asked for",
+            ),
+            Err(PlaceFault::NoMemory) => Err(NoMemory),
+        }
+    }
+
+    /// It could not be placed, at a moment.
+    fn not_connected(&mut self, moment: u64, tale: &mut Tale) -> Result<(), NoMemory>
+        requires { tale.old ≡ [] }
+        ensures { OnOk result ((setup : Setup) (writes : Writing) (old : Played) → IsReachedBy setup writes old.trace self.old.gateway
+            → HasAnswered setup writes old (script.NotConnected moment) tale.new self.new.gateway) }
+    {
+        match self.gateway.not_connected(moment) {
+            Ok(()) => {
+                self.fail_call();
+                tale.tell(Lane::ToCalled, "the call could not be placed")
+            }
+            Err(PlaceFault::NotAsked) => tale.tell(
+                Lane::Inside,
+                "not-connected refused 1 NotAsked: no call is asked for",
+            ),
+            Err(PlaceFault::NoMemory) => Err(NoMemory),
+        }
     }
 
     /// What a tick gives on the calling leg is told, and why it refuses a page, where it does: behind the RTN.
@@ -201,6 +244,14 @@ impl Stage {
         if was_sending {
             return Ok(());
         }
+        self.begin_call(tale)
+    }
+
+    /// The call of the job that is sent begins, where there is one.
+    fn begin_call(&mut self, tale: &mut Tale) -> Result<(), NoMemory>
+        ensures gateway { self.new.gateway ≡ self.old.gateway }
+        ensures told { OnOk result (tale.new ≡ tale.old ++ begun_tellings self.old.gateway.book.sending) }
+    {
         let Some(job) = self.gateway.sending() else {
             return Ok(());
         };
@@ -212,6 +263,15 @@ impl Stage {
             "the job of call {call} is sent on: {format}, pages: {pages}"
         )?;
         tale.tell(Lane::Inside, words.as_str())
+    }
+
+    /// The call of the job that is sent could not be placed, where there is one: it is over as it begins.
+    fn fail_call(&mut self)
+        ensures { self.new.gateway ≡ self.old.gateway }
+    {
+        if let Some(job) = self.gateway.sending() {
+            self.called.fail(job.call());
+        }
     }
 
     /// The job that ended is told last, by the line that `faxgate trace` prints, with why it ended so.
@@ -228,6 +288,24 @@ impl Stage {
         let words = format!(in self.alloc; "{report}{why}")?;
         tale.tell(Lane::Inside, words.as_str())
     }
+}
+
+/// The call that is asked for is told, where none was.
+fn tell_asked(
+    alloc: Global,
+    was_asked: Option<u32>,
+    is_asked: Option<u32>,
+    tale: &mut Tale,
+) -> Result<(), NoMemory>
+    ensures { OnOk result (tale.new ≡ tale.old ++ asked_tellings (call_if_new was_asked is_asked)) }
+{
+    let (None, Some(call)) = (was_asked, is_asked) else {
+        return Ok(());
+    };
+    let words = format!(in alloc;
+        "asks {call}: a call is to be placed for the job of call {call}"
+    )?;
+    tale.tell(Lane::Inside, words.as_str())
 }
 
 /// Keeps a page that was found, where one was. An `Err` leaves the pages as they were.

@@ -19,7 +19,7 @@ returns-in_ok-words-in-Ok c = OnOk-then c.tell.result c.tell.ensures (λ told se
 pub returns-in-Err-Busy : goal.returns-in-Err-Busy
 returns-in-Err-Busy c = OnOk-then c.tell-in-Err-Busy.result c.tell-in-Err-Busy.ensures (λ told setup writes old at reached.
     let busy = (c.in-Err-Busy.ensures.busy setup writes old.trace reached).0 (ap Err c.in-Err-Busy.field-0-is) in
-    refused_on setup writes old _ _ (codes "ring refused 1 Busy") (codes ": a call is on") (inl (busy, refl))
+    refused_on setup writes old script.Ring _ _ (codes "ring refused 1 Busy") (codes ": a call is on") (inl (busy, refl))
     (told ∙ ap (λ (a : List Telling). a ++ inside (codes "ring refused 1 Busy: a call is on") ∷ []) c.requires) (rw c.in-Err-Busy.ensures.err reached))
 
 -- a test that is never false is true
@@ -34,5 +34,5 @@ returns-in-Err-NoNumber c = OnOk-then c.tell-in-Err-NoNumber.result c.tell-in-Er
     let idle : idle_after (calling_leg setup old.trace) ≡ true =
     true_if_never (idle_after (calling_leg setup old.trace)) (λ busy. let told = (c.in-Err-NoNumber.ensures.busy setup writes old.trace reached).1 busy in cc) in
     let none = (c.in-Err-NoNumber.ensures.no_number setup writes old.trace reached idle).0 cause in
-    refused_on setup writes old _ _ line [] (inr (idle, none, refl))
+    refused_on setup writes old script.Ring _ _ line [] (inr (idle, none, refl))
     (told ∙ ap₂ (λ (a : List Telling) (b : List ℕ). a ++ inside b ∷ []) c.requires (sym (append-nil line))) (rw c.in-Err-NoNumber.ensures.err reached))

@@ -15,7 +15,7 @@ returns c = OnOk-then c.end_job.result (OnOk-both _ _ c.end_job.result c.end_job
     let begun = TellsRefusal-on given.refused _ _ over c.in_ok-begin_job.ensures.goes_on in
     let sent = TellsRefusal-on given.refused _ _ begun c.in_ok-give_called.ensures.goes_on in
     let right = c.in_ok-given.ensures.refused setup writes old.trace reached in
-    let answer = tick_answer setup old.trace c.args.moment (given_shown given) _ given.refused right (TellsRefusal-on given.refused _ _ sent told.1) told.0 in
+    let answer = tick_answer setup writes old.trace c.args.moment (given_shown given) _ given.refused right (TellsRefusal-on given.refused _ _ sent told.1) told.0 in
     accepted_on setup writes old (script.Tick c.args.moment) _ _ ticked refl refl answer
     (subst (λ (g : GatewayValue). IsReachedBy setup writes (ticked ∷ old.trace) g)
     (sym (c.end_job.ensures.gateway ∙ c.in_ok-give_called.ensures.gateway ∙ c.in_ok-begin_job.ensures.gateway ∙ c.in_ok-give_calling.ensures.gateway))
