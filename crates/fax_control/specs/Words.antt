@@ -1,5 +1,5 @@
 -- Control words, each a line (this project's profile).
-use Rattle.std.specs.Prelude.{◌≡◌, ◌≢◌, ℕ, ◌<◌, ◌≤◌, List, [], ◌∷◌, ◌++◌, length, slice_index, codes, Option, None, Some, option_map}
+use Rattle.std.specs.Prelude.{◌≡◌, ◌≢◌, ℕ, ◌<◌, ◌≤◌, List, ◌∷◌, ◌++◌, length, slice_index, codes, Option, None, Some, option_map}
 use Rattle.std.specs.Str.{IsUtf8}
 use Rattle.std.specs.Net.Grammar.{IsSocketText}
 use Rattle.std.specs.declared.net.socket_addr.SocketAddr.{SocketAddr}
@@ -13,6 +13,7 @@ pub data Order : Type 0 where
   Ring : List ℕ → Option (List ℕ) → Order
   Peer : List ℕ → Leg → SocketAddr → Order
   HangUp : List ℕ → Leg → Order
+  Refuse : List ℕ → List ℕ → Order
   Report : List ℕ → Order
   Status : Order
   Metrics : Order
@@ -23,6 +24,7 @@ abbrev pub order_of : Word → Order
 order_of (word.Ring line tag) = Ring line.now (option_map (λ text. text.now) tag)
 order_of (word.Peer line leg address) = Peer line.now leg address
 order_of (word.HangUp line leg) = HangUp line.now leg
+order_of (word.Refuse line cause) = Refuse line.now cause.now
 order_of (word.Report line) = Report line.now
 order_of word.Status = Status
 order_of word.Metrics = Metrics
@@ -41,6 +43,10 @@ IsName text = (0 < length text) × HasNoSpace text
 abbrev pub IsTag : List ℕ → Type 0
 IsTag text = (0 < length text) × (length text ≤ 64) × HasNoSpace text
 
+-- the text can be the cause for which a call could not be placed: any that can be a tag
+abbrev pub IsCause : List ℕ → Type 0
+IsCause text = IsTag text
+
 abbrev pub leg_text : Leg → List ℕ
 leg_text Calling = codes "calling"
 leg_text Called = codes "called"
@@ -56,6 +62,7 @@ Spells text (Ring line (Some tag)) = (text ≡ spaced (codes "ring") (spaced lin
 Spells text (Peer line leg address) =
     (address_text : List ℕ) × (text ≡ spaced (codes "peer") (spaced line (spaced (leg_text leg) address_text))) × IsName line × IsSocketText address_text address
 Spells text (HangUp line leg) = (text ≡ spaced (codes "hangup") (spaced line (leg_text leg))) × IsName line
+Spells text (Refuse line cause) = (text ≡ spaced (codes "refuse") (spaced line cause)) × IsName line × IsCause cause
 Spells text (Report line) = (text ≡ spaced (codes "report") line) × IsName line
 Spells text Status = text ≡ codes "status"
 Spells text Metrics = text ≡ codes "metrics"

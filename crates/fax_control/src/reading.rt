@@ -35,6 +35,8 @@ fn word_of(text: &str) -> Option<Word<'_>>
                 hang_up_of(rest)
             } else if verb == "report" {
                 report_of(rest)
+            } else if verb == "refuse" {
+                refuse_of(rest)
             } else {
                 None
             }
@@ -91,7 +93,7 @@ fn ring_of(rest: &str) -> Option<Word<'_>>
     }
 }
 
-/// Whether a text can be a tag.
+/// Whether a text can be a tag, or a cause.
 fn is_tag(text: &str) -> bool
     ensures yes { result ≡ true → IsTag text.now }
     ensures no { result ≡ false → IsTag text.now → ⊥ }
@@ -119,6 +121,22 @@ fn report_of(rest: &str) -> Option<Word<'_>>
     match cut(rest) {
         None => Some(Word::Report(rest)),
         Some(_) => None,
+    }
+}
+
+/// What follows `refuse`: the name of a line, and a cause.
+fn refuse_of(rest: &str) -> Option<Word<'_>>
+    ensures said { IfSome result (λ word. Spells (spaced (codes "refuse") rest.now) (order_of word)) }
+    ensures only { (order : Order) → Spells (spaced (codes "refuse") rest.now) order → IsSomeAnd result (λ word. order_of word ≡ order) }
+{
+    let (line, cause) = cut(rest)?;
+    if line.is_empty() {
+        return None;
+    }
+    if is_tag(cause) {
+        Some(Word::Refuse(line, cause))
+    } else {
+        None
     }
 }
 

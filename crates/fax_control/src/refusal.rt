@@ -27,12 +27,10 @@ pub enum Refusal {
     TooLong,
     /// 10: the system does not take the address for this leg.
     NoRoute,
-    /// 11: no call is on on this leg.
+    /// 11: no call is on on this leg, and none is asked for.
     NoCall,
     /// 12: the configuration gives the called leg its peer, and no word changes that.
     Fixed,
-    /// 15: nobody hears events, so that nobody would say where the pages of the call go.
-    Unheard,
 }
 
 impl Refusal {
@@ -53,7 +51,6 @@ impl Refusal {
             Refusal::NoRoute => 10,
             Refusal::NoCall => 11,
             Refusal::Fixed => 12,
-            Refusal::Unheard => 15,
         }
     }
 
@@ -74,7 +71,6 @@ impl Refusal {
             Refusal::NoRoute => "NoRoute",
             Refusal::NoCall => "NoCall",
             Refusal::Fixed => "Fixed",
-            Refusal::Unheard => "Unheard",
         }
     }
 }

@@ -7,7 +7,7 @@ use std::net::SocketAddr;
 /// The most octets of a line, its line feed aside.
 pub const MOST_OCTETS: usize = 256;
 
-/// The most octets of a tag.
+/// The most octets of a tag, and of the cause for which a call could not be placed.
 pub const MOST_TAG_OCTETS: usize = 64;
 
 /// A leg of a line.
@@ -40,6 +40,8 @@ pub enum Word<'a> {
     Peer(&'a str, Leg, SocketAddr),
     /// The peer's call on a leg is gone.
     HangUp(&'a str, Leg),
+    /// The call of a line's job, which is asked for, could not be placed, for this cause.
+    Refuse(&'a str, &'a str),
     /// Asks for the last reports of a line.
     Report(&'a str),
     /// Asks how each line is.

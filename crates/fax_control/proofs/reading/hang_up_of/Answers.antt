@@ -1,5 +1,5 @@
-use Rattle.std.proofs.Common.{◌≡◌, ◌<◌, ℕ, length, Some, refl, sym, ◌∙◌, ap, subst, arith}
-use Rattle.fax_control.specs.Words.{HasNoSpace, HangUp, leg_text}
+use Rattle.std.proofs.Common.{◌≡◌, Some, sym, ◌∙◌, subst}
+use Rattle.fax_control.specs.Words.{HasNoSpace, leg_text}
 use Rattle.fax_control.proofs.SpaceLemmas.{has_space, cut_once}
 use Rattle.fax_control.proofs.WordLemmas.{hangup_spelled}
 use Rattle.fax_control.proofs.reading.hang_up_of.Goals as goal

@@ -1,9 +1,9 @@
-use Rattle.std.proofs.Common.{◌≡◌, ◌<◌, ℕ, length, Some, codes, refl, sym, ◌∙◌, ap, subst, arith}
+use Rattle.std.proofs.Common.{◌≡◌, ◌<◌, length, Some, codes, refl, sym, ◌∙◌, ap, subst, arith}
 use Rattle.std.proofs.NetLemmas.Theorems.{IsSocketText_unique}
 use Rattle.std.specs.Net.Grammar.{IsSocketText}
 use Rattle.fax_control.specs.declared.word.Leg.TheVariants.{Calling, Called}
 use Rattle.fax_control.specs.declared.word.Leg.{Leg}
-use Rattle.fax_control.specs.Words.{HasNoSpace, Peer, leg_text, spaced}
+use Rattle.fax_control.specs.Words.{HasNoSpace, leg_text, spaced}
 use Rattle.fax_control.proofs.SpaceLemmas.{has_space, cut_once, NoSpace-by_test}
 use Rattle.fax_control.proofs.WordLemmas.{peer_spelled}
 use Rattle.fax_control.proofs.reading.peer_of.Goals as goal

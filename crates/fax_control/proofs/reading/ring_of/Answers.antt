@@ -1,4 +1,4 @@
-use Rattle.std.proofs.Common.{◌≡◌, ℕ, ◌<◌, length, None, Some, ap, arith}
+use Rattle.std.proofs.Common.{◌≡◌, ◌<◌, length, None, Some, ap, arith}
 use Rattle.fax_control.proofs.WordLemmas.{ring_spelled, ring_alone, ring_tagged}
 use Rattle.fax_control.proofs.reading.ring_of.Goals as goal
 
