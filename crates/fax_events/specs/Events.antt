@@ -18,7 +18,7 @@ use Rattle.fax_events.specs.declared.event.Direction.TheVariants.{Receives, Send
 use Rattle.fax_events.specs.declared.event.Ending.{Ending}
 use Rattle.fax_events.specs.declared.event.Ending.TheVariants.{Done, HungUp, GivenUp, NotKept}
 use Rattle.fax_events.specs.declared.event.What.{What}
-use Rattle.fax_events.specs.declared.event.What.TheVariants.{Rung, Page, RefusedPage, Ended, Dial, Connected, Job, Wire, Late, SetAside}
+use Rattle.fax_events.specs.declared.event.What.TheVariants.{Rung, Page, RefusedPage, Ended, Dial, Asked, Connected, Job, Wire, Late, SetAside}
 use Rattle.fax_events.specs.declared.event.What.TheVariants as what
 use Rattle.fax_events.specs.declared.event.Event.{Event}
 
@@ -54,8 +54,9 @@ event_name (Page kept tag) = codes "page"
 event_name (RefusedPage call tag why) = codes "refused_page"
 event_name (Ended call tag how) = codes "ended"
 event_name (Dial call tag) = codes "dial"
+event_name (Asked job tag) = codes "dial"
 event_name (Connected call tag) = codes "connected"
-event_name (Job report tag) = codes "job"
+event_name (Job report tag cause) = codes "job"
 event_name (Wire leg direction count) = codes "wire"
 event_name (Late span) = codes "late"
 event_name (what.NotKept call tag) = codes "not_kept"
@@ -96,6 +97,11 @@ detail_members why = []
 abbrev pub refusal_members : Refusal → List Token
 refusal_members why = text_member (codes "fault") (refusal_name why) ++ detail_members why
 
+-- for what cause a call was not placed; a call that began has none
+abbrev pub cause_members : Option (List ℕ) → List Token
+cause_members None = []
+cause_members (Some cause) = text_member (codes "cause") cause
+
 -- ---- the members of each event
 
 abbrev pub what_members : What → List Token
@@ -106,10 +112,14 @@ what_members (Page kept tag) =
 what_members (RefusedPage call tag why) = number_member (codes "call") call ++ (tag_member (option_map (λ text. text.now) tag) ++ refusal_members why)
 what_members (Ended call tag how) = number_member (codes "call") call ++ (tag_member (option_map (λ text. text.now) tag) ++ text_member (codes "how") (ending_name how))
 what_members (Dial call tag) = number_member (codes "call") call ++ tag_member (option_map (λ text. text.now) tag)
+what_members (Asked job tag) =
+    number_member (codes "call") job.call ++ (tag_member (option_map (λ text. text.now) tag) ++ (number_member (codes "try") job.tries
+    ++ (number_member (codes "pages") job.pages ++ number_member (codes "seconds") job.seconds)))
 what_members (Connected call tag) = number_member (codes "call") call ++ tag_member (option_map (λ text. text.now) tag)
-what_members (Job report tag) =
+what_members (Job report tag cause) =
     number_member (codes "call") report.call ++ (tag_member (option_map (λ text. text.now) tag) ++ (format_members report.format
-    ++ (number_member (codes "pages") report.pages ++ (number_member (codes "delivered") report.delivered ++ text_member (codes "outcome") (outcome_name report.outcome)))))
+    ++ (number_member (codes "pages") report.pages ++ (number_member (codes "delivered") report.delivered
+    ++ (text_member (codes "outcome") (outcome_name report.outcome) ++ cause_members (option_map (λ text. text.now) cause))))))
 what_members (Wire leg direction count) =
     text_member (codes "leg") (leg_text leg) ++ (text_member (codes "direction") (direction_name direction) ++ number_member (codes "failures") count)
 what_members (Late span) = number_member (codes "ms") span

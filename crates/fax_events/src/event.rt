@@ -65,6 +65,19 @@ pub struct PageKept {
     pub rows: u32,
 }
 
+/// A job whose call is asked for.
+#[derive(Clone, Copy, PartialEq, Eq, Debug)]
+pub struct AskedJob {
+    /// The number of the call that its pages came in.
+    pub call: u32,
+    /// How often a call of the job was asked for, this time included: 1 at first.
+    pub tries: u32,
+    /// How many pages it has.
+    pub pages: u32,
+    /// For how many seconds an answer is waited for.
+    pub seconds: u32,
+}
+
 /// What happened.
 #[derive(Clone, Copy, PartialEq, Eq, Debug)]
 pub enum What<'a> {
@@ -78,11 +91,13 @@ pub enum What<'a> {
     Ended(u32, Option<&'a str>, Ending),
     /// The call of a job begins: the number of the call that its pages came in, and the tag of that.
     Dial(u32, Option<&'a str>),
-    /// The call of a job is on, and its called leg has a peer: the number of the call that its pages came in, and the tag of that.
-    /// It is told to a client that wants events from now on.
+    /// The call of a job is asked for, and begins once it is placed; the tag is that of the call that its pages came in.
+    Asked(AskedJob, Option<&'a str>),
+    /// The call of a job that was asked for was placed: the number of the call that its pages came in, and the tag of that. It is
+    /// told too of each job whose call is on and whose called leg has a peer, to a client that wants events from now on.
     Connected(u32, Option<&'a str>),
-    /// A job ended: its report, and the tag of the call that its pages came in.
-    Job(Report, Option<&'a str>),
+    /// A job ended: its report, the tag of the call that its pages came in, and for what cause its own call was not placed.
+    Job(Report, Option<&'a str>, Option<&'a str>),
     /// A leg's receives or sends fail: so many did since the line began.
     Wire(Leg, Direction, u64),
     /// The line was turned so many milliseconds late.
@@ -105,9 +120,9 @@ impl<'a> What<'a> {
             What::Page(_, _) => "page",
             What::RefusedPage(_, _, _) => "refused_page",
             What::Ended(_, _, _) => "ended",
-            What::Dial(_, _) => "dial",
+            What::Dial(_, _) | What::Asked(_, _) => "dial",
             What::Connected(_, _) => "connected",
-            What::Job(_, _) => "job",
+            What::Job(_, _, _) => "job",
             What::Wire(_, _, _) => "wire",
             What::Late(_) => "late",
             What::NotKept(_, _) => "not_kept",

@@ -1,9 +1,9 @@
 //! From an event to its line.
 ghost use Rattle.std.specs.Prelude.{◌≡◌, option_map, IfOk, OnOk};
 ghost use Rattle.fax_jobs.specs.ReportTexts.{resolution_name};
-ghost use Rattle.fax_events.specs.Events.{Adds, detail_members, event_line, fault_members, fault_name, format_members, refusal_members, refusal_name, row_members, number_member, tag_member, text_member, what_members};
+ghost use Rattle.fax_events.specs.Events.{Adds, cause_members, detail_members, event_line, fault_members, fault_name, format_members, refusal_members, refusal_name, row_members, number_member, tag_member, text_member, what_members};
 
-use crate::event::{Direction, Ending, Event, PageKept, What};
+use crate::event::{AskedJob, Direction, Ending, Event, PageKept, What};
 use fax_answer::Refusal;
 use fax_bits::NoMemory;
 use fax_control::Leg;
@@ -173,16 +173,43 @@ fn put_ended(
     put_text(writer, "how", how.name())
 }
 
+/// Writes what is told of a job whose call is asked for.
+fn put_asked(writer: &mut Writer, asked: AskedJob, tag: Option<&str>) -> Result<(), AllocError>
+    ensures { OnOk result (Adds writer.old writer.new (what_members (What.Asked asked tag.entry))) }
+{
+    put_number(writer, "call", u64::from(asked.call))?;
+    put_tag(writer, tag)?;
+    put_number(writer, "try", u64::from(asked.tries))?;
+    put_number(writer, "pages", u64::from(asked.pages))?;
+    put_number(writer, "seconds", u64::from(asked.seconds))
+}
+
+/// Writes for what cause a call was not placed, where there is one.
+fn put_cause(writer: &mut Writer, cause: Option<&str>) -> Result<(), AllocError>
+    ensures { OnOk result (Adds writer.old writer.new (cause_members (option_map (λ text. text.now) cause.entry))) }
+{
+    match cause {
+        Some(text) => put_text(writer, "cause", text),
+        None => Ok(()),
+    }
+}
+
 /// Writes what is told of a job that ended.
-fn put_job(writer: &mut Writer, report: Report, tag: Option<&str>) -> Result<(), AllocError>
-    ensures { OnOk result (Adds writer.old writer.new (what_members (What.Job report tag.entry))) }
+fn put_job(
+    writer: &mut Writer,
+    report: Report,
+    tag: Option<&str>,
+    cause: Option<&str>,
+) -> Result<(), AllocError>
+    ensures { OnOk result (Adds writer.old writer.new (what_members (What.Job report tag.entry cause.entry))) }
 {
     put_number(writer, "call", u64::from(report.call))?;
     put_tag(writer, tag)?;
     put_format(writer, report.format)?;
     put_number(writer, "pages", u64::from(report.pages))?;
     put_number(writer, "delivered", u64::from(report.delivered))?;
-    put_text(writer, "outcome", report.outcome.name())
+    put_text(writer, "outcome", report.outcome.name())?;
+    put_cause(writer, cause)
 }
 
 /// Writes what is told of receives or sends that fail.
@@ -211,10 +238,11 @@ fn put_what(writer: &mut Writer, what: &What<'_>) -> Result<(), AllocError>
             put_number(writer, "call", u64::from(call))?;
             put_tag(writer, tag)
         }
+        What::Asked(asked, tag) => put_asked(writer, asked, tag),
         What::Page(page, tag) => put_page(writer, page, tag),
         What::RefusedPage(call, tag, why) => put_refused_page(writer, call, tag, why),
         What::Ended(call, tag, how) => put_ended(writer, call, tag, how),
-        What::Job(report, tag) => put_job(writer, report, tag),
+        What::Job(report, tag, cause) => put_job(writer, report, tag, cause),
         What::Wire(leg, direction, count) => put_wire(writer, leg, direction, count),
         What::Late(span) => put_number(writer, "ms", span),
         What::SetAside(call, number) => {
