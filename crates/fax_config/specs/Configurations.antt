@@ -15,6 +15,8 @@ pub record IsInRange (line : LineConfig) : Type 0 where
   pub redundancy : line.redundancy ≤ 8
   pub least_preamble : 40 ≤ line.preamble_ms
   pub most_preamble : line.preamble_ms ≤ 2000
+  pub least_dial : 1 ≤ line.dial_seconds
+  pub most_dial : line.dial_seconds ≤ 3600
 
 -- no two in the list are alike
 abbrev pub AreUnlike : {X : Type 0} → List X → Type 0
@@ -51,6 +53,7 @@ pub record IsLine (members : Members) (line : LineConfig) : Type 0 where
   pub redundancy : IsNumberAt (codes "redundancy") members 3 line.redundancy
   pub preamble_ms : IsNumberAt (codes "preamble_ms") members 40 line.preamble_ms
   pub repeat : IsRepeatAt members line.repeat
+  pub dial_seconds : IsNumberAt (codes "dial_seconds") members 180 line.dial_seconds
   pub in_range : IsInRange line
 
 abbrev pub IsLineOf : Data → LineConfig → Type 0

@@ -15,6 +15,11 @@ pub const LEAST_PREAMBLE_MS: u16 = 40;
 
 pub const MOST_PREAMBLE_MS: u16 = 2000;
 
+/// The least and the most that is waited for an answer where the call of a job is asked for, in seconds.
+pub const LEAST_DIAL_SECONDS: u32 = 1;
+
+pub const MOST_DIAL_SECONDS: u32 = 3_600;
+
 /// The longest stop, in seconds: a day.
 pub const MOST_STOP_SECONDS: u32 = 86_400;
 
@@ -47,6 +52,8 @@ pub struct LineConfig {
     /// How long the packet behind a preamble waits, 40 to 2,000 milliseconds.
     pub preamble_ms: u16,
     pub repeat: Repeat,
+    /// How long an answer is waited for where the call of a job is asked for, 1 to 3,600 seconds.
+    pub dial_seconds: u32,
 }
 
 /// A configuration.

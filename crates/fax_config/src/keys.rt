@@ -31,6 +31,7 @@ impl Level {
                 "redundancy",
                 "preamble_ms",
                 "repeat",
+                "dial_seconds",
             ]
             .contains(&key),
             Level::Leg => ["local", "peer"].contains(&key),

@@ -9,8 +9,8 @@ ghost use Rattle.fax_config.specs.Configurations.{AreLines, AreLinesAt, AreUnlik
 ghost use Rattle.fax_config.specs.Faults.{HasFlaw, HasMisfit, IsFaultOf, IsMisfitOf, IsToldAs, line_number};
 
 use crate::config::{
-    Config, LEAST_PREAMBLE_MS, LegConfig, LineConfig, MOST_LINES, MOST_PREAMBLE_MS,
-    MOST_REDUNDANCY, MOST_STOP_SECONDS,
+    Config, LEAST_DIAL_SECONDS, LEAST_PREAMBLE_MS, LegConfig, LineConfig, MOST_DIAL_SECONDS,
+    MOST_LINES, MOST_PREAMBLE_MS, MOST_REDUNDANCY, MOST_STOP_SECONDS,
 };
 use crate::fault::{ConfigFault, Flaw, LineName, Misfit, Trouble};
 use crate::keys::{Level, only_known_keys};
@@ -195,6 +195,13 @@ fn settings_of(
         u32::from(MOST_PREAMBLE_MS),
     )?;
     let repeat = repeat_of(table)?;
+    let dial_seconds = number_at(
+        table,
+        "dial_seconds",
+        180,
+        LEAST_DIAL_SECONDS,
+        MOST_DIAL_SECONDS,
+    )?;
     Ok(LineConfig {
         name: String::from_str(alloc, name)?,
         calling,
@@ -202,6 +209,7 @@ fn settings_of(
         redundancy: redundancy as u16,
         preamble_ms: preamble_ms as u16,
         repeat,
+        dial_seconds,
     })
 }
 

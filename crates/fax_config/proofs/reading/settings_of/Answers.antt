@@ -13,3 +13,6 @@ returns-in_err-preamble_ms-clause-fault c = let here = c.in_err-preamble_ms.ensu
 
 pub returns-in_err-repeat-clause-fault : goal.returns-in_err-repeat-clause-fault
 returns-in_err-repeat-clause-fault c = let here = c.in_err-repeat.ensures.fault levels.Line in search rules
+
+pub returns-in_err-dial_seconds-clause-fault : goal.returns-in_err-dial_seconds-clause-fault
+returns-in_err-dial_seconds-clause-fault c = let here = c.in_err-dial_seconds.ensures.fault levels.Line in search rules
