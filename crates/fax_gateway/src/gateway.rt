@@ -225,7 +225,7 @@ impl<S: RowStore> Gateway<S> {
     }
 
     /// The job whose call is asked for.
-    fn job_asked(&self) -> Option<&Job<S>>
+    pub fn job_asked(&self) -> Option<&Job<S>>
         ensures { option_copied result ≡ job_asked self.now.settings.asks self.now.book }
     {
         if !self.settings.asks || self.jobs.sending().is_some() {

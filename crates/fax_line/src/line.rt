@@ -251,6 +251,13 @@ impl<W: LineWire + Drop> Line<W> {
         self.gateway.asked()
     }
 
+    /// That job.
+    pub fn job_asked(&self) -> Option<&Job<PackedRows>>
+        ensures { option_copied result ≡ job_asked self.now.gateway.settings.asks self.now.gateway.book }
+    {
+        self.gateway.job_asked()
+    }
+
     /// Report i of those that are kept, counted from 0, the oldest.
     pub fn report(&self, i: usize) -> Option<Report>
         ensures { result ≡ slice_get self.now.gateway.book.reports i }
