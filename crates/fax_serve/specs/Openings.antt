@@ -1,5 +1,5 @@
 -- What a line of a configuration is opened with. (This project's profile.)
-use Rattle.std.specs.Prelude.{◌≡◌, List, [], ◌∷◌, ◌++◌, map}
+use Rattle.std.specs.Prelude.{◌≡◌, Bool, not, is_some, List, [], ◌∷◌, ◌++◌, map}
 use Rattle.std.specs.String.{string_bytes}
 use Rattle.fax_config.specs.declared.config.LineConfig.{LineConfig}
 use Rattle.fax_gateway.specs.Restored.{call_shown}
@@ -11,12 +11,17 @@ use Rattle.fax_shelf.specs.Restorations.{Restores}
 use Rattle.fax_shelf.specs.Shelves.{ShelfValue}
 use Rattle.fax_shelf.specs.declared.restored.Restored.{Restored}
 
+-- A line asks for the calls of its jobs where its configuration gives the called leg no peer.
+abbrev pub asks_by : LineConfig → Bool
+asks_by config = not (is_some config.called.peer)
+
 -- A LINE BEGINS WITH THE CALLS OF ITS OWN of these pages: of those that have its name; and so does its shelf. Its wire holds nothing back.
 pub record IsRestored (pages : List spool.PageValue) (config : LineConfig) (place : PlaceValue) (shelf : ShelfValue) : Type 0 where
   pub restored : Restored
   pub restores : Restores (string_bytes config.name) pages restored
   pub begins : BeginsWith (map call_shown restored.calls.items) place.line
   pub fresh : HasDoneOn [] place.line.holding
+  pub asks : place.line.gateway.settings.asks ≡ asks_by config
   pub shelf_is : restored.shelf ≡ shelf
 
 -- one more line, behind the others, and its shelf

@@ -34,7 +34,11 @@ pub(crate) fn report_text(
         let event = Event {
             line: card.name(),
             at,
-            what: What::Job(report, card.report_tag(i, kept, report.call)),
+            what: What::Job(
+                report,
+                card.report_tag(i, kept, report.call),
+                card.report_cause(i, kept),
+            ),
         };
         let told = write_event(alloc, &event)?;
         text.extend_from_slice(told.as_slice())?;

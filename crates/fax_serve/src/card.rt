@@ -1,5 +1,6 @@
 //! What a server keeps of a line beside its gateway.
 use crate::failures::Failures;
+use crate::questions::{Cause, Question};
 use fax_control::Leg;
 use fax_events::Direction;
 use std::alloc::{AllocError, Global};
@@ -7,11 +8,21 @@ use std::alloc::{AllocError, Global};
 /// The most tags that are kept of a line: the newest.
 const MOST_TAGS: usize = 256;
 
+/// The most causes that are kept of a line: of the newest jobs, as many as `report` tells.
+const MOST_CAUSES: usize = 64;
+
 /// A call, and its tag.
 #[derive(Drop)]
 struct Tagged {
     call: u32,
     tag: String,
+}
+
+/// A job whose call could not be placed, by how many ended before it, and for what cause.
+#[derive(Drop)]
+struct Refused {
+    job: u64,
+    cause: Cause,
 }
 
 /// What a server keeps of a line.
@@ -34,11 +45,16 @@ pub(crate) struct Card {
     /// Jobs that ended, and those of them that were confirmed in an earlier life: they came first.
     jobs: u64,
     restored_jobs: u64,
+    /// For how many seconds a question is open.
+    dial_seconds: u32,
+    /// The question that is open: clients were told that the call of its next job is asked for.
+    question: Option<Question>,
+    refused: Vec<Refused>,
 }
 
 impl Card {
-    /// A line of this name to which nothing happened.
-    pub(crate) fn new(alloc: Global, name: &str) -> Result<Self, AllocError> {
+    /// A line of this name to which nothing happened, whose questions are open for so many seconds.
+    pub(crate) fn new(alloc: Global, name: &str, dial_seconds: u32) -> Result<Self, AllocError> {
         Ok(Card {
             name: String::from_str(alloc, name)?,
             tags: Vec::new(alloc),
@@ -51,6 +67,9 @@ impl Card {
             called_heard: 0,
             jobs: 0,
             restored_jobs: 0,
+            dial_seconds,
+            question: None,
+            refused: Vec::new(alloc),
         })
     }
 
@@ -88,6 +107,55 @@ impl Card {
     /// The call of a job began, when so many datagrams had come on the called leg.
     pub(crate) fn dial(&mut self, heard: u64) {
         self.called_heard = heard;
+    }
+
+    /// The question that is open.
+    pub(crate) fn question(&self) -> Option<Question> {
+        self.question
+    }
+
+    /// Clients are told that the call of the line's next job is asked for, when events were heard for so many milliseconds. A
+    /// question that is open goes on.
+    pub(crate) fn ask(&mut self, heard: u64) {
+        if self.question.is_none() {
+            self.question = Some(Question::new(heard, self.dial_seconds));
+        }
+    }
+
+    /// The call of the job is asked for no more.
+    pub(crate) fn close_question(&mut self) {
+        self.question = None;
+    }
+
+    /// The call of the job that ends next could not be placed, for this cause. It is kept, where memory is there; of more than 64
+    /// the oldest is forgotten.
+    pub(crate) fn refuse(&mut self, cause: Cause) {
+        if self.refused.len() >= MOST_CAUSES {
+            self.refused.remove(0);
+        }
+        let job = self.jobs;
+        let _ = self.refused.push(Refused { job, cause });
+    }
+
+    /// For what cause the call of a job could not be placed, where so many jobs ended before it.
+    fn cause(&self, job: u64) -> Option<&str> {
+        for refused in self.refused.iter().rev() {
+            if refused.job == job {
+                return Some(refused.cause.text());
+            }
+        }
+        None
+    }
+
+    /// For what cause the call of the job that ended last could not be placed.
+    pub(crate) fn last_cause(&self) -> Option<&str> {
+        self.cause(self.jobs.checked_sub(1)?)
+    }
+
+    /// The same of the job of report i of so many that are kept.
+    pub(crate) fn report_cause(&self, i: usize, kept: usize) -> Option<&str> {
+        let behind = (kept as u64).saturating_sub(i as u64);
+        self.cause(self.jobs.checked_sub(behind)?)
     }
 
     /// A page was confirmed, and said to be the last of its call or not. It answers its number in the call, from 1 on.

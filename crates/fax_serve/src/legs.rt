@@ -20,38 +20,58 @@ fn socket_of(line: &ServedLine, leg: Leg) -> &LegSocket {
     leg_of(line, side_of(leg))
 }
 
-/// Whether the call of a leg is on.
+/// Whether the call of a leg is on. One that could not be placed is not, though its job waits for its report: its leg has no peer.
 fn is_on(line: &ServedLine, leg: Leg) -> bool {
     match leg {
         Leg::Calling => line.call().is_some(),
-        Leg::Called => line.sending().is_some(),
+        Leg::Called => line.sending().is_some() && socket_of(line, leg).has_peer(),
     }
 }
 
-/// A leg of a line gets another peer, unless its call is on and has heard from its peer. A called leg has one only while the call
-/// of a job is on, which is the job that a client was asked about; the peer that the configuration gives it stays.
-pub(crate) fn peer_answer(card: &Card, line: &ServedLine, leg: Leg, peer: SocketAddr) -> Answer {
-    if let Err(refusal) = takes_peer(line, leg) {
-        return Answer::Refused(refusal);
-    }
+/// Whether the call of a line's next job is asked for, and clients were told so.
+pub(crate) fn is_asked(card: &Card, line: &ServedLine) -> bool {
+    line.asked().is_some() && card.question().is_some()
+}
+
+/// A leg of a line gets another peer, unless its call is on and has heard from its peer. It answers whether the call that is asked
+/// for is to begin now. A called leg has a peer only from then on to the end of the job; the one that the configuration gives it
+/// stays.
+pub(crate) fn set_peer(
+    card: &Card,
+    line: &ServedLine,
+    leg: Leg,
+    peer: SocketAddr,
+) -> Result<bool, Refusal> {
+    takes_peer(card, line, leg)?;
+    let begins = leg == Leg::Called && is_asked(card, line);
     let received = counts_of(line, side_of(leg)).received;
     if is_on(line, leg) && card.has_heard(leg, received) {
-        return Answer::Refused(Refusal::InCall);
+        return Err(Refusal::InCall);
     }
     match socket_of(line, leg).set_peer(peer) {
-        Ok(()) => Answer::Done,
-        Err(_) => Answer::Refused(Refusal::NoRoute),
+        Ok(()) => Ok(begins),
+        Err(_) => Err(Refusal::NoRoute),
     }
 }
 
 /// Whether a word may say the peer of a leg.
-fn takes_peer(line: &ServedLine, leg: Leg) -> Result<(), Refusal> {
+fn takes_peer(card: &Card, line: &ServedLine, leg: Leg) -> Result<(), Refusal> {
     match leg {
         Leg::Calling => Ok(()),
         Leg::Called if socket_of(line, leg).is_fixed() => Err(Refusal::Fixed),
-        Leg::Called if is_on(line, leg) => Ok(()),
+        Leg::Called if is_on(line, leg) || is_asked(card, line) => Ok(()),
         Leg::Called => Err(Refusal::NoCall),
     }
+}
+
+/// The called leg of a line has no peer any more: its call did not begin.
+pub(crate) fn cut_called(line: &ServedLine) {
+    socket_of(line, Leg::Called).cut();
+}
+
+/// The call of a line's job begins, so that nothing is known yet of its peer's.
+pub(crate) fn begin_called(line: &ServedLine) {
+    socket_of(line, Leg::Called).begin_anew();
 }
 
 /// The peer's call on a leg is gone, where the leg's call is on.

@@ -2,7 +2,6 @@
 #![tactic(auto)]
 
 mod answers;
-mod asking;
 mod card;
 mod clock;
 mod control;
@@ -11,7 +10,9 @@ mod fault;
 mod keeper;
 pub mod laws;
 mod legs;
+mod orders;
 mod pace;
+mod questions;
 mod run;
 mod schedule;
 mod sockets;

@@ -2,14 +2,17 @@
 ghost use Rattle.std.specs.Prelude.{◌≡◌, ◌-◌, nat_lt, if◌then◌else◌};
 ghost use Rattle.fax_shelf.specs.SpoolKeeping.{IsUnchanged};
 
+mod asking;
+
 use crate::answers::{
     answer_text, counters_of, counts_of, is_idle, leg_of, report_text, status_text,
 };
-use crate::asking::{begins_to_ask, is_asked_about, no_call_is_on, waits_to_ask};
 use crate::card::Card;
 use crate::clock::Stopwatch;
 use crate::keeper::SpoolKeeper;
-use crate::legs::{hang_up_answer, peer_answer, settle_legs};
+use crate::legs::{hang_up_answer, settle_legs};
+use crate::orders::{Ordered, Ringing};
+use crate::questions::HeardTime;
 use crate::schedule::Schedule;
 use crate::sockets::{ServedLine, ServedLines};
 use crate::state::state_text;
@@ -21,18 +24,17 @@ use fax_bits::NoMemory;
 use fax_clients::{Asker, Clients};
 use fax_control::{Answer, Heard, Leg, Refusal, Word, read_word};
 use fax_events::{What, write_metrics};
-use fax_gateway::{Kept, RingFault, Side};
+use fax_gateway::{Kept, Side};
 use fax_hold::HoldingWire;
 use fax_jobs::Report;
 use fax_legs::UdpWire;
-use fax_line::{Order, Pace, SLOTS, SlotEnd};
+use fax_line::{Answered, Order, Pace, SLOTS, SlotEnd};
 use fax_repeat::RepeatingWire;
 use fax_shelf::Shelf;
 use fax_spool::WaitingPage;
 use sqlite_disk::Disk;
 use std::alloc::Global;
 use std::io::{Read, Write};
-use std::net::SocketAddr;
 use std::rt::Clock;
 
 /// A turn that is so many milliseconds late is told.
@@ -54,9 +56,6 @@ const TURNS_A_LOOK: u64 = 25;
 /// other: each of them less than a round late.
 const MOST_QUIET_MS: u64 = 9;
 
-/// While turns are held, it is looked each so many milliseconds whether the run ends.
-const HOLDING_MS: u64 = 100;
-
 /// The most words and wake-ups between two turns.
 const MOST_WAKES: u32 = 100_000;
 
@@ -76,10 +75,13 @@ pub struct RealPace<'a, C: Clock, I: Read + Drop, O: Write + Drop> {
     late_from: u64,
     stop: Stop,
     stop_ms: u64,
-    /// Whether clients are asked about the calls of jobs of some line.
-    asks: bool,
-    /// Who asked for the ring that was ordered, and its tag.
-    ringing: Option<Ringing>,
+    /// What was ordered of a line and is not told of yet, and what the line answered.
+    ordered: Option<Ordered>,
+    answered: Option<(usize, Option<Answered>)>,
+    /// The time of questions.
+    heard: HeardTime,
+    /// The lines whose questions are to be looked at: one is to be asked, or its time is over.
+    to_ask: Vec<usize>,
     cards: Vec<Card>,
     teller: Teller<I, O>,
     /// What tells which legs have datagrams, where the system gives it.
@@ -92,24 +94,14 @@ pub struct RealPace<'a, C: Clock, I: Read + Drop, O: Write + Drop> {
     put_from: Option<u64>,
 }
 
-/// Who asked for a ring, and its tag.
-#[derive(Drop)]
-struct Ringing {
-    asker: Asker,
-    tag: Option<String>,
-    /// How many datagrams had come on the calling leg.
-    heard: u64,
-}
-
 impl<'a, C: Clock, I: Read + Drop, O: Write + Drop> RealPace<'a, C, I, O> {
-    /// The time begins now. A stop takes so many milliseconds at most. Clients are asked about the calls of jobs, or not.
+    /// The time begins now. A stop takes so many milliseconds at most.
     pub(crate) fn new(
         alloc: Global,
         clock: Stopwatch<'a, C>,
         clients: Clients<I, O>,
         cards: Vec<Card>,
         stop_ms: u64,
-        asks: bool,
         watch: Option<Watch>,
     ) -> Self {
         let count = cards.len();
@@ -123,8 +115,10 @@ impl<'a, C: Clock, I: Read + Drop, O: Write + Drop> RealPace<'a, C, I, O> {
             late_from: 0,
             stop: Stop::No,
             stop_ms,
-            asks,
-            ringing: None,
+            ordered: None,
+            answered: None,
+            heard: HeardTime::new(),
+            to_ask: Vec::new(alloc),
             cards,
             teller: Teller::new(alloc, clients, count),
             watch,
@@ -178,6 +172,8 @@ impl<'a, C: Clock, I: Read + Drop, O: Write + Drop> RealPace<'a, C, I, O> {
         if let Some(now) = self.clock.now() {
             self.now = now;
         }
+        let is_heard = self.teller.clients.tell_events();
+        self.heard.go_on(self.now, is_heard);
     }
 
     /// Tells what the turn that was ordered came to, of each line that was not left at rest in it.
@@ -193,6 +189,7 @@ impl<'a, C: Clock, I: Read + Drop, O: Write + Drop> RealPace<'a, C, I, O> {
             if has_turned || looks {
                 self.tell_line(i, has_turned, looks, lines, keeper);
             }
+            self.note_question(i, has_turned || looks, lines);
         }
     }
 
@@ -251,7 +248,7 @@ impl<'a, C: Clock, I: Read + Drop, O: Write + Drop> RealPace<'a, C, I, O> {
             return;
         };
         let tag = job_tag(keeper, card, i, report.call);
-        self.teller.tell_job(card.name(), report, tag, self.now);
+        self.teller.tell_job(card, report, tag, self.now);
     }
 
     /// Whether the sockets of a slot's lines are asked in its next turn, whatever the system told.
@@ -277,21 +274,8 @@ impl<'a, C: Clock, I: Read + Drop, O: Write + Drop> RealPace<'a, C, I, O> {
         self.schedule.left(self.now) > 0 || self.turns % TURNS_A_WORD == 0
     }
 
-    /// Whether turns are held: the next one would begin the call of a job that a client is to be asked about, nobody hears events,
-    /// and no call is on that would be cut.
-    fn holds(&self, lines: &ServedLines) -> bool {
-        self.asks
-            && !self.teller.clients.tell_events()
-            && begins_to_ask(lines.slot(), lines)
-            && no_call_is_on(lines)
-    }
-
-    /// For how many milliseconds words are waited for: until the next turn, and while turns are held for a while.
-    fn most_waited(&mut self, is_held: bool, lines: &ServedLines) -> u64 {
-        if is_held {
-            self.schedule.hold(self.now);
-            return HOLDING_MS;
-        }
+    /// For how many milliseconds words are waited for: until the next turn that finds something to do.
+    fn most_waited(&self, lines: &ServedLines) -> u64 {
         let left = self.schedule.left(self.now);
         let quiet = if left == 0 {
             0
@@ -301,13 +285,13 @@ impl<'a, C: Clock, I: Read + Drop, O: Write + Drop> RealPace<'a, C, I, O> {
         left.saturating_add(quiet).min(1_000)
     }
 
-    /// Waits for a word, for so many milliseconds at most. It answers the line that is to ring, if one is.
+    /// Waits for a word, for so many milliseconds at most. It answers what the word orders of a line.
     fn wait<D: Disk>(
         &mut self,
         most: u64,
         lines: &ServedLines,
         keeper: Option<&SpoolKeeper<D>>,
-    ) -> Option<usize> {
+    ) -> Option<Order> {
         self.teller.clients.wait(most.min(1_000) as i32);
         self.read_clock();
         let (asker, heard) = self.teller.clients.hear()?;
@@ -386,20 +370,20 @@ impl<'a, C: Clock, I: Read + Drop, O: Write + Drop> RealPace<'a, C, I, O> {
         }
     }
 
-    /// Does what a word says. It answers the line that is to ring, if one is.
+    /// Does what a word says. It answers what the word orders of a line.
     fn obey<D: Disk>(
         &mut self,
         asker: Asker,
         word: Word<'_>,
         lines: &ServedLines,
         keeper: Option<&SpoolKeeper<D>>,
-    ) -> Option<usize> {
+    ) -> Option<Order> {
         match word {
             Word::Ring(name, tag) => return self.ring(asker, name, tag, lines),
             Word::Peer(name, leg, address) => {
-                let answer = self.set_peer(name, leg, address, lines);
-                self.answer(asker, answer);
+                return self.say_peer(asker, name, leg, address, lines);
             }
+            Word::Refuse(name, cause) => return self.refuse(asker, name, cause, lines),
             Word::HangUp(name, leg) => {
                 let answer = self.hang_up(name, leg, lines);
                 self.answer(asker, answer);
@@ -419,24 +403,35 @@ impl<'a, C: Clock, I: Read + Drop, O: Write + Drop> RealPace<'a, C, I, O> {
         None
     }
 
-    /// A line is to ring: which one, where it can.
+    /// A line is to ring: it answers the order, where the line can.
     fn ring(
         &mut self,
         asker: Asker,
         name: &str,
         tag: Option<&str>,
         lines: &ServedLines,
-    ) -> Option<usize> {
+    ) -> Option<Order> {
         match self.ring_of(asker, name, tag, lines) {
-            Ok((i, ringing)) => {
-                self.ringing = Some(ringing);
-                Some(i)
-            }
-            Err(refusal) => {
-                self.answer(asker, Answer::Refused(refusal));
-                None
-            }
+            Ok((i, ringing)) => Some(self.order(i, Ordered::Ring(ringing))),
+            Err(refusal) => self.refuse_word(asker, refusal),
         }
+    }
+
+    /// This is ordered of line i. It answers the order.
+    fn order(&mut self, i: usize, ordered: Ordered) -> Order {
+        let what = ordered.asked();
+        self.ordered = Some(ordered);
+        Order::Ask {
+            line: i,
+            now: self.now,
+            what,
+        }
+    }
+
+    /// A word is refused, and orders nothing.
+    fn refuse_word(&mut self, asker: Asker, refusal: Refusal) -> Option<Order> {
+        self.answer(asker, Answer::Refused(refusal));
+        None
     }
 
     /// The line that is to ring, and who asked for it.
@@ -459,12 +454,6 @@ impl<'a, C: Clock, I: Read + Drop, O: Write + Drop> RealPace<'a, C, I, O> {
         if !leg_of(line, Side::Calling).has_peer() {
             return Err(Refusal::NoPeer);
         }
-        if self.asks
-            && !self.teller.clients.tell_events()
-            && (is_asked_about(line) || waits_to_ask(lines))
-        {
-            return Err(Refusal::Unheard);
-        }
         let tag = match tag {
             None => None,
             Some(tag) => match String::from_str(self.alloc, tag) {
@@ -479,19 +468,6 @@ impl<'a, C: Clock, I: Read + Drop, O: Write + Drop> RealPace<'a, C, I, O> {
     /// The line of this name.
     fn find(&self, name: &str) -> Option<usize> {
         self.cards.iter().position(|card| card.name() == name)
-    }
-
-    /// A leg gets another peer.
-    fn set_peer(&mut self, name: &str, leg: Leg, peer: SocketAddr, lines: &ServedLines) -> Answer {
-        if let Some(i) = self.find(name)
-            && let Some(card) = self.cards.get(i)
-            && let Some(line) = lines.line(i)
-        {
-            let _ = self.woken.push(i);
-            peer_answer(card, line, leg, peer)
-        } else {
-            Answer::Refused(Refusal::NoLine)
-        }
     }
 
     /// The peer's call on a leg is gone.
@@ -537,7 +513,7 @@ impl<'a, C: Clock, I: Read + Drop, O: Write + Drop> RealPace<'a, C, I, O> {
         self.put(asker, text);
     }
 
-    /// From now on a client is told events, behind how the lines are.
+    /// From now on a client is told events, behind how the lines are. The calls that lines ask for are asked of it.
     fn want_events<D: Disk>(
         &mut self,
         asker: Asker,
@@ -545,17 +521,28 @@ impl<'a, C: Clock, I: Read + Drop, O: Write + Drop> RealPace<'a, C, I, O> {
         keeper: Option<&SpoolKeeper<D>>,
     ) {
         let text = match self.teller.clients.want_events(asker) {
-            Ok(()) => state_text(
-                self.alloc,
-                self.teller.aside(),
-                self.cards.as_slice(),
-                lines,
-                keeper,
-                self.now,
-            ),
+            Ok(()) => self.state(lines, keeper),
             Err(NoMemory) => Err(NoMemory),
         };
         self.put(asker, text);
+    }
+
+    /// How the lines are, for a client that is told events from now on: the questions are open that it is told.
+    fn state<D: Disk>(
+        &mut self,
+        lines: &ServedLines,
+        keeper: Option<&SpoolKeeper<D>>,
+    ) -> Result<Vec<u8>, NoMemory> {
+        self.open_questions(lines);
+        state_text(
+            self.alloc,
+            self.teller.aside(),
+            self.cards.as_slice(),
+            lines,
+            keeper,
+            self.now,
+            self.heard.heard(),
+        )
     }
 
     /// A client is answered by a line. Without memory for it there is no answer.
@@ -662,17 +649,6 @@ fn are_idle(lines: &ServedLines) -> bool {
     true
 }
 
-/// What was answered to a ring.
-fn ring_answer(answer: Option<Result<u32, RingFault>>) -> Answer {
-    match answer {
-        None => Answer::Refused(Refusal::NoLine),
-        Some(Ok(call)) => Answer::Rung(call),
-        Some(Err(RingFault::Busy)) => Answer::Refused(Refusal::Busy),
-        Some(Err(RingFault::NoNumber)) => Answer::Refused(Refusal::NoNumber),
-        Some(Err(RingFault::NoMemory)) => Answer::Refused(Refusal::NoMemory),
-    }
-}
-
 /// What is asked and answered is not told of a clock and sockets.
 impl<'a, C: Clock, I: Read + Drop, O: Write + Drop, D: Disk> Pace<
     HoldingWire<RepeatingWire<UdpWire>>,
@@ -683,6 +659,10 @@ impl<'a, C: Clock, I: Read + Drop, O: Write + Drop, D: Disk> Pace<
     ghost words = { λ _. None };
 
     fn next(&mut self, lines: &ServedLines, keeper: Option<&SpoolKeeper<D>>) -> Option<Order> {
+        self.tell_answered(lines, keeper);
+        if let Some(order) = self.look_at_questions(lines, keeper) {
+            return Some(order);
+        }
         if self.has_looked {
             return Some(self.turn_or_wake(lines));
         }
@@ -691,22 +671,15 @@ impl<'a, C: Clock, I: Read + Drop, O: Write + Drop, D: Disk> Pace<
             if self.is_over(lines) {
                 return None;
             }
-            let is_held = self.holds(lines);
-            let most = self.most_waited(is_held, lines);
-            if (is_held || self.asks_clients())
-                && let Some(line) = self.wait(most, lines, keeper)
+            let most = self.most_waited(lines);
+            if self.asks_clients()
+                && let Some(order) = self.wait(most, lines, keeper)
             {
-                return Some(Order::Ring {
-                    line,
-                    now: self.now,
-                });
+                return Some(order);
             }
-            if self.schedule.left(self.now) == 0 && !self.holds(lines) {
+            if self.schedule.left(self.now) == 0 {
                 break;
             }
-        }
-        if self.holds(lines) {
-            return Some(Order::Wake { line: 0 });
         }
         self.look(lines);
         Some(self.turn_or_wake(lines))
@@ -737,16 +710,7 @@ impl<'a, C: Clock, I: Read + Drop, O: Write + Drop, D: Disk> Pace<
         self.tell_turned(lines, keeper);
     }
 
-    fn rung(&mut self, line: usize, answer: Option<Result<u32, RingFault>>) {
-        let Some(Ringing { asker, tag, heard }) = self.ringing.take() else {
-            return;
-        };
-        self.answer(asker, ring_answer(answer));
-        let Some(Ok(call)) = answer else {
-            return;
-        };
-        if let Some(card) = self.cards.get_mut(line) {
-            self.teller.tell_ring(card, call, tag, heard, self.now);
-        }
+    fn done(&mut self, line: usize, answer: Option<Answered>) {
+        self.answered = Some((line, answer));
     }
 }

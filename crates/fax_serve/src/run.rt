@@ -147,8 +147,7 @@ fn pace_of<'a, N: Net + Clock, I: Read + Drop, O: Write + Drop>(
     };
     let stop_ms = u64::from(config.stop_seconds).saturating_mul(SECOND_MS);
     let watch = Watch::new(system, alloc, lines).ok();
-    let asks = asks_clients(config.lines.as_slice());
-    Ok(RealPace::new(alloc, clock, clients, cards, stop_ms, asks, watch))
+    Ok(RealPace::new(alloc, clock, clients, cards, stop_ms, watch))
 }
 
 /// Serves lines that are new.
@@ -178,16 +177,12 @@ fn serve_restored<C: Clock, I: Read + Drop, O: Write + Drop, S: Start>(
     serve(&mut lines, &mut keeper, pace);
 }
 
-/// Whether some called leg has no peer of the configuration, so that clients are asked about the calls of its jobs.
-fn asks_clients(configs: &[LineConfig]) -> bool {
-    configs.iter().any(|config| config.called.peer.is_none())
-}
-
 /// What is kept of the lines.
 fn cards_of(alloc: Global, configs: &[LineConfig]) -> Result<Vec<Card>, ServeFault> {
     let mut cards = Vec::new(alloc);
     for config in configs {
-        cards.push(Card::new(alloc, config.name.as_str())?)?;
+        let card = Card::new(alloc, config.name.as_str(), config.dial_seconds)?;
+        cards.push(card)?;
     }
     Ok(cards)
 }

@@ -1,5 +1,5 @@
 //! When slots have their turns.
-ghost use Rattle.std.specs.Prelude.{◌≡◌, ◌+◌, ◌-◌, ◌≤◌, ◌<◌, ◌^◌, max, min};
+ghost use Rattle.std.specs.Prelude.{◌≡◌, ◌+◌, ◌-◌, ◌≤◌, ◌<◌, ◌^◌, min};
 
 /// So many milliseconds behind, turns are left out.
 const MOST_BEHIND_MS: u64 = 1_000;
@@ -33,13 +33,6 @@ impl Schedule {
         ensures { result ≡ self.now.skipped }
     {
         self.skipped
-    }
-
-    /// Turns are held: the next one is due no sooner than now, and none is late that was held.
-    pub fn hold(&mut self, now: u64)
-        ensures { self.new ≡ record self.old { due = max self.old.due now } }
-    {
-        self.due = self.due.max(now);
     }
 
     /// The next turn begins now. It answers how late it is. Where that is at most 1 s the turn behind it is due a millisecond

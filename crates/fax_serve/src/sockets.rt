@@ -6,7 +6,7 @@ ghost use Rattle.fax_line.specs.Actions.{BeginsWith};
 ghost use Rattle.fax_line.specs.Deeds.{AreBegun, AreNew};
 ghost use Rattle.fax_shelf.specs.OnLeg.{HasDoneOn};
 ghost use Rattle.fax_serve.specs.KeptRuns.{AreRestored};
-ghost use Rattle.fax_serve.specs.Openings.{AddsRestored};
+ghost use Rattle.fax_serve.specs.Openings.{AddsRestored, asks_by};
 
 use crate::fault::ServeFault;
 use fax_config::{LegConfig, LineConfig, Repeat};
@@ -106,6 +106,7 @@ fn open_line<N: Net>(
 ) -> Result<ServedLine, ServeFault>
     ensures begins { IfOk result (λ line. BeginsWith (map call_shown calls.items) line) }
     ensures fresh { IfOk result (λ line. HasDoneOn [] line.holding) }
+    ensures asks { IfOk result (λ line. line.gateway.settings.asks ≡ asks_by config.now) }
 {
     let wire = open_wire(net, alloc, config)?;
     let wire = RepeatingWire::new(wire, policy_of(config.repeat));
@@ -151,18 +152,25 @@ fn policy_of(repeat: Repeat) -> RepeatPolicy {
     }
 }
 
-/// The settings of a line's gateway. Those beyond the limits, which no configuration has, would be the defaults.
+/// The settings of a line's gateway, which asks for the calls of its jobs where the configuration gives the called leg no peer. Those
+/// beyond the limits, which no configuration has, would be the defaults.
 fn settings_of(config: &LineConfig) -> Settings
-    ensures { AreAllowed result }
+    ensures allowed { AreAllowed result }
+    ensures asks { result.asks ≡ asks_by config.now }
 {
+    let asks = config.called.peer.is_none();
     let is_pause = LEAST_PREAMBLE_MS <= config.preamble_ms
         && config.preamble_ms <= MOST_PREAMBLE_MS;
     if config.redundancy <= MOST_REDUNDANCY && is_pause {
         Settings {
             redundancy: config.redundancy as u8,
             preamble_ms: config.preamble_ms,
+            asks,
         }
     } else {
-        Settings::default()
+        Settings {
+            asks,
+            ..Settings::default()
+        }
     }
 }

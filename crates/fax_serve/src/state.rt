@@ -2,16 +2,20 @@
 use crate::answers::leg_of;
 use crate::card::Card;
 use crate::keeper::SpoolKeeper;
+use crate::questions::Question;
 use crate::sockets::{ServedLine, ServedLines};
 use crate::tags::job_tag;
 use fax_bits::NoMemory;
-use fax_events::{Event, What, write_event};
+use fax_events::{AskedJob, Event, What, write_event};
 use fax_gateway::Side;
 use sqlite_disk::Disk;
 use std::alloc::Global;
 
-/// The pages that are not sent, of which these lines of events tell, each call that is on, each job whose call is on, and whether its
-/// called leg has a peer, as events of this moment, and `ok`.
+/// The first time that the call of a job is asked for.
+const FIRST_TRY: u32 = 1;
+
+/// The pages that are not sent, of which these lines of events tell, each call that is on, and each job whose call is on or is asked
+/// for, as events of this moment, when events were heard for so many milliseconds, and `ok`.
 pub(crate) fn state_text<D: Disk>(
     alloc: Global,
     aside: &[Vec<u8>],
@@ -19,6 +23,7 @@ pub(crate) fn state_text<D: Disk>(
     lines: &ServedLines,
     keeper: Option<&SpoolKeeper<D>>,
     at: u64,
+    heard: u64,
 ) -> Result<Vec<u8>, NoMemory> {
     let mut text = Vec::new(alloc);
     for told in aside {
@@ -28,7 +33,7 @@ pub(crate) fn state_text<D: Disk>(
         if let Some(line) = lines.line(i) {
             let rung = rung_of(card, line);
             put_event(alloc, card, at, rung, &mut text)?;
-            let job = job_of(i, card, line, keeper);
+            let job = job_of(i, card, line, keeper, heard);
             put_event(alloc, card, at, job, &mut text)?;
         }
     }
@@ -44,23 +49,36 @@ fn rung_of<'a>(card: &'a Card, line: &ServedLine) -> Option<What<'a>> {
     }
 }
 
-/// The job of line i whose call is on: it waits for a peer, or has one.
+/// The job of line i whose call is on, with a peer, or the one whose call clients are asked for.
 fn job_of<'a, D: Disk>(
     i: usize,
     card: &'a Card,
     line: &ServedLine,
     keeper: Option<&'a SpoolKeeper<D>>,
+    heard: u64,
 ) -> Option<What<'a>> {
-    let Some(job) = line.sending() else {
-        return None;
-    };
-    let call = job.call();
-    let tag = job_tag(keeper, card, i, call);
-    if leg_of(line, Side::Called).has_peer() {
-        Some(What::Connected(call, tag))
-    } else {
-        Some(What::Dial(call, tag))
+    match line.sending() {
+        Some(job) if leg_of(line, Side::Called).has_peer() => {
+            let call = job.call();
+            Some(What::Connected(call, job_tag(keeper, card, i, call)))
+        }
+        Some(_) => None,
+        None => {
+            let asked = asked_of(line, card.question()?, heard)?;
+            Some(What::Asked(asked, job_tag(keeper, card, i, asked.call)))
+        }
     }
+}
+
+/// The job whose call a line asks for by this question, when events were heard for so many milliseconds.
+pub(crate) fn asked_of(line: &ServedLine, question: Question, heard: u64) -> Option<AskedJob> {
+    let job = line.job_asked()?;
+    Some(AskedJob {
+        call: job.call(),
+        tries: FIRST_TRY,
+        pages: job.page_count(),
+        seconds: question.seconds_left(heard),
+    })
 }
 
 /// Adds the line of what happens on a line, where something does.

@@ -95,10 +95,11 @@ impl<I: Read + Drop, O: Write + Drop> Teller<I, O> {
         self.tell_failures(card, line, at);
     }
 
-    /// Tells a job that ended, of a call with this tag.
-    pub(crate) fn tell_job(&mut self, line: &str, report: Report, tag: Option<&str>, at: u64) {
+    /// Tells the job of a line that ended last, of a call with this tag.
+    pub(crate) fn tell_job(&mut self, card: &Card, report: Report, tag: Option<&str>, at: u64) {
         self.count_report(report);
-        self.tell(line, at, What::Job(report, tag));
+        let what = What::Job(report, tag, card.last_cause());
+        self.tell(card.name(), at, what);
     }
 
     /// Tells a page of line `line` that could not be kept, of a call with this tag.

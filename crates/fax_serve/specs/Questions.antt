@@ -1,0 +1,17 @@
+-- Calls of jobs that clients are asked for (this project's profile).
+use Rattle.std.specs.Prelude.{ℕ, ◌+◌, ◌-◌, ◌*◌, ◌/◌, ◌^◌, min, List, codes, string_bytes}
+use Rattle.fax_serve.specs.declared.questions.Cause.{Cause}
+use Rattle.fax_serve.specs.declared.questions.Cause.TheVariants.{Said, Unanswered}
+
+-- A question that is asked when events were heard for so many milliseconds is open for so many seconds in which they are heard.
+abbrev pub open_until : ℕ → ℕ → ℕ
+open_until heard seconds = min (heard + 1000 * seconds) (2 ^ 64 - 1)
+
+-- for how many seconds it is open still; one that has begun counts
+abbrev pub seconds_left : ℕ → ℕ → ℕ
+seconds_left until heard = min ((until - heard + 999) / 1000) (2 ^ 32 - 1)
+
+-- the cause that a client said, or that nobody answered
+abbrev pub cause_text : Cause → List ℕ
+cause_text (Said text) = string_bytes text
+cause_text Unanswered = codes "unanswered"
