@@ -22,9 +22,10 @@ test:
 play:
 	tools/play $(PROGRAM)
 
-# The jobs of lines whose called leg has no peer of its own, 100 times and behind a crash with 20 of them. It wants half an hour.
+# The jobs of lines whose called leg has no peer of its own, 100 times and behind a crash with 20 of them, and a machine that rings for
+# 60 s. It wants half an hour.
 asked:
-	FAXGATE_TIMES=100 FAXGATE_JOBS=20 tools/play $(PROGRAM) --slow 4 -k asked
+	FAXGATE_TIMES=100 FAXGATE_JOBS=20 FAXGATE_RINGS=60 tools/play $(PROGRAM) --slow 4 -k asked
 
 # Tests the calls for C from C, through fax_c.h: crates/fax_c/tests.c. The gate proves them, and runs none of these. It wants a C
 # compiler, and no other library.

@@ -3,8 +3,9 @@
 
 usage: samples/element.py CONTROL_SOCKET LINE CALLER CALLED
 
-A SIP element does this for each call. CALLER is the address of the caller's T.38 media, which its SDP says; CALLED is that of the
-machine which the element calls once `dial` asks for it. It prints answers and events, and ends with 0 where the pages were delivered.
+A SIP element does this for each call. CALLER is the address of the caller's T.38 media, which its SDP says. CALLED is what came of the
+call that `dial` asks for: the address in the answer of the machine that was called, or the code with which it refused, as 486. It prints
+answers and events, and ends with 0 where the pages were delivered.
 """
 import collections, json, socket, sys
 
@@ -35,20 +36,26 @@ class Client:
         return event
 
 
+def place(client, line, called):
+    """Answers the question of a line: here the element calls the machine that the tag stands for, offers T.38 at the line's called leg,
+    and waits until it answers or refuses, `seconds` of the question at most."""
+    if ":" in called:
+        client.say(f"peer {line} called {called}")  # its pages go there, and the call begins
+    else:
+        client.say(f"refuse {line} {called}")  # its job ends with this cause
+
+
 def main(path, line, caller, called):
     client = Client(path)
-    # first it is told what is on: behind a crash of either side jobs may wait (`dial`), each with its tag
+    # first it is told what is on: behind a crash of either side calls of jobs may be asked for (`dial`), each with its tag
     client.say("events")
     if not (client.say(f"peer {line} calling {caller}") and client.say(f"ring {line} {TAG}")):
         return 1
     while True:
         event = client.event()
-        if event.get("tag") != TAG:
-            continue
-        if event["event"] == "dial":
-            # here the element calls the machine, offers T.38 at the line's called leg, and takes the address from its answer
-            client.say(f"peer {line} called {called}")
-        if event["event"] == "job":
+        if event["event"] == "dial" and event["line"] == line:
+            place(client, line, called)
+        if event["event"] == "job" and event["tag"] == TAG:
             return 0 if event["outcome"] == "Delivered" else 1
 
 
