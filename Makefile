@@ -12,10 +12,12 @@ all:
 demo: all
 	tools/demo $(PROGRAM)
 
-# The merge gate: every proof, the wrong bodies, the tests, the stored run; and the plays, on the program that was built.
+# The merge gate: every proof, the wrong bodies, the tests, the stored run; the plays, on the program that was built; and the
+# documents.
 test:
 	$(RT) ci
 	$(MAKE) play
+	$(MAKE) check-docs
 
 # Plays the cases of tests/cases and the modules of tests/play on the program that stands there; it builds and proves nothing.
 # It wants Python 3.11, and no `rt`.
@@ -80,9 +82,10 @@ crash: all
 tables:
 	tools/code-tables check
 
-# Checks that what the documents name is there: links, files, functions, clauses, laws. It wants Python 3 and no `rt`.
+# Checks the documents and the samples against the code, and that each check finds what it is for; where the program was built,
+# runs the commands that they show. It wants Python 3.11, git, and no `rt`.
 check-docs:
-	tools/check-docs
+	tools/check-docs --self-test $(wildcard $(PROGRAM))
 
 # Times the codec beside libtiff and spandsp: see bench/README.md. It wants a C compiler and both libraries.
 KIT_C = $(dir $(shell $(RT) doc))c
