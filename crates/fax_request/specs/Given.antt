@@ -58,6 +58,13 @@ pub record IsFormatOf (given : List Row) (format : Format) : Type 0 where
   pub width : format.width ≡ width_named (first_of (codes "width") given)
   pub fine : IsFlagOf (one_of (codes "fine") given) format.fine
 
+-- the settings of both legs: a job's call begins by itself
 pub record AreSettingsOf (given : List Row) (settings : Settings) : Type 0 where
   pub redundancy : IsNumberOf (one_of (codes "redundancy") given) 0 most_redundancy 3 settings.redundancy
   pub preamble : IsNumberOf (one_of (codes "preamble") given) pace longest_pause 40 settings.preamble_ms
+  pub asks : settings.asks ≡ false
+
+-- those of a gateway on which a script is played: a job's call is asked for where --asks is given
+pub record AreScriptSettingsOf (given : List Row) (settings : Settings) : Type 0 where
+  pub legs : AreSettingsOf given (record settings { asks = false })
+  pub asks : IsFlagOf (one_of (codes "asks") given) settings.asks

@@ -20,7 +20,7 @@ use Rattle.fax_request.specs.declared.explain_options.ExplainOptions.{ExplainOpt
 use Rattle.fax_request.specs.declared.machines.Machines.{Machines}
 use Rattle.fax_request.specs.declared.request.Request.{Request}
 use Rattle.fax_request.specs.declared.request.Request.TheVariants.{Page, Trace, Explain, Capture, Loop, Serve, Send, Receive}
-use Rattle.fax_request.specs.Given.{IsNumberOf, IsFlagOf, IsFormatOf, AreSettingsOf, coding_named, repeat_named}
+use Rattle.fax_request.specs.Given.{IsNumberOf, IsFlagOf, IsFormatOf, AreSettingsOf, AreScriptSettingsOf, coding_named, repeat_named}
 
 -- what is made of the input: --back, --pbm
 abbrev pub IsOutputOf : List Row → Output → Type 0
@@ -35,7 +35,7 @@ pub record ArePageOptionsOf (given : List Row) (options : PageOptions) : Type 0 
   pub output : IsOutputOf given options.output
 
 pub record AreExplainOptionsOf (given : List Row) (options : ExplainOptions) : Type 0 where
-  pub settings : AreSettingsOf given options.settings
+  pub settings : AreScriptSettingsOf given options.settings
   pub pages : option_map (λ text. text.now) options.pages ≡ first_of (codes "pages") given
 
 -- the octets of an address, as a host
@@ -78,7 +78,7 @@ pub record AreReceiveOptionsOf (given : List Row) (options : ReceiveOptions) : T
 -- what a command and the values of its options ask for
 abbrev pub Asks : Text → List Row → Request → Type 0
 Asks command given (Page options) = (command ≡ codes "page") × ArePageOptionsOf given options
-Asks command given (Trace settings) = (command ≡ codes "trace") × AreSettingsOf given settings
+Asks command given (Trace settings) = (command ≡ codes "trace") × AreScriptSettingsOf given settings
 Asks command given (Explain options) = (command ≡ codes "explain") × AreExplainOptionsOf given options
 Asks command given (Capture machines) = (command ≡ codes "capture") × AreMachinesOf given machines
 Asks command given (Loop settings) = (command ≡ codes "loop") × AreSettingsOf given settings

@@ -2,7 +2,7 @@
 ghost use Rattle.clap.specs.Words.{found_of, rows_of};
 ghost use Rattle.fax_request.specs.Requests.{AreExplainOptionsOf};
 
-use crate::given::{settings_of, text_of};
+use crate::given::{script_settings_of, text_of};
 use clap::ArgMatches;
 use fax_gateway::Settings;
 
@@ -19,7 +19,7 @@ pub(crate) fn explain_options_of<'a>(given: &ArgMatches<'a>) -> ExplainOptions<'
     ensures { AreExplainOptionsOf (rows_of (found_of given.now)) result }
 {
     ExplainOptions {
-        settings: settings_of(given),
+        settings: script_settings_of(given),
         pages: text_of(given, "pages"),
     }
 }

@@ -1,7 +1,7 @@
 //! What the options mean that several commands have.
 ghost use Rattle.std.specs.Prelude.{◌≡◌, ◌≤◌, ◌^◌, codes, option_map};
 ghost use Rattle.clap.specs.Words.{first_of, found_of, one_of, rows_of};
-ghost use Rattle.fax_request.specs.Given.{AreSettingsOf, IsFlagOf, IsFormatOf, IsNumberOf, coding_named, repeat_named, width_named};
+ghost use Rattle.fax_request.specs.Given.{AreScriptSettingsOf, AreSettingsOf, IsFlagOf, IsFormatOf, IsNumberOf, coding_named, repeat_named, width_named};
 
 use clap::ArgMatches;
 use fax_gateway::Settings;
@@ -98,13 +98,14 @@ pub(crate) fn repeat_of(given: &ArgMatches<'_>) -> RepeatPolicy
     }
 }
 
-/// The settings of the gateway that were given, and the defaults of those that were not.
+/// The settings of both legs that were given, and the defaults of those that were not: a job's call begins by itself.
 pub(crate) fn settings_of(given: &ArgMatches<'_>) -> Settings
     ensures { AreSettingsOf (rows_of (found_of given.now)) result }
 {
     let Settings {
         redundancy,
         preamble_ms,
+        asks,
     } = Settings::default();
     let most = u64::from(MOST_REDUNDANCY);
     let shortest = u64::from(LEAST_PREAMBLE_MS);
@@ -112,5 +113,16 @@ pub(crate) fn settings_of(given: &ArgMatches<'_>) -> Settings
     Settings {
         redundancy: number_of(given, "redundancy", 0, most, u64::from(redundancy)) as u8,
         preamble_ms: number_of(given, "preamble", shortest, longest, u64::from(preamble_ms)) as u16,
+        asks,
+    }
+}
+
+/// The same of a gateway on which a script is played: whether a job's call is asked for is given, too.
+pub(crate) fn script_settings_of(given: &ArgMatches<'_>) -> Settings
+    ensures { AreScriptSettingsOf (rows_of (found_of given.now)) result }
+{
+    Settings {
+        asks: flag_of(given, "asks"),
+        ..settings_of(given)
     }
 }

@@ -4,7 +4,7 @@ ghost use Rattle.clap.specs.Words.{found_of, rows_of, subcommand_rows_of};
 ghost use Rattle.fax_request.specs.Requests.{Asks, IsAllowed, IsAskedBy};
 
 use crate::explain_options::{ExplainOptions, explain_options_of};
-use crate::given::{settings_of, text_of};
+use crate::given::{script_settings_of, settings_of, text_of};
 use crate::machines::{Machines, machines_of};
 use crate::page_words::page_options_of;
 use crate::terminal_words::{receive_options_of, send_files_of, send_options_of};
@@ -69,7 +69,7 @@ fn request_by<'a>(
     if command == "page" {
         Ok(Request::Page(page_options_of(given)))
     } else if command == "trace" {
-        Ok(Request::Trace(settings_of(given)))
+        Ok(Request::Trace(script_settings_of(given)))
     } else if command == "explain" {
         Ok(Request::Explain(explain_options_of(given)))
     } else if command == "capture" {
