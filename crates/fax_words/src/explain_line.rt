@@ -1,6 +1,6 @@
 //! The command line of `faxgate explain`.
 use crate::building::{command, option};
-use crate::options::{preamble_option, redundancy_option};
+use crate::options::{asks_option, preamble_option, redundancy_option};
 use clap::{Arg, Command};
 use std::alloc::{AllocError, Global};
 
@@ -14,6 +14,7 @@ pub(crate) fn explain_command<'a>(alloc: Global) -> Result<Command<'a>, AllocErr
     )
     .arg(redundancy_option(alloc))?
     .arg(preamble_option(alloc))?
+    .arg(asks_option(alloc))?
     .arg(pages_option(alloc))
 }
 
@@ -42,7 +43,8 @@ Prints:
   MCF page N of call M         a page that was confirmed; RTN says why one was refused
   lost                         numbers of datagrams; brought back: their packets came again in a later one
   again: T2, T4; T1, T2        a timer that repeated something, or gave a call up
-  ring, call, job              what the gateway did; job as faxgate trace prints it, and why it ended so
+  the call is placed           (--asks) the call of the job that was asked for; or it could not be placed
+  ring, call, asks, job        what the gateway did; job as faxgate trace prints it, and why it ended so
   a datagram that repeats the one before it is not told
 
 Statuses:

@@ -1,5 +1,5 @@
 //! Options that several commands have, and their limits.
-use crate::building::option;
+use crate::building::{flag, option};
 use clap::Arg;
 use clap::builder::ValueParser;
 use std::alloc::Global;
@@ -53,6 +53,15 @@ pub(crate) fn preamble_option<'a>(alloc: Global) -> Arg<'a> {
     )
     .value_parser(ValueParser::Unsigned(u64::from(LEAST_PREAMBLE_MS), u64::from(MOST_PREAMBLE_MS)))
     .default_value("40")
+}
+
+/// The option of calls that are asked for.
+pub(crate) fn asks_option<'a>(alloc: Global) -> Arg<'a> {
+    flag(
+        alloc,
+        "asks",
+        "Ask for the call of a job, and begin it when it is placed; else the gateway begins it by itself",
+    )
 }
 
 /// The option of repeats.

@@ -1,6 +1,6 @@
 //! The command line of `faxgate trace`.
 use crate::building::command;
-use crate::options::{preamble_option, redundancy_option};
+use crate::options::{asks_option, preamble_option, redundancy_option};
 use clap::Command;
 use std::alloc::{AllocError, Global};
 
@@ -9,11 +9,12 @@ pub(crate) fn trace_command<'a>(alloc: Global) -> Result<Command<'a>, AllocError
     command(
         alloc,
         "trace",
-        "Play a script on a new gateway, and print what it answers. Lines of a script: R (it rings), A HEX and B HEX (a datagram came on the calling or on the called leg), T MS (time goes on to a moment)",
+        "Play a script on a new gateway, and print what it answers. Lines of a script: R (it rings), A HEX and B HEX (a datagram came on the calling or on the called leg), T MS (time goes on to a moment), C MS and N MS (the call of a job was placed, or could not be)",
         LINES_AND_STATUSES,
     )
     .arg(redundancy_option(alloc))?
-    .arg(preamble_option(alloc))
+    .arg(preamble_option(alloc))?
+    .arg(asks_option(alloc))
 }
 
 const LINES_AND_STATUSES: &str = "\
@@ -21,17 +22,23 @@ Reads:
   R      it rings on the calling leg
   A HEX  a datagram came on the calling leg
   B HEX  a datagram came on the called leg
-  T MS   time goes on to this moment, in milliseconds; rings and datagrams come at the last one, at 0 before the first
+  T MS   time goes on to this moment, in milliseconds
+  C MS   at this moment the call of the job that is asked for is placed: the called machine has answered
+  N MS   at this moment it could not be placed: that machine could not be reached
+Rings and datagrams come at the last moment that was told, at 0 before the first.
 A script has at most 16,777,216 octets: some 17 minutes of one leg at 14,400 bit/s.
 
 Prints:
   ring N                   it rang: the number of the call
   ring refused 1 Busy      a call is on; 2 NoNumber: no number is left
+  asks CALL                (--asks) the job of this call waits for its own call to be placed
+  connect refused 1 NotAsked
+                           no job waits so; not-connected refused 1 NotAsked: the same
   a HEX                    the gateway sends this datagram on the calling leg
   b HEX                    the same on the called leg
   job CALL WIDTH standard|fine PAGES DELIVERED OUTCOME
                            the job of this call has ended: so many pages, so many of them delivered
-  fault line N             line N, from 1, is none of the four, and no more is played
+  fault line N             line N, from 1, is none of the six, and no more is played
   fault memory             memory was wanted and refused, and no more is played; what was told before stays
 
 Outcomes:
@@ -42,6 +49,7 @@ Outcomes:
   NoReply                  it left a command unanswered, or sent no DIS behind a page of another format
   PageRefused              it refused a page three times
   HungUp                   it ended the call
+  NotPlaced                it could not be reached
 
 Statuses:
   0  the whole script was played
