@@ -323,11 +323,7 @@ impl<W: TimedWire + Drop> Line<HoldingWire<W>> {
 }
 
 /// The call of the job that a gateway asks for is placed, or could not be.
-fn place(
-    gateway: &mut Gateway<PackedRows>,
-    connected: bool,
-    now: u64,
-) -> Result<(), PlaceFault>
+fn place(gateway: &mut Gateway<PackedRows>, connected: bool, now: u64) -> Result<(), PlaceFault>
     ensures placed { OnOk result ((setup : Setup) (writes : Writing) (trace : List Event) → IsReachedBy setup writes trace gateway.old
         → IsReachedBy setup writes (Placed now connected ∷ trace) gateway.new) }
     ensures not_asked { (setup : Setup) (writes : Writing) (trace : List Event) → IsReachedBy setup writes trace gateway.old
