@@ -82,7 +82,17 @@ impl<I: Read + Drop, O: Write + Drop> Client<I, O> {
         }
     }
 
-    /// Reads what it said, and writes what it takes, where it is ready for that.
+    /// The descriptor over which it is told events, so that its end is seen also while there is none to tell.
+    pub(crate) fn events_over(&self) -> Option<RawFd> {
+        if self.outbox.tells_events() {
+            Some(self.stream.output())
+        } else {
+            None
+        }
+    }
+
+    /// Reads what it said, and writes what it takes, where it is ready for that. A write of nothing, where it takes nothing any
+    /// more, is its last.
     pub(crate) fn serve(&mut self, says: bool, takes: bool)
         ensures { IsServed self.old self.new }
     {

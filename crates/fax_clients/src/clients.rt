@@ -250,7 +250,8 @@ fn ask<I: Read + Drop, O: Write + Drop>(ready: &mut Ready, clients: &mut [Client
     let mut is_waiting = false;
     for client in clients.iter_mut() {
         ready.add_input(client.heard_from());
-        ready.add_output(client.told_over());
+        let end = client.events_over();
+        ready.add_output(client.told_over(), end);
         is_waiting |= client.is_waiting();
     }
     is_waiting

@@ -31,9 +31,14 @@ impl Ready {
         self.add(descriptor, POLLIN);
     }
 
-    /// Room for octets that go is waited for, where there is a descriptor.
-    pub(crate) fn add_output(&mut self, descriptor: Option<RawFd>) {
-        self.add(descriptor, POLLOUT);
+    /// Room for octets that go is waited for, where there is a descriptor; else the end of the stream over which some may go,
+    /// where there is one: that nobody takes octets there any more.
+    pub(crate) fn add_output(&mut self, descriptor: Option<RawFd>, end: Option<RawFd>) {
+        match descriptor {
+            Some(_) => self.add(descriptor, POLLOUT),
+            // the system tells the end of a stream whatever is asked
+            None => self.add(end, 0),
+        }
     }
 
     fn add(&mut self, descriptor: Option<RawFd>, events: i16) {
