@@ -15,8 +15,8 @@ use Rattle.fax_serve.specs.declared.orders.Ordered.TheVariants.{Ring, Connect, R
 -- what is asked of a line: it rings, or the call of its job begins, or could not be placed
 abbrev pub asked_by : Ordered → Asked
 asked_by (Ring ringing) = asked.Ring
-asked_by (Connect asker) = asked.Connect
-asked_by (Refuse asker cause) = asked.NotConnected
+asked_by (Connect connecting) = asked.Connect
+asked_by (Refuse refusing) = asked.NotConnected
 
 -- The answer to a word whose order a line answered so; none: there is no such line. Each fault has the refusal of its name, and where
 -- nothing is asked for there is no call.

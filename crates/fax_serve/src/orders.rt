@@ -17,15 +17,28 @@ pub(crate) struct Ringing {
     pub heard: u64,
 }
 
+/// Who said the peer of a called leg, by which the call begins that is asked for.
+#[derive(Drop)]
+pub(crate) struct Connecting {
+    pub asker: Asker,
+}
+
+/// Who said that the call could not be placed that is asked for, and the cause; nobody, where none answered.
+#[derive(Drop)]
+pub(crate) struct Refusing {
+    pub asker: Option<Asker>,
+    pub cause: Cause,
+}
+
 /// What was ordered of a line.
 #[derive(Drop)]
 pub(crate) enum Ordered {
     /// It rings.
     Ring(Ringing),
-    /// The call that it asks for begins: this client said the peer of its called leg.
-    Connect(Asker),
-    /// The call that it asks for could not be placed, for this cause: a client said so, or none answered.
-    Refuse(Option<Asker>, Cause),
+    /// The call that it asks for begins.
+    Connect(Connecting),
+    /// The call that it asks for could not be placed.
+    Refuse(Refusing),
 }
 
 impl Ordered {
@@ -36,7 +49,7 @@ impl Ordered {
         match self {
             Ordered::Ring(_) => Asked::Ring,
             Ordered::Connect(_) => Asked::Connect,
-            Ordered::Refuse(_, _) => Asked::NotConnected,
+            Ordered::Refuse(_) => Asked::NotConnected,
         }
     }
 }

@@ -3,7 +3,7 @@ use super::RealPace;
 use crate::answers::counts_of;
 use crate::keeper::SpoolKeeper;
 use crate::legs::{begin_called, cut_called, is_asked, set_peer};
-use crate::orders::{Ordered, Ringing, answer_to};
+use crate::orders::{Connecting, Ordered, Refusing, Ringing, answer_to};
 use crate::questions::Cause;
 use crate::sockets::{ServedLine, ServedLines};
 use crate::state::asked_of;
@@ -67,7 +67,11 @@ impl<'a, C: Clock, I: Read + Drop, O: Write + Drop> RealPace<'a, C, I, O> {
         match card.question() {
             None => self.ask(i, line, keeper),
             Some(question) if question.is_over(self.heard.heard()) => {
-                return Some(self.order(i, Ordered::Refuse(None, Cause::Unanswered)));
+                let refusing = Refusing {
+                    asker: None,
+                    cause: Cause::Unanswered,
+                };
+                return Some(self.order(i, Ordered::Refuse(refusing)));
             }
             Some(_) => {}
         }
@@ -136,7 +140,7 @@ impl<'a, C: Clock, I: Read + Drop, O: Write + Drop> RealPace<'a, C, I, O> {
             Ok(begins) => {
                 let _ = self.woken.push(i);
                 if begins {
-                    return Some(self.order(i, Ordered::Connect(asker)));
+                    return Some(self.order(i, Ordered::Connect(Connecting { asker })));
                 }
                 self.answer(asker, Answer::Done);
                 None
@@ -154,7 +158,13 @@ impl<'a, C: Clock, I: Read + Drop, O: Write + Drop> RealPace<'a, C, I, O> {
         lines: &ServedLines,
     ) -> Option<Order> {
         match self.refusal_of(name, cause, lines) {
-            Ok((i, cause)) => Some(self.order(i, Ordered::Refuse(Some(asker), cause))),
+            Ok((i, cause)) => {
+                let refusing = Refusing {
+                    asker: Some(asker),
+                    cause,
+                };
+                Some(self.order(i, Ordered::Refuse(refusing)))
+            }
             Err(refusal) => self.refuse_word(asker, refusal),
         }
     }
@@ -200,13 +210,10 @@ impl<'a, C: Clock, I: Read + Drop, O: Write + Drop> RealPace<'a, C, I, O> {
         match self.ordered.take() {
             None => {}
             Some(Ordered::Ring(ringing)) => self.tell_rung(i, ringing, answered),
-            Some(Ordered::Connect(asker)) => {
-                self.answer(asker, answer_to(answered));
-                if let Some(line) = lines.line(i) {
-                    self.tell_connected(i, line, answered, keeper);
-                }
+            Some(Ordered::Connect(connecting)) => {
+                self.tell_connecting(i, connecting, answered, lines, keeper);
             }
-            Some(Ordered::Refuse(asker, cause)) => self.tell_refused(i, asker, cause, answered),
+            Some(Ordered::Refuse(refusing)) => self.tell_refused(i, refusing, answered),
         }
     }
 
@@ -218,6 +225,22 @@ impl<'a, C: Clock, I: Read + Drop, O: Write + Drop> RealPace<'a, C, I, O> {
             && let Some(card) = self.cards.get_mut(i)
         {
             self.teller.tell_ring(card, call, tag, heard, self.now);
+        }
+    }
+
+    /// The same of a peer by which the call begins that is asked for.
+    fn tell_connecting<D: Disk>(
+        &mut self,
+        i: usize,
+        connecting: Connecting,
+        answered: Option<Answered>,
+        lines: &ServedLines,
+        keeper: Option<&SpoolKeeper<D>>,
+    ) {
+        let Connecting { asker } = connecting;
+        self.answer(asker, answer_to(answered));
+        if let Some(line) = lines.line(i) {
+            self.tell_connected(i, line, answered, keeper);
         }
     }
 
@@ -247,14 +270,9 @@ impl<'a, C: Clock, I: Read + Drop, O: Write + Drop> RealPace<'a, C, I, O> {
         }
     }
 
-    /// The call of line i's job could not be placed, for this cause, where the line took that.
-    fn tell_refused(
-        &mut self,
-        i: usize,
-        asker: Option<Asker>,
-        cause: Cause,
-        answered: Option<Answered>,
-    ) {
+    /// The call of line i's job could not be placed, where the line took that.
+    fn tell_refused(&mut self, i: usize, refusing: Refusing, answered: Option<Answered>) {
+        let Refusing { asker, cause } = refusing;
         if let Some(asker) = asker {
             self.answer(asker, answer_to(answered));
         }
