@@ -83,8 +83,13 @@ impl Asking {
         Some(asking)
     }
 
-    /// A gateway with these settings that is restored with two calls.
-    fn restored(alloc: Global, settings: Settings) -> Option<Self> {
+    /// A gateway that asks or not, and is restored with two calls.
+    fn restored(alloc: Global, asks: bool) -> Option<Self> {
+        let settings = Settings {
+            redundancy: 3,
+            preamble_ms: 40,
+            asks,
+        };
         let gateway = Gateway::restore(alloc, settings, calls(alloc)?).ok()?;
         Some(Asking { gateway })
     }
@@ -244,7 +249,7 @@ fn a_job_that_could_not_be_placed(rt: HostRuntime) {
 /// What is answered where the call of the first job could not be placed, how the gateway stands before and behind that and behind
 /// the next tick, and what that tells.
 fn when_not_placed(alloc: Global) -> Option<(Answer, [Stands; 3], Told)> {
-    let mut asking = Asking::restored(alloc, ASKS)?;
+    let mut asking = Asking::restored(alloc, true)?;
     let first = asking.stands();
     let answer = asking.place(false, 0);
     let over = asking.stands();
@@ -261,7 +266,7 @@ fn none_is_asked_for_where_that_is_not_set(rt: HostRuntime) {
 
 /// How a gateway that does not ask stands while jobs wait, what it answers where a call is placed and is not, and what a tick tells.
 fn without_asking(alloc: Global) -> Option<(Stands, Answer, Answer, Told)> {
-    let mut asking = Asking::restored(alloc, Settings::default())?;
+    let mut asking = Asking::restored(alloc, false)?;
     let stands = asking.stands();
     let connected = asking.place(true, 0);
     let not_connected = asking.place(false, 0);
