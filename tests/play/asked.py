@@ -165,9 +165,10 @@ class Places(Asked):
         self.confirm(1, "first")
         self.asked("first")
         self.connect("first", first)
+        self.begun(first)
         self.assertEqual(self.client.say(f"peer a1 called {address(second.port)}"), ["ok"])
         machine = Called(second)
-        machine.newest = -1  # CNG may have gone to the first
+        machine.newest = 0  # CNG went to the first
         machine.send(CED, PREAMBLE, CALLED_DIS)
         machine.wait_for_image()
         self.assertEqual(self.client.say(f"peer a1 called {address(first.port)}"), IN_CALL)
