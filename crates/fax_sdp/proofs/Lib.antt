@@ -1,0 +1,4 @@
+pub mod AttributeLemmas
+pub mod CountLemmas
+pub mod ReadLemmas
+pub mod TextLemmas

@@ -1,0 +1,6 @@
+pub mod Attributes
+pub mod Counts
+pub mod Media
+pub mod Readers
+pub mod Sessions
+pub mod Texts
