@@ -1,4 +1,4 @@
--- What an `a=` line says (RFC 8866, 6.7; T.38, annex D; the misspelt names are those that devices in use send).
+-- What an `a=` line says (RFC 8866, 6.7; T.38, annex D; two misspelt names are read that other programs are known to write).
 use Rattle.std.specs.Prelude.{ℕ, ◌||◌, if◌then◌else◌, List, codes, Option, None, Some}
 use Rattle.fax_sdp.specs.declared.medium.Direction.TheVariants.{SendReceive, SendOnly, ReceiveOnly, Inactive}
 use Rattle.fax_sdp.specs.declared.medium.RateManagement.TheVariants.{Local, Transferred}

@@ -47,6 +47,6 @@ abbrev pub is_zero : Option (List ℕ) → Bool
 is_zero None = false
 is_zero (Some host) = bytes_eq host (codes "0.0.0.0")
 
--- on hold: inactive, or heard nowhere
+-- on hold: inactive, or with the host that stands for a hold
 abbrev pub is_held : MediumText → Bool
 is_held medium = is_inactive medium.direction || is_zero medium.host

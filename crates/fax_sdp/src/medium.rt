@@ -41,7 +41,7 @@ pub enum ErrorCorrection {
     Nothing,
 }
 
-/// What is said of T.38; none where nothing is said.
+/// What is said of T.38 (T.38, annex D); none where nothing is said.
 #[derive(Clone, Copy, PartialEq, Eq, Debug, Default)]
 pub struct Terms {
     /// `T38FaxVersion`.

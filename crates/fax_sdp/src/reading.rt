@@ -57,7 +57,7 @@ struct Reader<'a> {
     current: Option<Medium<'a>>,
 }
 
-/// The media that octets describe, as many as `m=` lines; or why they describe none.
+/// The media that octets describe (RFC 8866, 5), as many as `m=` lines; or why they describe none.
 pub fn read_sdp(octets: &[u8]) -> Result<Session<'_>, SdpFault>
     ensures media { seen media_text result ≡ media_of octets.now }
     ensures counted { IfOk result (λ session. array_vec_len session.media ≡ media_lines (lines_of octets.now)) }
