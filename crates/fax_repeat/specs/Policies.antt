@@ -5,6 +5,7 @@ use Rattle.fax_gateway.specs.declared.side.Side.TheVariants as side
 use Rattle.fax_gateway.specs.Wires.{Grows, Handed, Known}
 use Rattle.fax_repeat.specs.declared.policy.RepeatPolicy.{RepeatPolicy}
 use Rattle.fax_repeat.specs.Gaps.{gap_behind}
+use Rattle.fax_repeat.specs.Peers.{Peers}
 
 -- The last datagram that was handed over on a leg, how often it was sent, and the moment from which on it is sent again.
 -- With no send none is known.
@@ -14,7 +15,7 @@ pub record LastValue : Type 0 where
   pub due : Option ℕ
 
 -- A wire that repeats: its policy, the latest moment that it was told, the last datagrams of both legs, how many calls
--- failed, whether it tells what it was handed, and what is known of the wire below it.
+-- failed, whether it tells what it was handed, and what is known of the wire below it, and of the peers of its legs.
 pub record RepeatingValue : Type 0 where
   pub policy : RepeatPolicy
   pub clock : ℕ
@@ -23,6 +24,7 @@ pub record RepeatingValue : Type 0 where
   pub failures : ℕ
   pub tells : Bool
   pub wire : Known
+  pub peers : Peers
 
 abbrev pub unknown : LastValue
 unknown = record { octets = []; sends = 0; due = None }
@@ -88,6 +90,7 @@ pub record HandsOver (at : Side) (octets : List ℕ) (old new : RepeatingValue) 
   pub clock : new.clock ≡ old.clock
   pub last : last_on at new ≡ kept_of old.policy old.clock octets
   pub beside : last_beside at new ≡ last_beside at old
+  pub peers : new.peers ≡ old.peers
   pub sent : Grows (record { side = at; octets = octets } ∷ []) old.wire.sent new.wire.sent
 
 -- Time goes on to this moment: the last datagram of each leg whose moment has come is sent again, and nothing else.
@@ -98,6 +101,7 @@ pub record GoesOn (now : ℕ) (old new : RepeatingValue) : Type 0 where
   pub called : new.called ≡ repeated old.policy now old.called
   pub failures : new.failures ≡ old.failures
   pub tells : new.tells ≡ old.tells
+  pub peers : new.peers ≡ old.peers
   pub received : Grows [] old.wire.received new.wire.received
   pub sent : Grows (repeat_of side.Called now old.called ++ repeat_of side.Calling now old.calling) old.wire.sent new.wire.sent
 
@@ -106,3 +110,13 @@ pub record IsToldAs (before after : Known) : Type 0 where
   pub failures : after.failures ≡ before.failures
   pub received : Grows [] before.received after.received
   pub sent : Grows [] before.sent after.sent
+
+-- By what it is told of its peers nothing is sent again, or is sent no more.
+pub record TellsPeers (old new : RepeatingValue) : Type 0 where
+  pub policy : new.policy ≡ old.policy
+  pub clock : new.clock ≡ old.clock
+  pub calling : new.calling ≡ old.calling
+  pub called : new.called ≡ old.called
+  pub failures : new.failures ≡ old.failures
+  pub tells : new.tells ≡ old.tells
+  pub wire : IsToldAs old.wire new.wire

@@ -2,10 +2,12 @@
 ghost use Rattle.std.specs.Prelude.{◌≡◌, ◌<◌, ℕ, Bool, List, [], ◌∷◌, max, true, false};
 ghost use Rattle.fax_gateway.specs.Wires.{Grows, failures_after, receipt_of};
 ghost use Rattle.fax_gateway.specs.declared.side.Side.TheVariants as side_shown;
+ghost use Rattle.fax_repeat.specs.Peers.{peers_of};
 ghost use Rattle.fax_repeat.specs.Policies.{GoesOn, HandsOver, IsToldAs, ceased, earlier_of, last_beside, last_on, repeat_of, repeated, unknown};
 ghost use Rattle.fax_repeat.specs.Repeats.{IsWithin, Repeats, TellsNone, told_if, told_of};
 
 use crate::last::{Last, earlier};
+use crate::peers::{Bounds, LegState, LegWire, NoRoute, Peer};
 use crate::policy::RepeatPolicy;
 use crate::timed::TimedWire;
 use fax_gateway::{Side, Wire, WireFault};
@@ -15,7 +17,7 @@ use std::marker::Model;
 /// as time goes on, until a newer one is handed over on its leg or a new call begins there. A datagram of more than 1,500
 /// octets is sent once. A send that fails counts as made.
 #[derive(Drop)]
-pub struct RepeatingWire<W: Wire + Drop> {
+pub struct RepeatingWire<W: LegWire + Drop> {
     wire: W,
     policy: RepeatPolicy,
     /// The latest moment that it was told.
@@ -29,22 +31,23 @@ pub struct RepeatingWire<W: Wire + Drop> {
     tells: bool,
 }
 
-impl<W: Wire + Drop> Model for RepeatingWire<W> {
+impl<W: LegWire + Drop> Model for RepeatingWire<W> {
+    ghost use Rattle.fax_repeat.specs.Peers.{peers_of};
     ghost use Rattle.fax_repeat.specs.Policies.{RepeatingValue};
     ghost use Rattle.fax_repeat.specs.Repeats.{IsRepeating};
 
     ghost Value = { RepeatingValue };
 
-    ghost view = { λ w. record { policy = w.policy; clock = w.clock; calling = w.calling; called = w.called; failures = w.failures; tells = w.tells; wire = W.known w.wire } };
+    ghost view = { λ w. record { policy = w.policy; clock = w.clock; calling = w.calling; called = w.called; failures = w.failures; tells = w.tells; wire = W.known w.wire; peers = peers_of W.peer_at w.wire } };
 
-    ghost invariant = { λ w. IsRepeating (record { policy = w.policy; clock = w.clock; calling = w.calling; called = w.called; failures = w.failures; tells = w.tells; wire = W.known w.wire }) };
+    ghost invariant = { λ w. IsRepeating (record { policy = w.policy; clock = w.clock; calling = w.calling; called = w.called; failures = w.failures; tells = w.tells; wire = W.known w.wire; peers = peers_of W.peer_at w.wire }) };
 }
 
-impl<W: Wire + Drop> RepeatingWire<W> {
+impl<W: LegWire + Drop> RepeatingWire<W> {
     /// A wire over one that was handed nothing.
     pub fn new(wire: W, policy: RepeatPolicy) -> Self
         requires { TellsNone (W.known wire).sent }
-        ensures { result ≡ record { policy = policy; clock = 0; calling = unknown; called = unknown; failures = 0; tells = true; wire = W.known wire } }
+        ensures { result ≡ record { policy = policy; clock = 0; calling = unknown; called = unknown; failures = 0; tells = true; wire = W.known wire; peers = peers_of W.peer_at wire } }
     {
         RepeatingWire {
             wire,
@@ -60,6 +63,7 @@ impl<W: Wire + Drop> RepeatingWire<W> {
     /// The wire below.
     pub fn wire(&self) -> &W
         ensures wire { W.known result.now ≡ self.now.wire }
+        ensures peers { peers_of W.peer_at result.now ≡ self.now.peers }
         ensures repeats { Repeats self.now }
     {
         &self.wire
@@ -113,10 +117,11 @@ fn counted(failures: u64, answer: Result<(), WireFault>) -> u64
 }
 
 /// Sends the last datagram of a leg again, where its moment has come.
-fn send_again<W: Wire>(wire: &mut W, side: Side, last: &mut Last, policy: RepeatPolicy, now: u64)
+fn send_again<W: LegWire>(wire: &mut W, side: Side, last: &mut Last, policy: RepeatPolicy, now: u64)
     requires { IsWithin policy last.old }
     ensures last { last.new ≡ repeated policy now last.old }
     ensures received { Grows [] (W.known wire.old).received (W.known wire.new).received }
+    ensures peers { peers_of W.peer_at wire.new ≡ peers_of W.peer_at wire.old }
     ensures sent { Grows (repeat_of side now last.old) (W.known wire.old).sent (W.known wire.new).sent }
 {
     if last.is_due(now) {
@@ -126,10 +131,15 @@ fn send_again<W: Wire>(wire: &mut W, side: Side, last: &mut Last, policy: Repeat
 }
 
 /// What is told of it is what it was handed over.
-impl<W: Wire + Drop> Wire for RepeatingWire<W> {
+impl<W: LegWire + Drop> Wire for RepeatingWire<W> {
+    ghost use Rattle.fax_repeat.specs.Peers.{HearsOn};
     ghost use Rattle.fax_repeat.specs.Repeats.{told_of};
 
     ghost known = { told_of };
+
+    ghost receives = { λ side old new. HearsOn side old.peers new.peers };
+
+    ghost sends = { λ side octets is_sent old new. new.peers ≡ old.peers };
 
     fn receive(&mut self, side: Side, buffer: &mut [u8]) -> Result<Option<usize>, WireFault> {
         match self.wire.receive(side, buffer) {
@@ -158,8 +168,58 @@ impl<W: Wire + Drop> Wire for RepeatingWire<W> {
     }
 }
 
-impl<W: Wire + Drop> TimedWire for RepeatingWire<W> {
+/// The wire below has the peers. By what it is told of them nothing is sent again, or is sent no more.
+impl<W: LegWire + Drop> LegWire for RepeatingWire<W> {
+    ghost use Rattle.fax_repeat.specs.Peers.{peer_on};
+    ghost use Rattle.fax_repeat.specs.Policies.{TellsPeers};
+
+    ghost peer_at = { λ side wire. peer_on side wire.peers };
+
+    ghost is_told = { TellsPeers };
+
+    ghost keeps_on_receive = { λ at old new made. made };
+
+    ghost keeps_on_send = { λ at octets is_sent old new made. made };
+
+    fn set_peer(&mut self, side: Side, peer: Peer) -> Result<(), NoRoute> {
+        self.wire.set_peer(side, peer)
+    }
+
+    fn cut(&mut self, side: Side) {
+        self.wire.cut(side);
+    }
+
+    fn begin(&mut self, side: Side, bounds: Bounds) {
+        self.wire.begin(side, bounds);
+    }
+
+    fn hang_up(&mut self, side: Side) {
+        self.wire.hang_up(side);
+    }
+
+    fn settle(&mut self, side: Side, is_on: bool) {
+        self.wire.settle(side, is_on);
+    }
+
+    fn leg_state(&self, side: Side) -> LegState {
+        self.wire.leg_state(side)
+    }
+}
+
+impl<W: LegWire + Drop> TimedWire for RepeatingWire<W> {
+    ghost use Rattle.fax_repeat.specs.Telling.{told_due};
+
     ghost due = { λ side wire. (last_on side wire).due };
+
+    ghost goes_on = { λ old new. new.peers ≡ old.peers };
+
+    ghost ceases = { λ side old new. new.peers ≡ old.peers };
+
+    ghost keeps_due = { told_due };
+
+    ghost keeps_on_time = { λ old new made. made };
+
+    ghost keeps_on_cease = { λ at old new made. made };
 
     /// The last datagram of each leg whose moment has come is sent again, once. A moment before another reads as the latest.
     fn go_on(&mut self, now: u64)
@@ -192,6 +252,7 @@ impl<W: Wire + Drop> TimedWire for RepeatingWire<W> {
         ensures policy { self.new.policy ≡ self.old.policy }
         ensures clock { self.new.clock ≡ self.old.clock }
         ensures wire { self.new.wire ≡ self.old.wire }
+        ensures peers { self.new.peers ≡ self.old.peers }
         ensures repeats { Repeats self.new }
     {
         match side {

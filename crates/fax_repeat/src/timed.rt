@@ -1,12 +1,14 @@
 //! Wires that are told the time.
 ghost use Rattle.std.specs.Prelude.{◌≡◌, ℕ, Option, None};
 ghost use Rattle.fax_gateway.specs.declared.side.Side.{Side as SideShown};
+ghost use Rattle.fax_repeat.specs.Peers.{peers_of};
 ghost use Rattle.fax_repeat.specs.Policies.{IsToldAs, due_of, other_side};
 
-use fax_gateway::{Side, Wire};
+use crate::peers::LegWire;
+use fax_gateway::Side;
 
 /// A wire that does things of its own as time goes on, none of which is told of it.
-pub trait TimedWire: Wire {
+pub trait TimedWire: LegWire {
     /// From which moment on it has something to do on a leg.
     ghost due: { SideShown → Self → Option ℕ };
 
@@ -31,4 +33,13 @@ pub trait TimedWire: Wire {
     /// From which moment on the wire has something to do. `None`: it has nothing.
     fn next_due(&self) -> Option<u64>
         ensures { result ≡ due_of due self.now };
+
+    /// By what it is told of its peers it has no more to do, and no less.
+    ghost keeps_due: { (side : SideShown) (old new : Self) → Self.is_told old new → due side new ≡ due side old };
+
+    /// As time goes on the peers of both legs stay.
+    ghost keeps_on_time: { (old new : Self) → goes_on old new → peers_of Self.peer_at new ≡ peers_of Self.peer_at old };
+
+    /// Where a call begins they stay.
+    ghost keeps_on_cease: { (at : SideShown) (old new : Self) → ceases at old new → peers_of Self.peer_at new ≡ peers_of Self.peer_at old };
 }
