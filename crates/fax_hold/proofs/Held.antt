@@ -3,6 +3,7 @@ use Rattle.std.specs.declared.alloc.Global.{Global}
 use Rattle.std.proofs.Common.{◌≡◌, ℕ, Vec, Bool, true, false, not, ◌||◌, List, [], ◌∷◌, ◌++◌, Option, Some, None, refl, sym, ◌∙◌, ap, subst, if◌then◌else◌}
 use Rattle.fax_gateway.specs.Wires.{Grows, Handed, Known}
 use Rattle.fax_gateway.specs.declared.side.Side.TheVariants as side
+use Rattle.fax_repeat.specs.Peers.{Peers}
 use Rattle.fax_repeat.specs.Policies.{IsToldAs}
 use Rattle.fax_gateway.specs.declared.side.Side.{Side}
 use Rattle.fax_gateway.specs.Events.{Ring, FromCalling, FromCalled, Tick, Placed}
@@ -113,7 +114,7 @@ loses_next deeds given old new h loses = record {
   out = subst (λ (w : Known). HasSent (went_out deeds) w.sent) (sym loses.wire) h.out;
 }
 
-stays_where : (deeds : List Deed) (given : Option (List ℕ)) (old new : Option HoldingValue) → StaysWhere old new → HoldsBehindWhere deeds given old → HoldsBehindWhere deeds given new
+pub stays_where : (deeds : List Deed) (given : Option (List ℕ)) (old new : Option HoldingValue) → StaysWhere old new → HoldsBehindWhere deeds given old → HoldsBehindWhere deeds given new
 stays_where deeds given None None stays h = tt
 stays_where deeds given None (Some new) stays h = absurd stays
 stays_where deeds given (Some old) None stays h = tt
@@ -180,7 +181,7 @@ pub stays_same : (held : Option HoldingValue) → StaysWhere held held
 stays_same None = tt
 stays_same (Some held) = record { held = refl; is_mute = refl; sent = handed_none held.wire.sent }
 
-grows_none_on : {A : Type 0} (a b c : Option (List A)) → Grows [] a b → Grows [] b c → Grows [] a c
+pub grows_none_on : {A : Type 0} (a b c : Option (List A)) → Grows [] a b → Grows [] b c → Grows [] a c
 grows_none_on a b None first second = tt
 grows_none_on {A = A} a b (Some told) first second =
     let g : Grows {A = A} [] a (Some second.0) = subst (λ (x : Option (List A)). Grows [] a x) second.1 first in
@@ -206,8 +207,8 @@ begins deeds old new done speaks told = record {
 }
 
 -- over a wire that tells nothing of what it was handed, it has done nothing at first
-pub fresh_did_nothing : (known : Known) (calling_due called_due : Option ℕ) → known.sent ≡ None → HasDone [] (fresh known calling_due called_due)
-fresh_did_nothing known calling_due called_due none = record { held = refl; is_mute = refl; out = λ sent told. absurd (none_told sent (sym none ∙ told)) }
+pub fresh_did_nothing : (known : Known) (calling_due called_due : Option ℕ) (peers : Peers) → known.sent ≡ None → HasDone [] (fresh known calling_due called_due peers)
+fresh_did_nothing known calling_due called_due peers none = record { held = refl; is_mute = refl; out = λ sent told. absurd (none_told sent (sym none ∙ told)) }
   where
     none_told : (sent : List Handed) → None ≡ Some sent → ⊥
     none_told sent told = cc
@@ -248,10 +249,11 @@ no_turn_where deeds is_kept (Some wire) done = record {
 }
 
 -- a release of nothing
-pub nothing_released : (held : Option (Vec ℕ Global)) (old new : HoldingValue) → held ≡ None → old.held ≡ octets_of held → new.held ≡ None → new.is_mute ≡ old.is_mute → new.wire ≡ old.wire → Releases old new
-nothing_released held old new none is gone mute wire = record {
+pub nothing_released : (held : Option (Vec ℕ Global)) (old new : HoldingValue) → held ≡ None → old.held ≡ octets_of held → new.held ≡ None → new.is_mute ≡ old.is_mute → new.wire ≡ old.wire → new.peers ≡ old.peers → Releases old new
+nothing_released held old new none is gone mute wire peers = record {
   held = gone;
   is_mute = mute;
+  peers = peers;
   received = subst (λ (w : Known). Grows [] old.wire.received w.received) (sym wire) (handed_none old.wire.received);
   sent = subst (λ (o : Option (List ℕ)). Grows (what_is_held o) old.wire.sent new.wire.sent) (sym (is ∙ ap octets_of none))
       (subst (λ (w : Known). Grows [] old.wire.sent w.sent) (sym wire) (handed_none old.wire.sent));

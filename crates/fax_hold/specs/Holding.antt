@@ -4,10 +4,11 @@ use Rattle.std.specs.declared.alloc.Global.{Global}
 use Rattle.fax_gateway.specs.declared.side.Side.{Side}
 use Rattle.fax_gateway.specs.declared.side.Side.TheVariants as side
 use Rattle.fax_gateway.specs.Wires.{Grows, Handed, Known}
+use Rattle.fax_repeat.specs.Peers.{Peers}
 use Rattle.fax_repeat.specs.Policies.{IsToldAs, other_side}
 
 -- The octets of the datagram that is held, where one is; whether the calling leg is mute; how many calls failed; what is known
--- of the wire below, and from which moments on that has something to do on both legs.
+-- of the wire below, from which moments on that has something to do on both legs, and the peers of these.
 pub record HoldingValue : Type 0 where
   pub held : Option (List ℕ)
   pub is_mute : Bool
@@ -15,6 +16,7 @@ pub record HoldingValue : Type 0 where
   pub wire : Known
   pub calling_due : Option ℕ
   pub called_due : Option ℕ
+  pub peers : Peers
 
 abbrev pub due_on : Side → HoldingValue → Option ℕ
 due_on side.Calling wire = wire.calling_due
@@ -25,8 +27,8 @@ octets_of None = None
 octets_of (Some octets) = Some octets.items
 
 -- over a wire it holds nothing at first
-abbrev pub fresh : Known → (calling_due called_due : Option ℕ) → HoldingValue
-fresh wire calling_due called_due = record { held = None; is_mute = false; failures = 0; wire = wire; calling_due = calling_due; called_due = called_due }
+abbrev pub fresh : Known → (calling_due called_due : Option ℕ) → Peers → HoldingValue
+fresh wire calling_due called_due peers = record { held = None; is_mute = false; failures = 0; wire = wire; calling_due = calling_due; called_due = called_due; peers = peers }
 
 -- what is told of it: nothing of what it was handed to send
 abbrev pub as_told : HoldingValue → Known
@@ -72,10 +74,11 @@ pub record Stays (old new : HoldingValue) : Type 0 where
   pub is_mute : new.is_mute ≡ old.is_mute
   pub sent : Grows [] old.wire.sent new.wire.sent
 
--- what is held goes on
+-- what is held goes on, to the peer that the leg has
 pub record Releases (old new : HoldingValue) : Type 0 where
   pub held : new.held ≡ None
   pub is_mute : new.is_mute ≡ old.is_mute
+  pub peers : new.peers ≡ old.peers
   pub received : Grows [] old.wire.received new.wire.received
   pub sent : Grows (what_is_held old.held) old.wire.sent new.wire.sent
 
@@ -83,6 +86,7 @@ pub record Releases (old new : HoldingValue) : Type 0 where
 pub record Mutes (old new : HoldingValue) : Type 0 where
   pub held : new.held ≡ None
   pub is_mute : new.is_mute ≡ true
+  pub peers : new.peers ≡ old.peers
   pub wire : IsToldAs old.wire new.wire
 
 -- a call begins on a leg: the calling one holds nothing then, and is not mute
@@ -95,6 +99,14 @@ pub record Ceases (at : Side) (old new : HoldingValue) : Type 0 where
   pub speaks : Speaks at old new
   pub ended : due_on at new ≡ None
   pub beside : due_on (other_side at) new ≡ due_on (other_side at) old
+  pub sent : Grows [] old.wire.sent new.wire.sent
+
+-- By what the wire below is told of its peers what is held stays, nothing goes on, and there is no more to do, and no less.
+pub record TellsPeers (old new : HoldingValue) : Type 0 where
+  pub held : new.held ≡ old.held
+  pub is_mute : new.is_mute ≡ old.is_mute
+  pub calling_due : new.calling_due ≡ old.calling_due
+  pub called_due : new.called_due ≡ old.called_due
   pub sent : Grows [] old.wire.sent new.wire.sent
 
 -- ---- a wire that holds back, or one that does not
@@ -114,3 +126,6 @@ SendsWhere at octets is_sent old new = WhereItHolds (Sends at octets is_sent) ol
 
 abbrev pub CeasesWhere : Side → Option HoldingValue → Option HoldingValue → Type 0
 CeasesWhere at old new = WhereItHolds (Ceases at) old new
+
+abbrev pub TellsWhere : Option HoldingValue → Option HoldingValue → Type 0
+TellsWhere old new = WhereItHolds TellsPeers old new

@@ -2,12 +2,13 @@
 ghost use Rattle.std.specs.Prelude.{◌≡◌, ℕ, List, [], ◌∷◌, None, Some, true, false, is_ok, OnOk, OnErr};
 ghost use Rattle.fax_gateway.specs.Wires.{Grows, failures_after};
 ghost use Rattle.fax_gateway.specs.declared.side.Side.{Side as SideShown};
+ghost use Rattle.fax_repeat.specs.Peers.{peers_of};
 ghost use Rattle.fax_repeat.specs.Policies.{IsToldAs, other_side};
 ghost use Rattle.fax_hold.specs.Holding.{Holds, Mutes, Releases, Sends, Speaks, as_told, due_on, fresh};
 
 use crate::line_wire::LineWire;
 use fax_gateway::{Side, Wire, WireFault};
-use fax_repeat::{RepeatingWire, TimedWire};
+use fax_repeat::{Bounds, LegState, LegWire, NoRoute, Peer, RepeatingWire, TimedWire};
 use std::alloc::Global;
 use std::marker::Model;
 
@@ -30,11 +31,12 @@ pub struct HoldingWire<W: TimedWire + Drop> {
 impl<W: TimedWire + Drop> Model for HoldingWire<W> {
     ghost use Rattle.std.specs.Prelude.{◌≡◌, true, None};
     ghost use Rattle.fax_gateway.specs.declared.side.Side.TheVariants as side_shown;
+    ghost use Rattle.fax_repeat.specs.Peers.{peers_of};
     ghost use Rattle.fax_hold.specs.Holding.{HoldingValue, octets_of};
 
     ghost Value = { HoldingValue };
 
-    ghost view = { λ w. record { held = octets_of w.held; is_mute = w.is_mute; failures = w.failures; wire = W.known w.wire; calling_due = W.due side_shown.Calling w.wire; called_due = W.due side_shown.Called w.wire } };
+    ghost view = { λ w. record { held = octets_of w.held; is_mute = w.is_mute; failures = w.failures; wire = W.known w.wire; calling_due = W.due side_shown.Calling w.wire; called_due = W.due side_shown.Called w.wire; peers = peers_of W.peer_at w.wire } };
 
     ghost invariant = { λ w. w.is_mute ≡ true → octets_of w.held ≡ None };
 }
@@ -42,7 +44,7 @@ impl<W: TimedWire + Drop> Model for HoldingWire<W> {
 impl<W: TimedWire + Drop> HoldingWire<W> {
     /// A wire that holds nothing, over this one. The calling leg is not mute.
     pub fn new(alloc: Global, wire: W) -> Self
-        ensures { result ≡ fresh (W.known wire) (W.due SideShown.Calling wire) (W.due SideShown.Called wire) }
+        ensures { result ≡ fresh (W.known wire) (W.due SideShown.Calling wire) (W.due SideShown.Called wire) (peers_of W.peer_at wire) }
     {
         HoldingWire {
             wire,
@@ -55,7 +57,8 @@ impl<W: TimedWire + Drop> HoldingWire<W> {
 
     /// The wire below.
     pub fn wire(&self) -> &W
-        ensures { W.known result.now ≡ self.now.wire }
+        ensures wire { W.known result.now ≡ self.now.wire }
+        ensures peers { peers_of W.peer_at result.now ≡ self.now.peers }
     {
         &self.wire
     }
@@ -103,6 +106,7 @@ impl<W: TimedWire + Drop> HoldingWire<W> {
         ensures mute { self.new.is_mute ≡ self.old.is_mute }
         ensures failures { self.new.failures ≡ failures_after self.old.failures result }
         ensures wire { self.new.wire ≡ self.old.wire }
+        ensures peers { self.new.peers ≡ self.old.peers }
     {
         if self.is_mute {
             return Ok(());
@@ -127,6 +131,7 @@ impl<W: TimedWire + Drop> HoldingWire<W> {
         ensures failures { self.new.failures ≡ failures_after self.old.failures result }
         ensures received { Grows [] self.old.wire.received self.new.wire.received }
         ensures sent { Grows (record { side = SideShown.Called; octets = octets.now } ∷ []) self.old.wire.sent self.new.wire.sent }
+        ensures peers { self.new.peers ≡ self.old.peers }
     {
         match self.wire.send(Side::Called, octets) {
             Ok(()) => Ok(()),
@@ -139,13 +144,14 @@ impl<W: TimedWire + Drop> HoldingWire<W> {
 }
 
 impl<W: TimedWire + Drop> Wire for HoldingWire<W> {
+    ghost use Rattle.fax_repeat.specs.Peers.{HearsOn};
     ghost use Rattle.fax_hold.specs.Holding.{Sends, Stays, as_told};
 
     ghost known = { as_told };
 
-    ghost receives = { λ side old new. Stays old new };
+    ghost receives = { λ side old new. Stays old new × HearsOn side old.peers new.peers };
 
-    ghost sends = { λ side octets is_sent old new. Sends side octets is_sent old new };
+    ghost sends = { λ side octets is_sent old new. Sends side octets is_sent old new × (new.peers ≡ old.peers) };
 
     fn receive(&mut self, side: Side, buffer: &mut [u8]) -> Result<Option<usize>, WireFault> {
         match self.wire.receive(side, buffer) {
@@ -162,6 +168,7 @@ impl<W: TimedWire + Drop> Wire for HoldingWire<W> {
         ensures failures { self.new.failures ≡ failures_after self.old.failures result }
         ensures received { Grows [] self.old.wire.received self.new.wire.received }
         ensures sends { Sends side octets.now (is_ok result) self.old self.new }
+        ensures peers { self.new.peers ≡ self.old.peers }
     {
         match side {
             Side::Calling => self.hold(octets),
@@ -170,20 +177,66 @@ impl<W: TimedWire + Drop> Wire for HoldingWire<W> {
     }
 }
 
+/// The wire below has the peers. By what it is told of them what is held stays.
+impl<W: TimedWire + Drop> LegWire for HoldingWire<W> {
+    ghost use Rattle.fax_repeat.specs.Peers.{peer_on};
+    ghost use Rattle.fax_hold.specs.Holding.{TellsPeers};
+
+    ghost peer_at = { λ side wire. peer_on side wire.peers };
+
+    ghost is_told = { TellsPeers };
+
+    ghost keeps_on_receive = { λ at old new made. made.1 };
+
+    ghost keeps_on_send = { λ at octets is_sent old new made. made.1 };
+
+    fn set_peer(&mut self, side: Side, peer: Peer) -> Result<(), NoRoute> {
+        self.wire.set_peer(side, peer)
+    }
+
+    fn cut(&mut self, side: Side) {
+        self.wire.cut(side);
+    }
+
+    fn begin(&mut self, side: Side, bounds: Bounds) {
+        self.wire.begin(side, bounds);
+    }
+
+    fn hang_up(&mut self, side: Side) {
+        self.wire.hang_up(side);
+    }
+
+    fn settle(&mut self, side: Side, is_on: bool) {
+        self.wire.settle(side, is_on);
+    }
+
+    fn leg_state(&self, side: Side) -> LegState {
+        self.wire.leg_state(side)
+    }
+}
+
 impl<W: TimedWire + Drop> TimedWire for HoldingWire<W> {
     ghost use Rattle.fax_hold.specs.Holding.{Ceases, Stays, due_on};
+    ghost use Rattle.fax_hold.specs.Telling.{told_due};
 
     ghost due = { due_on };
 
-    ghost goes_on = { λ old new. Stays old new };
+    ghost goes_on = { λ old new. Stays old new × (new.peers ≡ old.peers) };
 
-    ghost ceases = { λ side old new. Ceases side old new };
+    ghost ceases = { λ side old new. Ceases side old new × (new.peers ≡ old.peers) };
+
+    ghost keeps_due = { told_due };
+
+    ghost keeps_on_time = { λ old new made. made.1 };
+
+    ghost keeps_on_cease = { λ at old new made. made.1 };
 
     fn go_on(&mut self, now: u64)
         ensures told { IsToldAs (as_told self.old) (as_told self.new) }
         ensures held { self.new.held ≡ self.old.held }
         ensures mute { self.new.is_mute ≡ self.old.is_mute }
         ensures wire { IsToldAs self.old.wire self.new.wire }
+        ensures peers { self.new.peers ≡ self.old.peers }
     {
         self.wire.go_on(now);
     }
@@ -196,6 +249,7 @@ impl<W: TimedWire + Drop> TimedWire for HoldingWire<W> {
         ensures ended { due_on side self.new ≡ None }
         ensures beside { due_on (other_side side) self.new ≡ due_on (other_side side) self.old }
         ensures wire { IsToldAs self.old.wire self.new.wire }
+        ensures peers { self.new.peers ≡ self.old.peers }
     {
         self.wire.cease(side);
         match side {
@@ -218,17 +272,19 @@ impl<W: TimedWire + Drop> LineWire for HoldingWire<W> {
 
     ghost holding = { λ wire. Some wire };
 
-    ghost on_receive = { λ side old new made. made };
+    ghost on_receive = { λ side old new made. made.0 };
 
-    ghost on_send = { λ side octets is_sent old new made. made };
+    ghost on_send = { λ side octets is_sent old new made. made.0 };
 
-    ghost on_time = { λ old new made. made };
+    ghost on_time = { λ old new made. made.0 };
 
-    ghost on_cease = { λ side old new made. made };
+    ghost on_cease = { λ side old new made. made.0 };
+
+    ghost on_told = { λ old new made. made };
 }
 
 /// It sends at once.
-impl<W: Wire + Drop> LineWire for RepeatingWire<W> {
+impl<W: LegWire + Drop> LineWire for RepeatingWire<W> {
     ghost use Rattle.std.specs.Prelude.{None};
 
     ghost holding = { λ wire. None };
@@ -240,4 +296,6 @@ impl<W: Wire + Drop> LineWire for RepeatingWire<W> {
     ghost on_time = { λ old new made. tt };
 
     ghost on_cease = { λ side old new made. tt };
+
+    ghost on_told = { λ old new made. tt };
 }

@@ -1,5 +1,5 @@
 //! A page is kept before what confirms it goes out.
-ghost use Rattle.std.specs.Prelude.{◌<◌, ℕ, Bool, List, ◌∷◌, ◌++◌, OnOk, OnErr, Option, is_ok, length};
+ghost use Rattle.std.specs.Prelude.{◌≡◌, ◌<◌, ℕ, Bool, List, ◌∷◌, ◌++◌, OnOk, OnErr, Option, is_ok, length};
 ghost use Rattle.fax_repeat.specs.Policies.{IsToldAs};
 ghost use Rattle.fax_hold.specs.Holding.{as_told};
 ghost use Rattle.fax_hold.specs.Keeping.{Deed, HasDone, HoldsBehind, PutsIf};
@@ -46,6 +46,7 @@ pub fn keep<P, K: Keeper<P>>(keeper: &mut K, pages: &[P]) -> Result<(), KeepFaul
 pub fn end_turn<W: TimedWire + Drop>(wire: &mut HoldingWire<W>, confirms: bool, is_kept: bool)
     ensures settled { (deeds : List Deed) (given : Option (List ℕ)) → HoldsBehind deeds given wire.old → HasDone (TurnDeed given confirms is_kept ∷ deeds) wire.new }
     ensures told { IsToldAs (as_told wire.old) (as_told wire.new) }
+    ensures peers { wire.new.peers ≡ wire.old.peers }
 {
     if confirms && !is_kept {
         wire.mute();

@@ -1,7 +1,7 @@
 //! The wire of a line.
 ghost use Rattle.std.specs.Prelude.{ℕ, Bool, List, Option};
 ghost use Rattle.fax_gateway.specs.declared.side.Side.{Side as SideShown};
-ghost use Rattle.fax_hold.specs.Holding.{CeasesWhere, HoldingValue, SendsWhere, StaysWhere};
+ghost use Rattle.fax_hold.specs.Holding.{CeasesWhere, HoldingValue, SendsWhere, StaysWhere, TellsWhere};
 
 use fax_repeat::TimedWire;
 
@@ -21,4 +21,7 @@ pub trait LineWire: TimedWire {
 
     /// Where a call begins on the calling leg it holds nothing, and is not mute.
     ghost on_cease: { (side : SideShown) (old new : Self) → Self.ceases side old new → CeasesWhere side (holding old) (holding new) };
+
+    /// By what it is told of its peers what it holds stays.
+    ghost on_told: { (old new : Self) → Self.is_told old new → TellsWhere (holding old) (holding new) };
 }
