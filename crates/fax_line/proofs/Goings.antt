@@ -18,14 +18,17 @@ use Rattle.fax_gateway.specs.declared.turned.Turned.{Turned}
 use Rattle.fax_gateway.specs.Turns.{TellTicks}
 use Rattle.fax_gateway.specs.Driving.{Accepts, Carries, DriverValue, Entry, HasMade, Happens, IsTurn, RefusesRing, events, events_in, receipts_in}
 use Rattle.fax_gateway.proofs.DrivingLemmas.{carries_unseen, grows_none, happens_more, made_unseen, refused_so, refuses, steps_ring}
+use Rattle.fax_repeat.specs.Peers.{Peers}
 use Rattle.fax_repeat.specs.Policies.{IsToldAs}
 use Rattle.fax_hold.specs.Holding.{HoldingValue}
 use Rattle.fax_hold.specs.Keeping.{HoldsByLog}
 use Rattle.fax_line.specs.declared.asked.Answered.{Answered}
 use Rattle.fax_line.specs.declared.asked.Answered.TheVariants as answered
 use Rattle.fax_line.specs.declared.asked.Asked.{Asked}
+use Rattle.fax_line.specs.declared.asked.Ringing.{Ringing}
 use Rattle.fax_line.specs.declared.asked.Asked.TheVariants as asked
-use Rattle.fax_line.specs.Actions.{Action, AreSteps, Asks, Goes, IsAsked, IsPlaced, IsStep, LineValue, Rests, TellsTurn, Turns, Wakes, placing}
+use Rattle.fax_line.specs.LegPeers.{HearBoth}
+use Rattle.fax_line.specs.Actions.{Action, AreSteps, Asks, Drives, Goes, IsAsked, IsPlaced, IsPlacing, IsStep, LineValue, Rests, TellsWire, Turns, Wakes}
 
 -- the trace behind two logs
 behind_both : (newer older : List Entry) (trace : List Event) → events newer ++ (events older ++ trace) ≡ events (newer ++ older) ++ trace
@@ -54,13 +57,13 @@ carries_told : (a b : Known) → IsToldAs a b → Carries [] a b
 carries_told a b told = record { received = told.received; sent = told.sent; failures = λ low. omega (arith, told.failures) }
 
 -- a line, part by part
-abbrev pub line_of : GatewayValue → DriverValue → Known → Option ℕ → Option HoldingValue → Turned → LineValue
-line_of gateway driver wire wire_due holding turned = record { gateway = gateway; driver = driver; wire = wire; wire_due = wire_due; holding = holding; turned = turned }
+abbrev pub line_of : GatewayValue → DriverValue → Known → Option ℕ → Option HoldingValue → Peers → Turned → LineValue
+line_of gateway driver wire wire_due holding peers turned = record { gateway = gateway; driver = driver; wire = wire; wire_due = wire_due; holding = holding; peers = peers; turned = turned }
 
 pub goes_told :
-    (gateway : GatewayValue) (driver : DriverValue) (a b : Known) (m n : Option ℕ) (h k : Option HoldingValue) (x y : Turned) → IsToldAs a b
-    → Goes [] (line_of gateway driver a m h x) (line_of gateway driver b n k y)
-goes_told gateway driver a b m n h k x y told = record {
+    (gateway : GatewayValue) (driver : DriverValue) (a b : Known) (m n : Option ℕ) (h k : Option HoldingValue) (p q : Peers) (x y : Turned) → IsToldAs a b
+    → Goes [] (line_of gateway driver a m h p x) (line_of gateway driver b n k q y)
+goes_told gateway driver a b m n h k p q x y told = record {
   goes = λ setup writes trace earlier writing reached made. ([], refl, record { reached = reached; wanting = tt; carried = carries_told a b told }, made);
 }
 
@@ -68,7 +71,7 @@ told_same : (a : Known) → IsToldAs a a
 told_same a = record { failures = refl; received = grows_none a.received; sent = grows_none a.sent }
 
 pub goes_none : (line : LineValue) → Goes [] line line
-goes_none line = goes_told line.gateway line.driver line.wire line.wire line.wire_due line.wire_due line.holding line.holding line.turned line.turned (told_same line.wire)
+goes_none line = goes_told line.gateway line.driver line.wire line.wire line.wire_due line.wire_due line.holding line.holding line.peers line.peers line.turned line.turned (told_same line.wire)
 
 pub goes_more : (older newer : List Action) (a b c : LineValue) → Goes older a b → Goes newer b c → Goes (newer ++ older) a c
 goes_more older newer a b c first second = record {
@@ -84,54 +87,56 @@ goes_more older newer a b c first second = record {
 
 -- a turn, by what a driver ensures of one
 turns_driven :
-    (now : ℕ) (old new : GatewayValue) (driver driven : DriverValue) (a b : Known) (m n : Option ℕ) (h k : Option HoldingValue) (x y : Turned)
+    (now : ℕ) (old new : GatewayValue) (driver driven : DriverValue) (a b : Known) (m n : Option ℕ) (h k : Option HoldingValue) (p q : Peers) (x y : Turned)
     → ((setup : Setup) (writes : Writing) (trace : List Event) (earlier : List Entry) → IsWriting writes → IsReachedBy setup writes trace old → HasMade earlier driver
     → (turn : List Entry) × IsTurn now turn × Happens setup writes turn trace new a b × HasMade (turn ++ earlier) driven
     × TellTicks setup trace (events turn ++ trace) y.report y.kept y.refused y.gave_up)
-    → Goes (Turns now ∷ []) (line_of old driver a m h x) (line_of new driven b n k y)
-turns_driven now old new driver driven a b m n h k x y turned = record {
+    → Goes (Turns now ∷ []) (line_of old driver a m h p x) (line_of new driven b n k q y)
+turns_driven now old new driver driven a b m n h k p q x y turned = record {
   goes = λ setup writes trace earlier writing reached made.
       let t = turned setup writes trace earlier writing reached made in (t.0, one_step setup writes trace (Turns now) t.0 t.1, t.2, t.3);
 }
 
 pub goes_turn :
-    (now : ℕ) (old new : GatewayValue) (driver driven : DriverValue) (a b c : Known) (m n : Option ℕ) (h k : Option HoldingValue) (x y : Turned) → IsToldAs a b
+    (now : ℕ) (old new : GatewayValue) (driver driven : DriverValue) (a b c : Known) (m n : Option ℕ) (h k : Option HoldingValue) (p q : Peers) (x y : Turned) → IsToldAs a b
     → ((setup : Setup) (writes : Writing) (trace : List Event) (earlier : List Entry) → IsWriting writes → IsReachedBy setup writes trace old → HasMade earlier driver
     → (turn : List Entry) × IsTurn now turn × Happens setup writes turn trace new b c × HasMade (turn ++ earlier) driven
     × TellTicks setup trace (events turn ++ trace) y.report y.kept y.refused y.gave_up)
-    → Goes (Turns now ∷ []) (line_of old driver a m h x) (line_of new driven c n k y)
-goes_turn now old new driver driven a b c m n h k x y told turned =
-    goes_more [] (Turns now ∷ []) (line_of old driver a m h x) (line_of old driver b m h x) (line_of new driven c n k y)
-    (goes_told old driver a b m m h h x x told) (turns_driven now old new driver driven b c m n h k x y turned)
+    → Goes (Turns now ∷ []) (line_of old driver a m h p x) (line_of new driven c n k q y)
+goes_turn now old new driver driven a b c m n h k p q x y told turned =
+    goes_more [] (Turns now ∷ []) (line_of old driver a m h p x) (line_of old driver b m h p x) (line_of new driven c n k q y)
+    (goes_told old driver a b m m h h p p x x told) (turns_driven now old new driver driven b c m n h k p q x y turned)
 
 -- what is done with the wire alone before a turn is not seen in it
-wire_first : (setup : Setup) (writes : Writing) (log : List Entry) (trace : List Event) (old new : GatewayValue) (a b c : Known)
+pub wire_first : (setup : Setup) (writes : Writing) (log : List Entry) (trace : List Event) (old new : GatewayValue) (a b c : Known)
     → IsReachedBy setup writes trace old → IsToldAs a b → Happens setup writes log trace new b c → Happens setup writes log trace new a c
 wire_first setup writes log trace old new a b c reached told happens =
     subst (λ (l : List Entry). Happens setup writes l trace new a c) (entries_nil log)
     (happens_more setup writes [] log trace old new a b c record { reached = reached; wanting = tt; carried = carries_told a b told } happens)
 
-pub tells_turn :
-    (now : ℕ) (old new : GatewayValue) (driver driven : DriverValue) (a b c : Known) (m n : Option ℕ) (h k : Option HoldingValue) (x y : Turned) → IsToldAs a b
+pub drives_turn :
+    (now : ℕ) (old new : GatewayValue) (driver driven : DriverValue) (a b c : Known) (m n : Option ℕ) (h k : Option HoldingValue) (p q : Peers) (x y : Turned) → IsToldAs a b
     → ((setup : Setup) (writes : Writing) (trace : List Event) (earlier : List Entry) → IsWriting writes → IsReachedBy setup writes trace old → HasMade earlier driver
     → (turn : List Entry) × IsTurn now turn × Happens setup writes turn trace new b c × HasMade (turn ++ earlier) driven
     × TellTicks setup trace (events turn ++ trace) y.report y.kept y.refused y.gave_up × HoldsByLog turn h k)
-    → TellsTurn now (line_of old driver a m h x) (line_of new driven c n k y)
-tells_turn now old new driver driven a b c m n h k x y told turned = record {
+    → ((setup : Setup) (writes : Writing) (trace : List Event) (earlier : List Entry) → IsWriting writes → IsReachedBy setup writes trace old → HasMade earlier driver → HearBoth p q)
+    → Drives now (line_of old driver a m h p x) (line_of new driven c n k q y)
+drives_turn now old new driver driven a b c m n h k p q x y told turned hear = record {
   tells = λ setup writes trace earlier writing reached made.
       let t = turned setup writes trace earlier writing reached made in
       (t.0, t.1, wire_first setup writes t.0 trace old new a b c reached told t.2, t.3, t.4, t.5);
+  hear = hear;
 }
 
 -- ---- what is asked of a line
 
 -- a call begins by it: an event of the gateway, of which its wire sees nothing
 asks_accepted :
-    (now : ℕ) (what : Asked) (answer : Option Answered) (event : Event) (old new : GatewayValue) (driver : DriverValue) (a : Known) (m : Option ℕ) (h : Option HoldingValue) (x : Turned)
+    (now : ℕ) (what : Asked) (answer : Option Answered) (event : Event) (old new : GatewayValue) (driver : DriverValue) (a : Known) (m : Option ℕ) (h : Option HoldingValue) (p : Peers) (x : Turned)
     → receipts_in (Accepts event) ≡ [] → ((setup : Setup) (writes : Writing) (trace : List Event) → IsAsked setup writes trace now what answer (Accepts event ∷ []))
     → ((setup : Setup) (writes : Writing) (trace : List Event) → IsReachedBy setup writes trace old → IsReachedBy setup writes (event ∷ trace) new)
-    → Goes (Asks now what answer ∷ []) (line_of old driver a m h x) (line_of new driver a m h x)
-asks_accepted now what answer event old new driver a m h x unseen is comes = record {
+    → Goes (Asks now what answer ∷ []) (line_of old driver a m h p x) (line_of new driver a m h p x)
+asks_accepted now what answer event old new driver a m h p x unseen is comes = record {
   goes = λ setup writes trace earlier writing reached made.
       let log : List Entry = Accepts event ∷ [] in (
         log,
@@ -143,38 +148,38 @@ asks_accepted now what answer event old new driver a m h x unseen is comes = rec
 
 -- and the wire is told of the call
 goes_asked :
-    (now : ℕ) (what : Asked) (answer : Option Answered) (event : Event) (old new : GatewayValue) (driver : DriverValue) (a b : Known) (m n : Option ℕ) (h k : Option HoldingValue) (x : Turned)
+    (now : ℕ) (what : Asked) (answer : Option Answered) (event : Event) (old new : GatewayValue) (driver : DriverValue) (a b : Known) (m n : Option ℕ) (h k : Option HoldingValue) (p q : Peers) (x : Turned)
     → receipts_in (Accepts event) ≡ [] → ((setup : Setup) (writes : Writing) (trace : List Event) → IsAsked setup writes trace now what answer (Accepts event ∷ [])) → IsToldAs a b
     → ((setup : Setup) (writes : Writing) (trace : List Event) → IsReachedBy setup writes trace old → IsReachedBy setup writes (event ∷ trace) new)
-    → Goes (Asks now what answer ∷ []) (line_of old driver a m h x) (line_of new driver b n k x)
-goes_asked now what answer event old new driver a b m n h k x unseen is told comes =
-    goes_more (Asks now what answer ∷ []) [] (line_of old driver a m h x) (line_of new driver a m h x) (line_of new driver b n k x)
-    (asks_accepted now what answer event old new driver a m h x unseen is comes) (goes_told new driver a b m n h k x x told)
+    → Goes (Asks now what answer ∷ []) (line_of old driver a m h p x) (line_of new driver b n k q x)
+goes_asked now what answer event old new driver a b m n h k p q x unseen is told comes =
+    goes_more (Asks now what answer ∷ []) [] (line_of old driver a m h p x) (line_of new driver a m h p x) (line_of new driver b n k q x)
+    (asks_accepted now what answer event old new driver a m h p x unseen is comes) (goes_told new driver a b m n h k p q x x told)
 
 -- a ring that is accepted, and one that is refused
 abbrev pub rung_as : Result ℕ RingFault → Option Answered
 rung_as result = Some (answered.Rung result)
 
 pub goes_ring :
-    (now number : ℕ) (old new : GatewayValue) (driver : DriverValue) (a b : Known) (m n : Option ℕ) (h k : Option HoldingValue) (x : Turned) → IsToldAs a b
+    (now number : ℕ) (ringing : Ringing) (old new : GatewayValue) (driver : DriverValue) (a b : Known) (m n : Option ℕ) (h k : Option HoldingValue) (p q : Peers) (x : Turned) → IsToldAs a b
     → ((setup : Setup) (writes : Writing) (trace : List Event) → IsReachedBy setup writes trace old → IsReachedBy setup writes (Ring now number ∷ trace) new)
-    → Goes (Asks now asked.Ring (rung_as (Ok number)) ∷ []) (line_of old driver a m h x) (line_of new driver b n k x)
-goes_ring now number old new driver a b m n h k x told rung =
-    goes_asked now asked.Ring (rung_as (Ok number)) (Ring now number) old new driver a b m n h k x refl (λ setup writes trace. refl) told rung
+    → Goes (Asks now (asked.Ring ringing) (rung_as (Ok number)) ∷ []) (line_of old driver a m h p x) (line_of new driver b n k q x)
+goes_ring now number ringing old new driver a b m n h k p q x told rung =
+    goes_asked now (asked.Ring ringing) (rung_as (Ok number)) (Ring now number) old new driver a b m n h k p q x refl (λ setup writes trace. refl) told rung
 
 pub goes_refused :
-    (now : ℕ) (line : LineValue) (fault : RingFault)
+    (now : ℕ) (ringing : Ringing) (line : LineValue) (fault : RingFault)
     → ((setup : Setup) (writes : Writing) (trace : List Event) → IsReachedBy setup writes trace line.gateway
     → refuses fault ≡ refuses ring_faults.Busy ↔ idle_after (calling_leg setup trace) ≡ false)
     → ((setup : Setup) (writes : Writing) (trace : List Event) → IsReachedBy setup writes trace line.gateway → idle_after (calling_leg setup trace) ≡ true
     → refuses fault ≡ refuses ring_faults.NoNumber ↔ 4294967296 ≤ rings trace)
-    → Goes (Asks now asked.Ring (rung_as (Err fault)) ∷ []) line line
-goes_refused now line fault busy none = record {
+    → Goes (Asks now (asked.Ring ringing) (rung_as (Err fault)) ∷ []) line line
+goes_refused now ringing line fault busy none = record {
   goes = λ setup writes trace earlier writing reached made.
       let log : List Entry = RefusesRing fault ∷ [] in
       let cause = refused_so setup trace fault (busy setup writes trace reached) (none setup writes trace reached) in
       let s = steps_ring setup writes true now log trace earlier line.gateway line.wire line.driver (inr (fault, refl)) (cause, tt) reached made in
-      (log, one_step setup writes trace (Asks now asked.Ring (rung_as (Err fault))) log refl, s.happens, s.made);
+      (log, one_step setup writes trace (Asks now (asked.Ring ringing) (rung_as (Err fault))) log refl, s.happens, s.made);
 }
 
 -- a placing that is done, and one that is refused
@@ -184,36 +189,67 @@ placed_as result = Some (answered.Placed result)
 abbrev pub not_placed : PlaceFault → Result (Unit {0}) PlaceFault
 not_placed fault = Err fault
 
-is_placing : (setup : Setup) (writes : Writing) (trace : List Event) (now : ℕ) (connected : Bool) (result : Result (Unit {0}) PlaceFault) (log : List Entry)
-    → IsPlaced setup writes trace now connected result log → IsAsked setup writes trace now (placing connected) (placed_as result) log
-is_placing setup writes trace now true result log is = is
-is_placing setup writes trace now false result log is = is
+is_placing : (setup : Setup) (writes : Writing) (trace : List Event) (now : ℕ) (connected : Bool) (what : Asked) (result : Result (Unit {0}) PlaceFault) (log : List Entry)
+    → IsPlacing connected what → IsPlaced setup writes trace now connected result log → IsAsked setup writes trace now what (placed_as result) log
+is_placing setup writes trace now true (asked.Ring ringing) result log asks is = absurd asks
+is_placing setup writes trace now true (asked.Peer peering) result log asks is = absurd asks
+is_placing setup writes trace now true (asked.Connect connecting) result log asks is = is
+is_placing setup writes trace now true asked.NotConnected result log asks is = absurd asks
+is_placing setup writes trace now true (asked.HangUp hanging_up) result log asks is = absurd asks
+is_placing setup writes trace now false (asked.Ring ringing) result log asks is = absurd asks
+is_placing setup writes trace now false (asked.Peer peering) result log asks is = absurd asks
+is_placing setup writes trace now false (asked.Connect connecting) result log asks is = absurd asks
+is_placing setup writes trace now false asked.NotConnected result log asks is = is
+is_placing setup writes trace now false (asked.HangUp hanging_up) result log asks is = absurd asks
 
 pub goes_placed :
-    (now : ℕ) (connected : Bool) (old new : GatewayValue) (driver : DriverValue) (a b : Known) (m n : Option ℕ) (h k : Option HoldingValue) (x : Turned) → IsToldAs a b
+    (now : ℕ) (connected : Bool) (what : Asked) (old new : GatewayValue) (driver : DriverValue) (a b : Known) (m n : Option ℕ) (h k : Option HoldingValue) (p q : Peers) (x : Turned) → IsPlacing connected what → IsToldAs a b
     → ((setup : Setup) (writes : Writing) (trace : List Event) → IsReachedBy setup writes trace old → IsReachedBy setup writes (Placed now connected ∷ trace) new)
-    → Goes (Asks now (placing connected) (placed_as (Ok tt)) ∷ []) (line_of old driver a m h x) (line_of new driver b n k x)
-goes_placed now connected old new driver a b m n h k x told placed =
-    goes_asked now (placing connected) (placed_as (Ok tt)) (Placed now connected) old new driver a b m n h k x refl
-    (λ setup writes trace. is_placing setup writes trace now connected (Ok tt) (Accepts (Placed now connected) ∷ []) refl) told placed
+    → Goes (Asks now what (placed_as (Ok tt)) ∷ []) (line_of old driver a m h p x) (line_of new driver b n k q x)
+goes_placed now connected what old new driver a b m n h k p q x asks told placed =
+    goes_asked now what (placed_as (Ok tt)) (Placed now connected) old new driver a b m n h k p q x refl
+    (λ setup writes trace. is_placing setup writes trace now connected what (Ok tt) (Accepts (Placed now connected) ∷ []) asks refl) told placed
 
 same_cause : (a b : PlaceFault) → not_placed a ≡ not_placed b → a ≡ b
 same_cause a b e = cc
 
 pub goes_unplaced :
-    (now : ℕ) (connected : Bool) (line : LineValue) (fault : PlaceFault)
+    (now : ℕ) (connected : Bool) (what : Asked) (line : LineValue) (fault : PlaceFault) → IsPlacing connected what
     → ((setup : Setup) (writes : Writing) (trace : List Event) → IsReachedBy setup writes trace line.gateway
     → not_placed fault ≡ not_placed place_faults.NotAsked ↔ asked_behind setup writes trace ≡ None)
-    → Goes (Asks now (placing connected) (placed_as (Err fault)) ∷ []) line line
-goes_unplaced now connected line fault not_asked = record {
+    → Goes (Asks now what (placed_as (Err fault)) ∷ []) line line
+goes_unplaced now connected what line fault asks not_asked = record {
   goes = λ setup writes trace earlier writing reached made.
       let cause = not_asked setup writes trace reached in (
         [],
-        one_step setup writes trace (Asks now (placing connected) (placed_as (Err fault))) []
-            (is_placing setup writes trace now connected (Err fault) [] (refl, (λ e. cause.0 (ap not_placed e), λ none. same_cause fault place_faults.NotAsked (cause.1 none)))),
+        one_step setup writes trace (Asks now what (placed_as (Err fault))) []
+            (is_placing setup writes trace now connected what (Err fault) [] asks (refl, (λ e. cause.0 (ap not_placed e), λ none. same_cause fault place_faults.NotAsked (cause.1 none)))),
         record { reached = reached; wanting = tt; carried = carries_told line.wire line.wire (told_same line.wire) },
         made,
       );
+}
+
+-- ---- its wire is told of the peers of its legs
+
+pub goes_peers : (old new : LineValue) → TellsWire old new → Goes [] old new
+goes_peers old new tells = record {
+  goes = λ setup writes trace earlier writing reached made. (
+    [],
+    refl,
+    record { reached = subst (λ (g : GatewayValue). IsReachedBy setup writes trace g) (sym tells.gateway) reached; wanting = tt; carried = carries_told old.wire new.wire tells.wire },
+    subst (λ (d : DriverValue). HasMade earlier d) (sym tells.driver) made,
+  );
+}
+
+-- and nothing else is done: what was asked for is no event of the gateway
+pub goes_quiet :
+    (now : ℕ) (what : Asked) (answer : Option Answered) (old new : LineValue) → TellsWire old new → ((setup : Setup) (writes : Writing) (trace : List Event) → IsAsked setup writes trace now what answer [])
+    → Goes (Asks now what answer ∷ []) old new
+unfolding goes_peers
+goes_quiet now what answer old new tells is = record {
+  goes = λ setup writes trace earlier writing reached made.
+      let x = (goes_peers old new tells).goes setup writes trace earlier writing reached made in
+      ([], one_step setup writes trace (Asks now what answer) [] (is setup writes trace), x.2, x.3);
 }
 
 -- it is left at rest, where what is due lies later

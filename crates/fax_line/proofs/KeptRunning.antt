@@ -29,7 +29,7 @@ module _ (K : Type 0) (same : K → K → Type 0) (puts : List PageToKeep → Bo
 
   pub ran_asked :
       (first line now : ℕ) (what : Asked) (answer : Option Answered) (done : List Done) (a b c : List PlaceValue) (k l : Option K)
-      → RanIf same puts notes ends first done a b k l → Went (AsksLine line (max (latest done) now) what answer ∷ []) b c → AskFrees line answer b c → RanIf same puts notes ends first (AskedOf line now what answer ∷ done) a c k l
+      → RanIf same puts notes ends first done a b k l → Went (AsksLine line (max (latest done) now) what answer ∷ []) b c → AskFrees line what answer b c → RanIf same puts notes ends first (AskedOf line now what answer ∷ done) a c k l
   ran_asked first line now what answer done a b c None l (is, ran) went frees = (is, (b, ran, went, frees))
   ran_asked first line now what answer done a b c (Some k) l (x, is, all, ran) went frees = (x, is, all, (b, ran, went, frees))
 

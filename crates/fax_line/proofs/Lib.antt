@@ -1,5 +1,8 @@
 mod AllKept
+mod Connected
+mod Given
 mod Goings
+mod Heard
 mod KeptRunning
 mod Missing
 mod Places

@@ -90,15 +90,14 @@ place_keeps setup writes trace now connected (Ok done) log is = subst (λ (l : L
 place_keeps setup writes trace now connected (Err fault) log is = none_keeps now log (ap events is.0)
 
 ask_keeps : (setup : Setup) (writes : Writing) (trace : List Event) (now : ℕ) (what : Asked) (answer : Option Answered) (log : List Entry) → IsAsked setup writes trace now what answer log → Keeps now log
-ask_keeps setup writes trace now asked.Ring (Some (answered.Rung result)) log is = ring_keeps now result log is
-ask_keeps setup writes trace now asked.Ring (Some (answered.Placed result)) log is = absurd is
-ask_keeps setup writes trace now asked.Connect (Some (answered.Rung result)) log is = absurd is
-ask_keeps setup writes trace now asked.Connect (Some (answered.Placed result)) log is = place_keeps setup writes trace now true result log is
-ask_keeps setup writes trace now asked.NotConnected (Some (answered.Rung result)) log is = absurd is
+ask_keeps setup writes trace now (asked.Ring ringing) (Some (answered.Rung result)) log is = ring_keeps now result log is
+ask_keeps setup writes trace now (asked.Peer peering) (Some answered.Done) log is = none_keeps now log (ap events is)
+ask_keeps setup writes trace now (asked.Peer peering) (Some answered.NoRoute) log is = none_keeps now log (ap events is)
+ask_keeps setup writes trace now (asked.Connect connecting) (Some (answered.Placed result)) log is = place_keeps setup writes trace now true result log is
+ask_keeps setup writes trace now (asked.Connect connecting) (Some answered.NoRoute) log is = none_keeps now log (ap events is)
 ask_keeps setup writes trace now asked.NotConnected (Some (answered.Placed result)) log is = place_keeps setup writes trace now false result log is
-ask_keeps setup writes trace now asked.Ring None log is = absurd is
-ask_keeps setup writes trace now asked.Connect None log is = absurd is
-ask_keeps setup writes trace now asked.NotConnected None log is = absurd is
+ask_keeps setup writes trace now (asked.HangUp hanging_up) (Some answered.Done) log is = none_keeps now log (ap events is)
+ask_keeps setup writes trace now what answer log is = absurd is
 
 -- one step more
 step_low : (now latest : ℕ) (log newer older : List Entry) (trace : List Event) → log ≡ newer ++ older → Keeps now newer → now ≤ latest

@@ -19,9 +19,9 @@ use Rattle.fax_line.specs.Settling.{EndsAtOnce, EndsTurn, EndsWhere, HandsOver, 
 -- by what ends the turn of its wire
 pub ends_by :
     (is_kept confirms : Bool) (old new : LineValue) (before after : HoldingValue) → old.holding ≡ Some before → new.holding ≡ Some after → confirms ≡ is_some old.turned.kept
-    → new.gateway ≡ old.gateway → new.driver ≡ old.driver → IsToldAs old.wire new.wire → new.turned ≡ old.turned
+    → new.gateway ≡ old.gateway → new.driver ≡ old.driver → IsToldAs old.wire new.wire → new.peers ≡ old.peers → new.turned ≡ old.turned
     → ((deeds : List Deed) (given : Option (List ℕ)) → HoldsBehind deeds given before → HasDone (Turn given confirms is_kept ∷ deeds) after) → EndsTurn is_kept old new
-ends_by is_kept confirms old new before after was is same gateway driver wire told done = record {
+ends_by is_kept confirms old new before after was is same gateway driver wire peers told done = record {
   before = before;
   was = was;
   after = after;
@@ -30,6 +30,7 @@ ends_by is_kept confirms old new before after was is same gateway driver wire to
   gateway = gateway;
   driver = driver;
   wire = wire;
+  peers = peers;
   told = told;
 }
 

@@ -10,7 +10,10 @@ use Rattle.fax_line.proofs.Slots.{PassesOver, Rounds, of_slot, on_round}
 
 -- a line that is as it was
 pub still_held : (place : PlaceValue) → StaysHeld place place
-still_held place = stays_same place.line.holding
+still_held place = (stays_same place.line.holding, refl)
+
+pub held_more : (old mid new : PlaceValue) → StaysHeld old mid → StaysHeld mid new → StaysHeld old new
+held_more old mid new first second = (stays_more old.line.holding mid.line.holding new.line.holding first.0 second.0, second.1 ∙ first.1)
 
 -- what is told of a line
 abbrev pub tells_if : ℕ → ℕ → (ℕ → Bool) → ℕ → PlaceValue → PlaceValue → Type 0
@@ -63,7 +66,7 @@ still_in : (b : Bool) (slot across now i : ℕ) (rests : Bool) (old mid new : Pl
 still_in true slot across now i rests old mid new is other told stays =
     let off : nat_eq (i % 40) across ≡ false = ne_eqb (i % 40) across (λ (same : i % 40 ≡ across). other (sym same ∙ eqb-true (i % 40) slot is)) in
     subst (λ (p : PlaceValue). TellsOrRests now rests old p) (sym (stays.0 off)) told
-still_in false slot across now i rests old mid new is other told stays = stays_more old.line.holding mid.line.holding new.line.holding told stays.1
+still_in false slot across now i rests old mid new is other told stays = held_more old mid new told stays.1
 
 pub tells_still :
     (slot across now : ℕ) (rests : ℕ → Bool) (olds mids news : List PlaceValue) → across ≢ slot → SlotTells slot now rests olds mids → EachComes (stays_if across) mids news

@@ -1,5 +1,5 @@
 -- A line: what it is, and what it goes through. Lists have the newest first. (This project's profile.)
-use Rattle.std.specs.Prelude.{◌≡◌, ℕ, ◌<◌, ◌↔◌, Bool, true, false, IsTrue, List, [], ◌∷◌, ◌++◌, Option, Some, None, Result, Ok, Err}
+use Rattle.std.specs.Prelude.{◌≡◌, ℕ, ◌<◌, ◌↔◌, Bool, true, false, IsTrue, List, [], ◌∷◌, ◌++◌, Option, Some, None, is_some, Result, Ok, Err}
 use Rattle.fax_timers.specs.Moments.{is_due}
 use Rattle.fax_call.specs.Writings.{IsWriting, Writing}
 use Rattle.fax_gateway.specs.declared.fault.PlaceFault.{PlaceFault}
@@ -16,22 +16,26 @@ use Rattle.fax_gateway.specs.Restored.{RestoredCall}
 use Rattle.fax_gateway.specs.Setups.{AreSetWith, Setup}
 use Rattle.fax_gateway.specs.Wires.{Known}
 use Rattle.fax_gateway.specs.Driving.{Accepts, DriverValue, Entry, HasMade, Happens, IsTurn, RefusesRing, events, failed_in_a_row, most_failed, receipts}
-use Rattle.fax_gateway.specs.Turns.{TellTicks}
-use Rattle.fax_hold.specs.Holding.{CeasesWhere, HoldingValue, StaysWhere}
+use Rattle.fax_gateway.specs.Turns.{TellTicks, call_kept}
+use Rattle.fax_repeat.specs.Peers.{Peers}
+use Rattle.fax_repeat.specs.Policies.{IsToldAs}
+use Rattle.fax_hold.specs.Holding.{CeasesWhere, HoldingValue, StaysWhere, TellsWhere}
 use Rattle.fax_hold.specs.Keeping.{HoldsByLog}
 use Rattle.fax_line.specs.declared.asked.Answered.{Answered}
 use Rattle.fax_line.specs.declared.asked.Answered.TheVariants as answered
 use Rattle.fax_line.specs.declared.asked.Asked.{Asked}
 use Rattle.fax_line.specs.declared.asked.Asked.TheVariants as asked
+use Rattle.fax_line.specs.LegPeers.{HearBoth, TurnsPeers}
 
 -- its gateway, what drives that, what is known of its wire and from when on that has something to do, what the wire holds back
--- where it does, and what the last turn told
+-- where it does, the peers of its legs, and what the last turn told
 pub record LineValue : Type 0 where
   pub gateway : GatewayValue
   pub driver : DriverValue
   pub wire : Known
   pub wire_due : Option ℕ
   pub holding : Option HoldingValue
+  pub peers : Peers
   pub turned : Turned
 
 -- before the first turn
@@ -57,19 +61,27 @@ abbrev pub IsPlaced : Setup → Writing → List Event → ℕ → Bool → Resu
 IsPlaced setup writes trace now connected (Ok done) log = log ≡ Accepts (Placed now connected) ∷ []
 IsPlaced setup writes trace now connected (Err fault) log = (log ≡ []) × (fault ≡ place_faults.NotAsked ↔ asked_behind setup writes trace ≡ None)
 
-abbrev pub placing : Bool → Asked
-placing true = asked.Connect
-placing false = asked.NotConnected
+-- what a placing answers
+abbrev pub Placing : Type 0
+Placing = Result (Unit {0}) PlaceFault
 
--- THE LOG OF WHAT IS ASKED OF A LINE, behind this trace: a line that is there answers, and to what it was asked.
+-- what asks for a placing, connected or not
+abbrev pub IsPlacing : Bool → Asked → Type 0
+IsPlacing true (asked.Connect connecting) = Unit {0}
+IsPlacing false asked.NotConnected = Unit {0}
+IsPlacing connected what = ⊥
+
+-- THE LOG OF WHAT IS ASKED OF A LINE, behind this trace: a line that is there answers, and to what it was asked. A peer, and that its
+-- call is gone, are no events of the gateway; and where there is no way to a peer nothing happens.
 abbrev pub IsAsked : Setup → Writing → List Event → ℕ → Asked → Option Answered → List Entry → Type 0
-IsAsked setup writes trace now asked.Ring (Some (answered.Rung result)) log = IsRung now result log
-IsAsked setup writes trace now asked.Ring (Some (answered.Placed result)) log = ⊥
-IsAsked setup writes trace now asked.Connect (Some (answered.Rung result)) log = ⊥
-IsAsked setup writes trace now asked.Connect (Some (answered.Placed result)) log = IsPlaced setup writes trace now true result log
-IsAsked setup writes trace now asked.NotConnected (Some (answered.Rung result)) log = ⊥
+IsAsked setup writes trace now (asked.Ring ringing) (Some (answered.Rung result)) log = IsRung now result log
+IsAsked setup writes trace now (asked.Peer peering) (Some answered.Done) log = log ≡ []
+IsAsked setup writes trace now (asked.Peer peering) (Some answered.NoRoute) log = log ≡ []
+IsAsked setup writes trace now (asked.Connect connecting) (Some (answered.Placed result)) log = IsPlaced setup writes trace now true result log
+IsAsked setup writes trace now (asked.Connect connecting) (Some answered.NoRoute) log = log ≡ []
 IsAsked setup writes trace now asked.NotConnected (Some (answered.Placed result)) log = IsPlaced setup writes trace now false result log
-IsAsked setup writes trace now what None log = ⊥
+IsAsked setup writes trace now (asked.HangUp hanging_up) (Some answered.Done) log = log ≡ []
+IsAsked setup writes trace now what answer log = ⊥
 
 -- Left at rest, behind this trace: nothing is done, and what is due lies later, so that a tick would have given nothing.
 abbrev pub IsRest : Setup → Writing → List Event → ℕ → List Entry → Type 0
@@ -94,13 +106,35 @@ pub record Goes (actions : List Action) (old new : LineValue) : Type 0 where
       (setup : Setup) (writes : Writing) (trace : List Event) (earlier : List Entry) → IsWriting writes → IsReachedBy setup writes trace old.gateway → HasMade earlier old.driver
       → (log : List Entry) × AreSteps setup writes trace actions log × Happens setup writes log trace new.gateway old.wire new.wire × HasMade (log ++ earlier) new.driver
 
--- A turn, and what it told: of the trace that it made longer, what the ticks told by which it did. What its wire holds back is what the
--- turn handed over.
+-- A gateway is driven: of the trace that this made longer, what the ticks told by which it did. What its wire holds back is what was handed
+-- over, and the peers of its legs stay, or are heard.
+pub record Drives (now : ℕ) (old new : LineValue) : Type 0 where
+  pub tells :
+      (setup : Setup) (writes : Writing) (trace : List Event) (earlier : List Entry) → IsWriting writes → IsReachedBy setup writes trace old.gateway → HasMade earlier old.driver
+      → (log : List Entry) × IsTurn now log × Happens setup writes log trace new.gateway old.wire new.wire × HasMade (log ++ earlier) new.driver
+      × TellTicks setup trace (events log ++ trace) new.turned.report new.turned.kept new.turned.refused new.turned.gave_up × HoldsByLog log old.holding new.holding
+  pub hear :
+      (setup : Setup) (writes : Writing) (trace : List Event) (earlier : List Entry) → IsWriting writes → IsReachedBy setup writes trace old.gateway → HasMade earlier old.driver
+      → HearBoth old.peers new.peers
+
+-- A turn, and what it told: it was driven. Of the calls of its peers no more is known where no call was on; the peers of its legs stay, or
+-- are heard; and the called leg is cut where a job was reported.
 pub record TellsTurn (now : ℕ) (old new : LineValue) : Type 0 where
   pub tells :
       (setup : Setup) (writes : Writing) (trace : List Event) (earlier : List Entry) → IsWriting writes → IsReachedBy setup writes trace old.gateway → HasMade earlier old.driver
       → (log : List Entry) × IsTurn now log × Happens setup writes log trace new.gateway old.wire new.wire × HasMade (log ++ earlier) new.driver
       × TellTicks setup trace (events log ++ trace) new.turned.report new.turned.kept new.turned.refused new.turned.gave_up × HoldsByLog log old.holding new.holding
+  pub peers :
+      (setup : Setup) (writes : Writing) (trace : List Event) (earlier : List Entry) → IsWriting writes → IsReachedBy setup writes trace old.gateway → HasMade earlier old.driver
+      → TurnsPeers (is_some new.turned.report) (is_some (call_kept old.gateway.calling)) (is_some old.gateway.book.sending) old.peers new.peers
+
+-- Its wire is told of the peers of its legs: what it holds back stays, and nothing else of the line changes.
+pub record TellsWire (old new : LineValue) : Type 0 where
+  pub gateway : new.gateway ≡ old.gateway
+  pub driver : new.driver ≡ old.driver
+  pub wire : IsToldAs old.wire new.wire
+  pub holding : TellsWhere old.holding new.holding
+  pub turned : new.turned ≡ old.turned
 
 -- the leg on which a call begins by what was asked: by a ring the calling one, by a placing the called one
 abbrev pub side_begun : Option Answered → Option Side
@@ -108,6 +142,8 @@ side_begun (Some (answered.Rung (Ok number))) = Some side.Calling
 side_begun (Some (answered.Rung (Err fault))) = None
 side_begun (Some (answered.Placed (Ok done))) = Some side.Called
 side_begun (Some (answered.Placed (Err fault))) = None
+side_begun (Some answered.NoRoute) = None
+side_begun (Some answered.Done) = None
 side_begun None = None
 
 -- What was handed over there before is sent no more; of the calling leg nothing is held back then, and it is not mute. Where no call
@@ -115,6 +151,13 @@ side_begun None = None
 abbrev pub Frees : Option Side → Option HoldingValue → Option HoldingValue → Type 0
 Frees (Some at) old new = CeasesWhere at old new
 Frees None old new = StaysWhere old new
+
+-- Where no call begins nothing changes of the line by a ring, or where a machine was not reached; by anything else nothing but the
+-- peers of its legs, and what its wire makes of that.
+abbrev pub IsRefused : Asked → LineValue → LineValue → Type 0
+IsRefused (asked.Ring ringing) old new = new ≡ old
+IsRefused asked.NotConnected old new = new ≡ old
+IsRefused what old new = TellsWire old new
 
 -- no event came to it, whatever is set for it; and it is restored with these calls
 pub record BeginsWith (calls : List RestoredCall) (line : LineValue) : Type 0 where

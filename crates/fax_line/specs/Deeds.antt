@@ -5,6 +5,7 @@ use Rattle.std.specs.List.{All}
 use Rattle.fax_line.specs.declared.asked.Answered.{Answered}
 use Rattle.fax_line.specs.declared.asked.Asked.{Asked}
 use Rattle.fax_line.specs.Actions.{Action, Asks, Frees, LineValue, Wakes, side_begun}
+use Rattle.fax_line.specs.LegPeers.{peers_behind}
 use Rattle.fax_line.specs.Places.{GoesInPlace, IsBegun, IsNewPlace, PlaceValue, StaysHeld, TellsOrRests, is_at_rest, visit_of}
 
 -- the lines, in the order in which they were added, and the slot that has the next turn
@@ -71,16 +72,16 @@ TellsInSlot false now rests old new = StaysHeld old new
 abbrev pub SlotTells : ℕ → ℕ → (ℕ → Bool) → List PlaceValue → List PlaceValue → Type 0
 SlotTells slot now rests old new = EachComes (λ number. TellsInSlot (nat_eq (slot_of number) slot) now (rests number)) old new
 
--- WHAT IS ASKED OF A LINE FREES ITS WIRE, where a call begins by it, on the leg of that call. What the wires of other lines hold back
--- stays.
-abbrev pub IsFreed : Bool → Option Answered → PlaceValue → PlaceValue → Type 0
-IsFreed true answer old new = Frees (side_begun answer) old.line.holding new.line.holding
-IsFreed false answer old new = StaysHeld old new
+-- WHAT IS ASKED OF A LINE FREES ITS WIRE, where a call begins by it, on the leg of that call; and the peers of its legs are what that
+-- makes of them. Every other line is left as it was.
+abbrev pub IsFreed : Bool → Asked → Option Answered → PlaceValue → PlaceValue → Type 0
+IsFreed true what answer old new = Frees (side_begun answer) old.line.holding new.line.holding × (new.line.peers ≡ peers_behind what answer old.line.peers)
+IsFreed false what answer old new = new ≡ old
 
-abbrev pub AskFrees : ℕ → Option Answered → List PlaceValue → List PlaceValue → Type 0
-AskFrees line answer old new = EachComes (λ number. IsFreed (nat_eq number line) answer) old new
+abbrev pub AskFrees : ℕ → Asked → Option Answered → List PlaceValue → List PlaceValue → Type 0
+AskFrees line what answer old new = EachComes (λ number. IsFreed (nat_eq number line) what answer) old new
 
--- what the wires of all lines hold back stays
+-- what the wires of all lines hold back stays, and so do the peers of their legs
 abbrev pub AllStayHeld : List PlaceValue → List PlaceValue → Type 0
 AllStayHeld old new = EachComes (λ number. StaysHeld) old new
 

@@ -85,7 +85,7 @@ Ran {K} same puts notes ends first (Turned now rests ∷ done) (end ∷ settled)
     × IsSettled same puts notes ends (next_slot first done) end turned new between after
 Ran same puts notes ends first (AskedOf line now what answer ∷ done) settled old new before after =
     (mid : List PlaceValue) × Ran same puts notes ends first done settled old mid before after × Went (AsksLine line (max (latest done) now) what answer ∷ []) mid new
-    × AskFrees line answer mid new
+    × AskFrees line what answer mid new
 Ran same puts notes ends first (Woken line ∷ done) settled old new before after =
     (mid : List PlaceValue) × Ran same puts notes ends first done settled old mid before after × Went (WakesLine line ∷ []) mid new × AllStayHeld mid new
 
@@ -96,7 +96,7 @@ RanWithout first (Turned now rests ∷ done) old new =
     (mid : List PlaceValue) × (turned : List PlaceValue) × RanWithout first done old mid × Went (TurnsSlot (next_slot first done) (max (latest done) now) rests ∷ []) mid turned
     × SlotTells (next_slot first done) (max (latest done) now) rests mid turned × LetsOutSlot (next_slot first done) turned new
 RanWithout first (AskedOf line now what answer ∷ done) old new =
-    (mid : List PlaceValue) × RanWithout first done old mid × Went (AsksLine line (max (latest done) now) what answer ∷ []) mid new × AskFrees line answer mid new
+    (mid : List PlaceValue) × RanWithout first done old mid × Went (AsksLine line (max (latest done) now) what answer ∷ []) mid new × AskFrees line what answer mid new
 RanWithout first (Woken line ∷ done) old new = (mid : List PlaceValue) × RanWithout first done old mid × Went (WakesLine line ∷ []) mid new × AllStayHeld mid new
 
 -- where there is a keeper; a run that begins with none has none

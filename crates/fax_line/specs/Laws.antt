@@ -1,12 +1,16 @@
 -- A law of what a line goes through. Lists have the newest first. (This project's profile.)
-use Rattle.std.specs.Prelude.{◌≡◌, ℕ, ◌≤◌, max, false, List, [], ◌∷◌}
+use Rattle.std.specs.Prelude.{◌≡◌, ℕ, ◌<◌, ◌≤◌, max, nat_eq, false, List, [], ◌∷◌, length, slice_index_or, Option}
 use Rattle.fax_timers.specs.Moments.{is_due}
 use Rattle.fax_call.specs.Writings.{Writing}
 use Rattle.fax_gateway.specs.Driving.{Entry, events}
 use Rattle.fax_gateway.specs.Due.{due_at}
 use Rattle.fax_gateway.specs.Events.{clock}
 use Rattle.fax_gateway.specs.Setups.{Setup}
+use Rattle.fax_line.specs.declared.asked.Answered.{Answered}
+use Rattle.fax_line.specs.declared.asked.Asked.{Asked}
 use Rattle.fax_line.specs.Actions.{Action, AreSteps, Asks, Rests, Turns, Wakes}
+use Rattle.fax_line.specs.Deeds.{AskFrees}
+use Rattle.fax_line.specs.Places.{PlaceValue}
 
 -- the moments of what is done with a line never go back, up to this one
 abbrev pub RiseTo : List Action → ℕ → Type 0
@@ -23,3 +27,9 @@ RestsMissNothing =
     (setup : Setup) (writes : Writing) (earlier : List Action) (now : ℕ) (log : List Entry)
     → AreSteps setup writes [] (Rests now ∷ earlier) log → RiseTo earlier now
     → is_due (due_at setup writes (events log)) (max now (clock (events log))) ≡ false
+
+-- WHAT IS ASKED OF ONE LINE leaves every other one as it was.
+abbrev pub OthersStay : Type 0
+OthersStay =
+    (line : ℕ) (what : Asked) (answer : Option Answered) (old new : List PlaceValue) → AskFrees line what answer old new
+    → (number : ℕ) (other : PlaceValue) → number < length old → nat_eq number line ≡ false → slice_index_or new number other ≡ slice_index_or old number other

@@ -1,7 +1,11 @@
 pub mod Actions
+pub mod Connects
 pub mod Deeds
+pub mod GivenPeers
 pub mod KeptRuns
 pub mod Laws
+pub mod LegPeers
+pub mod Pacing
 pub mod Places
 pub mod Runs
 pub mod Settling

@@ -30,9 +30,9 @@ is_at_rest now place = not place.awake && not (is_due place.due now)
 abbrev pub visit_of : ℕ → Bool → Action
 visit_of now rests = if rests then Rests now else Turns now
 
--- what the wire of a line holds back stays
+-- what the wire of a line holds back stays, and so do the peers of its legs
 abbrev pub StaysHeld : PlaceValue → PlaceValue → Type 0
-StaysHeld old new = StaysWhere old.line.holding new.line.holding
+StaysHeld old new = StaysWhere old.line.holding new.line.holding × (new.line.peers ≡ old.line.peers)
 
 -- A line that was turned tells what its ticks told; one that was left at rest had no turn.
 abbrev pub TellsOrRests : ℕ → Bool → PlaceValue → PlaceValue → Type 0

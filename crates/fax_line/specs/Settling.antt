@@ -48,6 +48,7 @@ pub record EndsTurn (is_kept : Bool) (old new : LineValue) : Type 0 where
   pub gateway : new.gateway ≡ old.gateway
   pub driver : new.driver ≡ old.driver
   pub wire : IsToldAs old.wire new.wire
+  pub peers : new.peers ≡ old.peers
   pub told : new.turned ≡ old.turned
 
 -- whether a page is of the line of this number, and whether one of these is

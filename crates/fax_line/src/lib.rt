@@ -1,9 +1,10 @@
 //! The lines of a server: each is a gateway over a wire of its own, and none sees another.
 //!
-//! What is done with a line, and what comes of it, is told in `specs/Actions`; when it is left at rest, in `specs/Places`; what
-//! is done with all lines, in `specs/Deeds`; what is ordered and answered in a whole run, in `specs/Runs`; what is kept of the pages
-//! that a slot's turns confirmed, before what confirms them goes out, in `specs/Settling`; and that a run does so behind each turn,
-//! in `specs/KeptRuns`.
+//! What is done with a line, and what comes of it, is told in `specs/Actions`; when it is left at rest, in `specs/Places`; who
+//! the peers of its legs are, in `specs/LegPeers`, `specs/GivenPeers` and `specs/Connects`; what is done with all lines, in
+//! `specs/Deeds`; what is ordered and answered in a whole run, in `specs/Runs`; what is kept of the pages that a slot's turns
+//! confirmed, before what confirms them goes out, in `specs/Settling`; and that a run does so behind each turn, in
+//! `specs/KeptRuns`.
 #![tactic(auto)]
 
 mod asked;
@@ -16,7 +17,7 @@ mod place;
 mod run;
 mod settling;
 
-pub use asked::{Answered, Asked};
+pub use asked::{Answered, Asked, Connecting, HangingUp, Peering, Ringing};
 pub use keeper::RunKeeper;
 pub use line::Line;
 pub use lines::{Lines, SLOTS};

@@ -12,14 +12,20 @@ ghost use Rattle.fax_gateway.specs.Setups.{AreAllowed, Setup};
 ghost use Rattle.fax_gateway.specs.Sides.{job_asked};
 ghost use Rattle.fax_gateway.specs.Turns.{call_asked, call_dialled, call_ended, call_if_new, call_kept};
 ghost use Rattle.fax_gateway.specs.Restored.{call_shown};
-ghost use Rattle.fax_line.specs.Actions.{Asks, BeginsWith, Frees, Goes, IsNew, TellsTurn, Turns, no_turn, placing, side_begun};
+ghost use Rattle.fax_line.specs.Actions.{Asks, BeginsWith, Drives, Frees, Goes, IsNew, IsPlacing, IsRefused, Placing, TellsTurn, TellsWire, Turns, no_turn, side_begun};
+ghost use Rattle.fax_line.specs.LegPeers.{cut_if, peers_behind, settled_both};
 ghost use Rattle.fax_line.specs.declared.asked.Answered.TheVariants as answered;
+ghost use Rattle.fax_line.specs.declared.asked.Asked.{Asked as AskedShown};
+ghost use Rattle.fax_line.specs.declared.asked.Asked.TheVariants as asked;
+ghost use Rattle.fax_line.specs.declared.asked.Connecting.{Connecting as ConnectingShown};
+ghost use Rattle.fax_line.specs.declared.asked.Ringing.{Ringing as RingingShown};
 ghost use Rattle.fax_gateway.specs.declared.side.Side.TheVariants as side_shown;
 ghost use Rattle.fax_hold.specs.Holding.{CeasesWhere, StaysWhere};
+ghost use Rattle.fax_repeat.specs.Peers.{bounded, change_on, cut_off, gone, no_bounds, peer_on, peers_of, said, settled, state_of};
 ghost use Rattle.fax_repeat.specs.Policies.{due_of};
 ghost use Rattle.fax_line.specs.Settling.{EndsTurn, IsOfTurnIf};
 
-use crate::asked::{Answered, Asked};
+use crate::asked::{Answered, Asked, Connecting, HangingUp, Peering, Ringing};
 use crate::settling::{PageToKeep, page_to_keep};
 use fax_bits::NoMemory;
 use fax_gateway::{
@@ -28,7 +34,7 @@ use fax_gateway::{
 use fax_hold::{HoldingWire, KeepFault, LineWire, end_turn};
 use fax_jobs::{Job, Report};
 use fax_pagestore::PackedRows;
-use fax_repeat::TimedWire;
+use fax_repeat::{Bounds, LegState, NoRoute, Peer, TimedWire};
 use fax_timers::earlier;
 use std::alloc::Global;
 use std::marker::Model;
@@ -44,12 +50,13 @@ pub struct Line<W: LineWire + Drop> {
 }
 
 impl<W: LineWire + Drop> Model for Line<W> {
+    ghost use Rattle.fax_repeat.specs.Peers.{peers_of};
     ghost use Rattle.fax_repeat.specs.Policies.{due_of};
     ghost use Rattle.fax_line.specs.Actions.{LineValue, TellsWhether};
 
     ghost Value = { LineValue };
 
-    ghost view = { λ l. record { gateway = l.gateway; driver = l.engine; wire = W.known l.wire; wire_due = due_of W.due l.wire; holding = W.holding l.wire; turned = l.turned } };
+    ghost view = { λ l. record { gateway = l.gateway; driver = l.engine; wire = W.known l.wire; wire_due = due_of W.due l.wire; holding = W.holding l.wire; peers = peers_of W.peer_at l.wire; turned = l.turned } };
 
     ghost invariant = { λ l. TellsWhether l.turned.goes_on l.engine };
 }
@@ -63,6 +70,7 @@ impl<W: LineWire + Drop> Line<W> {
         ensures wire { IfOk result (λ line. line.wire ≡ W.known wire) }
         ensures wire_due { IfOk result (λ line. line.wire_due ≡ due_of W.due wire) }
         ensures holding { IfOk result (λ line. line.holding ≡ W.holding wire) }
+        ensures peers { IfOk result (λ line. line.peers ≡ peers_of W.peer_at wire) }
         ensures turned { IfOk result (λ line. line.turned ≡ no_turn) }
     {
         Line::restore(alloc, settings, Vec::new(alloc), wire)
@@ -82,6 +90,7 @@ impl<W: LineWire + Drop> Line<W> {
         ensures wire { IfOk result (λ line. line.wire ≡ W.known wire) }
         ensures wire_due { IfOk result (λ line. line.wire_due ≡ due_of W.due wire) }
         ensures holding { IfOk result (λ line. line.holding ≡ W.holding wire) }
+        ensures peers { IfOk result (λ line. line.peers ≡ peers_of W.peer_at wire) }
         ensures turned { IfOk result (λ line. line.turned ≡ no_turn) }
     {
         let gateway = Gateway::restore(alloc, settings, calls)?;
@@ -102,10 +111,25 @@ impl<W: LineWire + Drop> Line<W> {
         })
     }
 
-    /// A turn: the wire is told the time, and the gateway is driven, with this buffer. What it told is kept until the next.
+    /// A turn: both legs are settled, the wire is told the time, and the gateway is driven, with this buffer. What it told is kept
+    /// until the next. Where a job was reported the called leg is cut.
     pub fn turn(&mut self, buffer: &mut Buffer, now: u64)
         ensures goes { Goes (Turns now ∷ []) self.old self.new }
         ensures tells { TellsTurn now self.old self.new }
+        ensures ended { self.new.turned.ended ≡ call_ended (call_kept self.old.gateway.calling) (call_kept self.new.gateway.calling) }
+        ensures dialled { self.new.turned.dialled ≡ call_dialled (is_some self.old.gateway.book.sending) self.new.gateway.book.sending }
+        ensures asked { self.new.turned.asked ≡ call_if_new (call_asked (job_asked self.old.gateway.settings.asks self.old.gateway.book)) (call_asked (job_asked self.new.gateway.settings.asks self.new.gateway.book)) }
+    {
+        self.settle_peers();
+        self.drive(buffer, now);
+        let has_report = self.has_report();
+        self.cut_if(Side::Called, has_report);
+    }
+
+    /// The wire is told the time, and the gateway is driven.
+    fn drive(&mut self, buffer: &mut Buffer, now: u64)
+        ensures goes { Goes (Turns now ∷ []) self.old self.new }
+        ensures drives { Drives now self.old self.new }
         ensures ended { self.new.turned.ended ≡ call_ended (call_kept self.old.gateway.calling) (call_kept self.new.gateway.calling) }
         ensures dialled { self.new.turned.dialled ≡ call_dialled (is_some self.old.gateway.book.sending) self.new.gateway.book.sending }
         ensures asked { self.new.turned.asked ≡ call_if_new (call_asked (job_asked self.old.gateway.settings.asks self.old.gateway.book)) (call_asked (job_asked self.new.gateway.settings.asks self.new.gateway.book)) }
@@ -116,38 +140,172 @@ impl<W: LineWire + Drop> Line<W> {
             .turn(buffer, &mut self.gateway, &mut self.wire, now);
     }
 
+    /// Of the calls of its peers no more is known where no call is on.
+    fn settle_peers(&mut self)
+        ensures tells { TellsWire self.old self.new }
+        ensures peers { self.new.peers ≡ settled_both (is_some (call_kept self.old.gateway.calling)) (is_some self.old.gateway.book.sending) self.old.peers }
+    {
+        let is_on = self.is_on();
+        let is_sending = self.is_sending();
+        self.settle(Side::Calling, is_on);
+        self.settle(Side::Called, is_sending);
+    }
+
+    /// Whether the last turn reported a job.
+    fn has_report(&self) -> bool
+        ensures { result ≡ is_some self.now.turned.report }
+    {
+        self.turned.report.is_some()
+    }
+
+    /// Whether a call is on on the calling leg.
+    fn is_on(&self) -> bool
+        ensures { result ≡ is_some (call_kept self.now.gateway.calling) }
+    {
+        self.call().is_some()
+    }
+
+    /// Whether a job is being sent.
+    fn is_sending(&self) -> bool
+        ensures { result ≡ is_some self.now.gateway.book.sending }
+    {
+        self.sending().is_some()
+    }
+
+    /// A leg is cut, or not.
+    fn cut_if(&mut self, side: Side, is_cut: bool)
+        ensures tells { TellsWire self.old self.new }
+        ensures peers { self.new.peers ≡ cut_if side is_cut self.old.peers }
+    {
+        if is_cut {
+            self.cut(side);
+        }
+    }
+
+    /// From now on a leg has this peer. An `Err`: there is no way to it, and the leg has the peer that it had.
+    fn set_peer(&mut self, side: Side, peer: Peer) -> Result<(), NoRoute>
+        ensures tells { TellsWire self.old self.new }
+        ensures said { OnOk result (self.new.peers ≡ change_on side (said peer) self.old.peers) }
+        ensures err { OnErr result (self.new.peers ≡ self.old.peers) }
+    {
+        self.wire.set_peer(side, peer)
+    }
+
+    /// From now on a leg has no peer, but where the line has one for ever.
+    fn cut(&mut self, side: Side)
+        ensures tells { TellsWire self.old self.new }
+        ensures peers { self.new.peers ≡ change_on side cut_off self.old.peers }
+    {
+        self.wire.cut(side);
+    }
+
+    /// A call begins on a leg, whose datagrams are bounded so.
+    fn begin(&mut self, side: Side, bounds: Bounds)
+        ensures tells { TellsWire self.old self.new }
+        ensures peers { self.new.peers ≡ change_on side (bounded bounds) self.old.peers }
+    {
+        self.wire.begin(side, bounds);
+    }
+
+    /// The call of the peer of a leg is gone.
+    fn hang_up(&mut self, side: Side)
+        ensures tells { TellsWire self.old self.new }
+        ensures peers { self.new.peers ≡ change_on side gone self.old.peers }
+    {
+        self.wire.hang_up(side);
+    }
+
+    /// A turn begins, and the call of a leg is on or not.
+    fn settle(&mut self, side: Side, is_on: bool)
+        ensures tells { TellsWire self.old self.new }
+        ensures peers { self.new.peers ≡ change_on side (settled is_on) self.old.peers }
+    {
+        self.wire.settle(side, is_on);
+    }
+
     /// The wire is told the time, between two turns.
     pub fn tell_time(&mut self, now: u64)
         ensures goes { Goes [] self.old self.new }
         ensures stays { StaysWhere self.old.holding self.new.holding }
+        ensures peers { self.new.peers ≡ self.old.peers }
         ensures turned { self.new.turned ≡ self.old.turned }
     {
         self.wire.go_on(now);
     }
 
     /// This is asked of it. Where a call begins, what was handed over on its leg before is sent no more; where none does, nothing
-    /// changes.
+    /// changes but the peers of its legs, where it was told of them.
     pub fn ask(&mut self, what: Asked, now: u64) -> Answered
         ensures goes { Goes (Asks now what (Some result) ∷ []) self.old self.new }
         ensures frees { Frees (side_begun (Some result)) self.old.holding self.new.holding }
-        ensures refused { side_begun (Some result) ≡ None → self.new ≡ self.old }
+        ensures peers { self.new.peers ≡ peers_behind what (Some result) self.old.peers }
+        ensures refused { side_begun (Some result) ≡ None → IsRefused what self.old self.new }
         ensures turned { self.new.turned ≡ self.old.turned }
     {
         match what {
-            Asked::Ring => Answered::Rung(self.ring(now)),
-            Asked::Connect => Answered::Placed(self.connect(now)),
+            Asked::Ring(ringing) => Answered::Rung(self.ring(ringing, now)),
+            Asked::Peer(peering) => self.take_peer(peering, now),
+            Asked::Connect(connecting) => self.connect(connecting, now),
             Asked::NotConnected => Answered::Placed(self.not_connected(now)),
+            Asked::HangUp(hanging_up) => self.hear_gone(hanging_up, now),
         }
     }
 
+    /// From now on a leg has this peer.
+    fn take_peer(&mut self, peering: Peering, now: u64) -> Answered
+        ensures goes { Goes (Asks now (asked.Peer peering) (Some result) ∷ []) self.old self.new }
+        ensures begun { side_begun (Some result) ≡ None }
+        ensures peers { self.new.peers ≡ peers_behind (asked.Peer peering) (Some result) self.old.peers }
+        ensures tells { TellsWire self.old self.new }
+    {
+        match self.set_peer(peering.side, peering.peer) {
+            Ok(()) => Answered::Done,
+            Err(NoRoute) => Answered::NoRoute,
+        }
+    }
+
+    /// The call of the peer of a leg is gone.
+    fn hear_gone(&mut self, hanging_up: HangingUp, now: u64) -> Answered
+        ensures goes { Goes (Asks now (asked.HangUp hanging_up) (Some result) ∷ []) self.old self.new }
+        ensures begun { side_begun (Some result) ≡ None }
+        ensures peers { self.new.peers ≡ peers_behind (asked.HangUp hanging_up) (Some result) self.old.peers }
+        ensures tells { TellsWire self.old self.new }
+    {
+        self.hang_up(hanging_up.side);
+        Answered::Done
+    }
+
     /// A ring. It answers the number of the call that begins; what was handed over on the calling leg before is sent no more.
-    pub fn ring(&mut self, now: u64) -> Result<u32, RingFault>
-        ensures goes { Goes (Asks now Asked.Ring (Some (answered.Rung result)) ∷ []) self.old self.new }
+    pub fn ring(&mut self, ringing: Ringing, now: u64) -> Result<u32, RingFault>
+        ensures goes { Goes (Asks now (asked.Ring ringing) (Some (answered.Rung result)) ∷ []) self.old self.new }
         ensures busy { (setup : Setup) (writes : Writing) (trace : List Event) → IsReachedBy setup writes trace self.old.gateway
             → result ≡ Err RingFault.Busy ↔ (idle_after (calling_leg setup trace) ≡ false) }
         ensures no_number { (setup : Setup) (writes : Writing) (trace : List Event) → IsReachedBy setup writes trace self.old.gateway → idle_after (calling_leg setup trace) ≡ true
             → result ≡ Err RingFault.NoNumber ↔ (4294967296 ≤ rings trace) }
         ensures freed { OnOk result (CeasesWhere side_shown.Calling self.old.holding self.new.holding) }
+        ensures peers { self.new.peers ≡ peers_behind (asked.Ring ringing) (Some (answered.Rung result)) self.old.peers }
+        ensures err { OnErr result (self.new ≡ self.old) }
+        ensures turned { self.new.turned ≡ self.old.turned }
+    {
+        match self.accept_ring(now) {
+            Ok(number) => {
+                self.cut_if(Side::Calling, ringing.forgets_peer);
+                self.begin(Side::Calling, ringing.bounds);
+                Ok(number)
+            }
+            Err(fault) => Err(fault),
+        }
+    }
+
+    /// The gateway rings, and the wire is told that a call begins.
+    fn accept_ring(&mut self, now: u64) -> Result<u32, RingFault>
+        ensures goes { (ringing : RingingShown) → Goes (Asks now (asked.Ring ringing) (Some (answered.Rung result)) ∷ []) self.old self.new }
+        ensures busy { (setup : Setup) (writes : Writing) (trace : List Event) → IsReachedBy setup writes trace self.old.gateway
+            → result ≡ Err RingFault.Busy ↔ (idle_after (calling_leg setup trace) ≡ false) }
+        ensures no_number { (setup : Setup) (writes : Writing) (trace : List Event) → IsReachedBy setup writes trace self.old.gateway → idle_after (calling_leg setup trace) ≡ true
+            → result ≡ Err RingFault.NoNumber ↔ (4294967296 ≤ rings trace) }
+        ensures freed { OnOk result (CeasesWhere side_shown.Calling self.old.holding self.new.holding) }
+        ensures peers { self.new.peers ≡ self.old.peers }
         ensures err { OnErr result (self.new ≡ self.old) }
         ensures turned { self.new.turned ≡ self.old.turned }
     {
@@ -160,38 +318,78 @@ impl<W: LineWire + Drop> Line<W> {
         }
     }
 
-    /// The called machine of the job whose call is asked for has answered: the call begins, and what was handed over on the called
-    /// leg before is sent no more.
-    pub fn connect(&mut self, now: u64) -> Result<(), PlaceFault>
-        ensures goes { Goes (Asks now Asked.Connect (Some (answered.Placed result)) ∷ []) self.old self.new }
+    /// The called machine of the job whose call is asked for has answered, and is this peer: the call begins, and what was handed
+    /// over on the called leg before is sent no more. Where there is no way to the peer nothing is done; where no call begins the leg
+    /// has no peer behind it.
+    pub fn connect(&mut self, connecting: Connecting, now: u64) -> Answered
+        ensures goes { Goes (Asks now (asked.Connect connecting) (Some result) ∷ []) self.old self.new }
+        ensures not_asked { (placed : Placing) → result ≡ answered.Placed placed → (setup : Setup) (writes : Writing) (trace : List Event) → IsReachedBy setup writes trace self.old.gateway
+            → placed ≡ Err PlaceFault.NotAsked ↔ (asked_behind setup writes trace ≡ None) }
+        ensures frees { Frees (side_begun (Some result)) self.old.holding self.new.holding }
+        ensures peers { self.new.peers ≡ peers_behind (asked.Connect connecting) (Some result) self.old.peers }
+        ensures refused { side_begun (Some result) ≡ None → TellsWire self.old self.new }
+        ensures turned { self.new.turned ≡ self.old.turned }
+    {
+        match self.set_peer(Side::Called, connecting.peer) {
+            Ok(()) => Answered::Placed(self.place_to_peer(now)),
+            Err(NoRoute) => Answered::NoRoute,
+        }
+    }
+
+    /// The call of the job that is asked for begins, to the peer that the called leg has. Where none does the leg is cut.
+    fn place_to_peer(&mut self, now: u64) -> Result<(), PlaceFault>
+        ensures goes { (connecting : ConnectingShown) → Goes (Asks now (asked.Connect connecting) (Some (answered.Placed result)) ∷ []) self.old self.new }
         ensures not_asked { (setup : Setup) (writes : Writing) (trace : List Event) → IsReachedBy setup writes trace self.old.gateway
             → result ≡ Err PlaceFault.NotAsked ↔ (asked_behind setup writes trace ≡ None) }
         ensures freed { OnOk result (CeasesWhere side_shown.Called self.old.holding self.new.holding) }
-        ensures err { OnErr result (self.new ≡ self.old) }
+        ensures ok { OnOk result (self.new.peers ≡ change_on side_shown.Called (bounded no_bounds) self.old.peers) }
+        ensures cut { OnErr result (self.new.peers ≡ change_on side_shown.Called cut_off self.old.peers) }
+        ensures err { OnErr result (TellsWire self.old self.new) }
         ensures turned { self.new.turned ≡ self.old.turned }
     {
-        self.place(true, now)
+        match self.place(true, now) {
+            Ok(()) => {
+                let bounds = Bounds {
+                    redundancy: None,
+                    octets: None,
+                };
+                self.begin(Side::Called, bounds);
+                Ok(())
+            }
+            Err(fault) => {
+                self.cut(Side::Called);
+                Err(fault)
+            }
+        }
     }
 
     /// The called machine of the job whose call is asked for could not be reached: the call is over as it begins, and the next turn
-    /// reports the job as `NotPlaced`. What was handed over on the called leg before is sent no more.
+    /// reports the job as `NotPlaced`. What was handed over on the called leg before is sent no more, and the leg has no peer.
     pub fn not_connected(&mut self, now: u64) -> Result<(), PlaceFault>
-        ensures goes { Goes (Asks now Asked.NotConnected (Some (answered.Placed result)) ∷ []) self.old self.new }
+        ensures goes { Goes (Asks now asked.NotConnected (Some (answered.Placed result)) ∷ []) self.old self.new }
         ensures not_asked { (setup : Setup) (writes : Writing) (trace : List Event) → IsReachedBy setup writes trace self.old.gateway
             → result ≡ Err PlaceFault.NotAsked ↔ (asked_behind setup writes trace ≡ None) }
         ensures freed { OnOk result (CeasesWhere side_shown.Called self.old.holding self.new.holding) }
+        ensures peers { self.new.peers ≡ peers_behind asked.NotConnected (Some (answered.Placed result)) self.old.peers }
         ensures err { OnErr result (self.new ≡ self.old) }
         ensures turned { self.new.turned ≡ self.old.turned }
     {
-        self.place(false, now)
+        match self.place(false, now) {
+            Ok(()) => {
+                self.cut(Side::Called);
+                Ok(())
+            }
+            Err(fault) => Err(fault),
+        }
     }
 
     /// The call of the job that is asked for is placed, or could not be.
     fn place(&mut self, connected: bool, now: u64) -> Result<(), PlaceFault>
-        ensures goes { Goes (Asks now (placing connected) (Some (answered.Placed result)) ∷ []) self.old self.new }
+        ensures goes { (what : AskedShown) → IsPlacing connected what → Goes (Asks now what (Some (answered.Placed result)) ∷ []) self.old self.new }
         ensures not_asked { (setup : Setup) (writes : Writing) (trace : List Event) → IsReachedBy setup writes trace self.old.gateway
             → result ≡ Err PlaceFault.NotAsked ↔ (asked_behind setup writes trace ≡ None) }
         ensures freed { OnOk result (CeasesWhere side_shown.Called self.old.holding self.new.holding) }
+        ensures peers { self.new.peers ≡ self.old.peers }
         ensures err { OnErr result (self.new ≡ self.old) }
         ensures turned { self.new.turned ≡ self.old.turned }
     {
@@ -272,9 +470,17 @@ impl<W: LineWire + Drop> Line<W> {
         self.gateway.waiting()
     }
 
+    /// What is known of the peer of a leg.
+    pub fn leg_state(&self, side: Side) -> LegState
+        ensures { result ≡ state_of (peer_on side self.now.peers) }
+    {
+        self.wire.leg_state(side)
+    }
+
     /// Its wire.
     pub fn wire(&self) -> &W
-        ensures { W.known result.now ≡ self.now.wire }
+        ensures wire { W.known result.now ≡ self.now.wire }
+        ensures peers { peers_of W.peer_at result.now ≡ self.now.peers }
     {
         &self.wire
     }

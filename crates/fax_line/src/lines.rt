@@ -132,10 +132,10 @@ impl<W: LineWire + Drop> Lines<W> {
         self.slot = slot_behind(self.slot);
     }
 
-    /// This is asked of line i, counted from 0, where there is one.
+    /// This is asked of line i, counted from 0, where there is one. Every other line is left as it was.
     pub fn ask(&mut self, i: usize, what: Asked, now: u64) -> Option<Answered>
         ensures went { Went (AsksLine i now what result ∷ []) self.old.lines self.new.lines }
-        ensures frees { AskFrees i result self.old.lines self.new.lines }
+        ensures frees { AskFrees i what result self.old.lines self.new.lines }
         ensures there { IsSome result ↔ (i < length self.old.lines) }
         ensures slot { self.new.slot ≡ self.old.slot }
     {
@@ -275,7 +275,7 @@ fn ask_one<W: LineWire + Drop>(
     now: u64,
 ) -> Option<Answered>
     ensures went { EachGoes (λ line. if nat_eq line i then Asks now what result ∷ [] else []) places.old places.new }
-    ensures frees { AskFrees i result places.old places.new }
+    ensures frees { AskFrees i what result places.old places.new }
     ensures there { IsSome result ↔ (i < length places.old) }
 {
     if i >= places.len() {

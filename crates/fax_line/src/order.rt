@@ -1,7 +1,9 @@
 //! What gives the orders.
-ghost use Rattle.std.specs.Prelude.{◌≡◌, List, [], ◌∷◌, Option};
+ghost use Rattle.std.specs.Prelude.{◌≡◌, ℕ, List, [], ◌∷◌, Option};
 ghost use Rattle.fax_gateway.specs.Wires.{Grows};
 ghost use Rattle.fax_line.specs.Words.{Answers, Asks, Word};
+ghost use Rattle.fax_line.specs.declared.asked.Answered.{Answered as AnsweredShown};
+ghost use Rattle.fax_line.specs.declared.order.Order.{Order as OrderShown};
 
 use crate::asked::{Answered, Asked};
 use crate::keeper::RunKeeper;
@@ -29,25 +31,39 @@ pub trait Pace<W: LineWire + Drop, K: RunKeeper> {
     /// Of one that tells it: what it answered to `next`, and what it was told of that which it asked of lines, the newest first.
     ghost words: { Self → Option (List Word) };
 
+    /// What is made of it where it answers what is to be done next. By default nothing is told of that.
+    ghost gives: { Option OrderShown → Self → Self → Type 0 } = { λ order old new. Unit {0} };
+
+    /// What is made of it where it is told what a line answered. By default nothing is told of that.
+    ghost hears: { ℕ → Option AnsweredShown → Self → Self → Type 0 } = { λ line answer old new. Unit {0} };
+
+    /// What is made of it where it sees what a turn came to. By default nothing is told of that.
+    ghost sees: { Self → Self → Type 0 } = { λ old new. Unit {0} };
+
     /// What is to be done next, once it is due. `None`: the run ends.
     fn next(&mut self, lines: &Lines<W>, keeper: Option<&K>) -> Option<Order>
-        ensures { Grows (Asks result ∷ []) (words self.old) (words self.new) };
+        ensures words { Grows (Asks result ∷ []) (words self.old) (words self.new) }
+        ensures gives { gives result self.old self.new };
 
     /// A slot had its turn, and the pages that its lines confirmed are about to be put. What goes with them, as the tags of their
     /// calls, may be told to the keeper.
     fn before_put(&mut self, lines: &Lines<W>, keeper: &mut K)
         ensures same { K.is_same keeper.old keeper.new }
-        ensures words { words self.new ≡ words self.old };
+        ensures words { words self.new ≡ words self.old }
+        ensures sees { sees self.old self.new };
 
     /// They were put, and what came of that.
     fn behind_put(&mut self, lines: &Lines<W>, end: &SlotEnd)
-        ensures { words self.new ≡ words self.old };
+        ensures words { words self.new ≡ words self.old }
+        ensures sees { sees self.old self.new };
 
     /// The turn of a slot has ended. The jobs that ended in it wait on the keeper still.
     fn turned(&mut self, lines: &Lines<W>, keeper: Option<&K>)
-        ensures { words self.new ≡ words self.old };
+        ensures words { words self.new ≡ words self.old }
+        ensures sees { sees self.old self.new };
 
     /// What was asked of a line by an order is done, and the line answered so. `None`: there is no such line.
     fn done(&mut self, line: usize, answer: Option<Answered>)
-        ensures { Grows (Answers line answer ∷ []) (words self.old) (words self.new) };
+        ensures words { Grows (Answers line answer ∷ []) (words self.old) (words self.new) }
+        ensures hears { hears line answer self.old self.new };
 }

@@ -3,6 +3,7 @@ ghost use Rattle.std.specs.Prelude.{◌≡◌, List, [], ◌∷◌, Some, not, t
 ghost use Rattle.fax_timers.specs.Moments.{is_due};
 ghost use Rattle.fax_gateway.specs.Restored.{RestoredCall};
 ghost use Rattle.fax_line.specs.Actions.{Asks, BeginsWith, Frees, Wakes, side_begun};
+ghost use Rattle.fax_line.specs.LegPeers.{peers_behind};
 ghost use Rattle.fax_line.specs.Places.{BeginsInPlace, GoesInPlace, StaysHeld, TellsOrRests, is_at_rest, visit_of};
 ghost use Rattle.fax_line.specs.Settling.{EndsTurn, HandsOver};
 
@@ -109,6 +110,7 @@ impl<W: LineWire + Drop> Place<W> {
     pub fn ask(&mut self, what: Asked, now: u64) -> Answered
         ensures goes { GoesInPlace (Asks now what (Some result) ∷ []) self.old self.new }
         ensures frees { Frees (side_begun (Some result)) self.old.line.holding self.new.line.holding }
+        ensures peers { self.new.line.peers ≡ peers_behind what (Some result) self.old.line.peers }
         ensures turned { self.new.turned ≡ self.old.turned }
     {
         let answer = self.line.ask(what, now);

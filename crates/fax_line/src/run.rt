@@ -2,6 +2,7 @@
 ghost use Rattle.std.specs.Prelude.{◌≡◌, ℕ, List, []};
 ghost use Rattle.fax_line.specs.Deeds.{AreRising, Went, slot_before};
 ghost use Rattle.fax_line.specs.KeptRuns.{IsSettled, IsSettledIf, RanIf};
+ghost use Rattle.fax_line.specs.Pacing.{PacedToEnd, SeesTurn};
 ghost use Rattle.fax_line.specs.Runs.{Done, Ends, deeds_of, latest, next_slot};
 ghost use Rattle.fax_line.specs.declared.settling.SlotEnd.{SlotEnd as EndShown};
 
@@ -26,7 +27,8 @@ pub fn serve<W: TimedWire + Drop, K: RunKeeper, P: Pace<HoldingWire<W>, K>>(
 )
     ensures { (done : List Done) × Went (deeds_of lines.old.slot done) lines.old.lines lines.new.lines × (lines.new.slot ≡ next_slot lines.old.slot done)
         × AreRising (deeds_of lines.old.slot done) (latest done) × Ends done (P.words pace.old) (P.words pace.new)
-        × RanIf K.is_same K.puts K.notes K.ends lines.old.slot done lines.old.lines lines.new.lines keeper.old keeper.new }
+        × RanIf K.is_same K.puts K.notes K.ends lines.old.slot done lines.old.lines lines.new.lines keeper.old keeper.new
+        × PacedToEnd P.gives P.hears P.sees done pace.old pace.new }
 {
     let mut latest = 0u64;
     for _ in 0..u64::MAX {
@@ -58,6 +60,7 @@ fn settle<W: TimedWire + Drop, K: RunKeeper, P: Pace<HoldingWire<W>, K>>(
     ensures went { Went [] lines.old.lines lines.new.lines }
     ensures slot { lines.new.slot ≡ lines.old.slot }
     ensures words { P.words pace.new ≡ P.words pace.old }
+    ensures sees { SeesTurn P.sees pace.old pace.new }
     ensures settled { IsSettledIf K.is_same K.puts K.notes K.ends (slot_before lines.old.slot) lines.old.lines lines.new.lines keeper.old keeper.new }
 {
     match keeper {
@@ -78,6 +81,7 @@ fn settle_kept<W: TimedWire + Drop, K: RunKeeper, P: Pace<HoldingWire<W>, K>>(
     ensures went { Went [] lines.old.lines lines.new.lines }
     ensures slot { lines.new.slot ≡ lines.old.slot }
     ensures words { P.words pace.new ≡ P.words pace.old }
+    ensures sees { SeesTurn P.sees pace.old pace.new }
     ensures settled { (end : EndShown) × IsSettled K.is_same K.puts K.notes K.ends (slot_before lines.old.slot) end lines.old.lines lines.new.lines keeper.old keeper.new }
 {
     pace.before_put(lines, keeper);

@@ -1,12 +1,15 @@
 use Rattle.std.proofs.Common.{◌≡◌, ◌≢◌, ℕ, Bool, true, false, ◌∷◌, [], Option, Some, None, nat_eq, refl, slice_index_or, sym, subst}
 use Rattle.std.proofs.lemmas.Bool.{eq-eqb, ne_eqb}
 use Rattle.std.proofs.lemmas.List.{get_or_default}
+use Rattle.fax_hold.proofs.Held.{stays_same}
 use Rattle.fax_line.specs.declared.asked.Answered.{Answered}
+use Rattle.fax_line.specs.declared.asked.Asked.{Asked}
 use Rattle.fax_line.specs.Actions.{Asks}
 use Rattle.fax_line.specs.Deeds.{IsFreed}
 use Rattle.fax_line.specs.Places.{GoesInPlace, PlaceValue}
 use Rattle.fax_line.proofs.Stepping.{none_goes, one_goes}
-use Rattle.fax_line.proofs.Turning.{all_come, one_comes, still_held}
+use Rattle.fax_line.proofs.Heard.{behind_none}
+use Rattle.fax_line.proofs.Turning.{all_come, one_comes}
 use Rattle.fax_line.proofs.lines.ask_one.Goals as goal
 
 pub returns-then-i-places-clause-went : goal.returns-then-i-places-clause-went
@@ -18,20 +21,20 @@ returns-clause-went g c =
     (λ d. subst (λ (l : PlaceValue). GoesInPlace (Asks c.args.now c.args.what (Some c.ask.result) ∷ []) l c.ask.new.self) (get_or_default c.args.places.now c.args.i c.index-places-i.result d c.if-i-places.false) c.ask.ensures.goes)
 
 -- no line is freed where there is none of which to ask it, and no other one where there is
-none_freed : (b : Bool) (place : PlaceValue) → IsFreed b None place place
-none_freed true place = still_held place
-none_freed false place = still_held place
+none_freed : (b : Bool) (what : Asked) (place : PlaceValue) → IsFreed b what None place place
+none_freed true what place = (stays_same place.line.holding, sym (behind_none what place.line.peers))
+none_freed false what place = refl
 
-other_freed : (b : Bool) (answer : Option Answered) (place : PlaceValue) → b ≡ false → IsFreed b answer place place
-other_freed true answer place is = absurd (cc)
-other_freed false answer place is = still_held place
+other_freed : (b : Bool) (what : Asked) (answer : Option Answered) (place : PlaceValue) → b ≡ false → IsFreed b what answer place place
+other_freed true what answer place is = absurd (cc)
+other_freed false what answer place is = refl
 
 pub returns-then-i-places-clause-frees : goal.returns-then-i-places-clause-frees
-returns-then-i-places-clause-frees g c = all_come (λ number. IsFreed (nat_eq number c.args.i) None) c.args.places.now (λ number place. none_freed (nat_eq number c.args.i) place)
+returns-then-i-places-clause-frees g c = all_come (λ number. IsFreed (nat_eq number c.args.i) c.args.what None) c.args.places.now (λ number place. none_freed (nat_eq number c.args.i) c.args.what place)
 
 pub returns-clause-frees : goal.returns-clause-frees
 returns-clause-frees g c =
-    one_comes (λ number. IsFreed (nat_eq number c.args.i) (Some c.ask.result)) c.args.i c.args.places.now c.ask.new.self c.if-i-places.false
-    (λ d. subst (λ (b : Bool). IsFreed b (Some c.ask.result) (slice_index_or c.args.places.now c.args.i d) c.ask.new.self) (sym (eq-eqb c.args.i c.args.i refl))
-    (subst (λ (l : PlaceValue). IsFreed true (Some c.ask.result) l c.ask.new.self) (get_or_default c.args.places.now c.args.i c.index-places-i.result d c.if-i-places.false) c.ask.ensures.frees))
-    (λ number place other. other_freed (nat_eq number c.args.i) (Some c.ask.result) place (ne_eqb number c.args.i other))
+    one_comes (λ number. IsFreed (nat_eq number c.args.i) c.args.what (Some c.ask.result)) c.args.i c.args.places.now c.ask.new.self c.if-i-places.false
+    (λ d. subst (λ (b : Bool). IsFreed b c.args.what (Some c.ask.result) (slice_index_or c.args.places.now c.args.i d) c.ask.new.self) (sym (eq-eqb c.args.i c.args.i refl))
+    (subst (λ (l : PlaceValue). IsFreed true c.args.what (Some c.ask.result) l c.ask.new.self) (get_or_default c.args.places.now c.args.i c.index-places-i.result d c.if-i-places.false) (c.ask.ensures.frees, c.ask.ensures.peers)))
+    (λ number place other. other_freed (nat_eq number c.args.i) c.args.what (Some c.ask.result) place (ne_eqb number c.args.i other))

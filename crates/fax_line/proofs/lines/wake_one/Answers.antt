@@ -1,4 +1,4 @@
-use Rattle.std.proofs.Common.{◌∷◌, [], subst}
+use Rattle.std.proofs.Common.{◌≡◌, ◌∷◌, [], subst}
 use Rattle.std.proofs.lemmas.List.{get_or_default}
 use Rattle.fax_line.specs.Actions.{Wakes}
 use Rattle.fax_line.specs.Actions.{LineValue}
@@ -20,7 +20,7 @@ pub returns-then-i-places-clause-stays : goal.returns-then-i-places-clause-stays
 returns-then-i-places-clause-stays g c =
     one_comes (λ number. StaysHeld) c.args.i c.args.places.now c.wake.new.self c.if-i-places.true
     (λ d. subst (λ (l : PlaceValue). StaysHeld l c.wake.new.self) (get_or_default c.args.places.now c.args.i c.index-places-i.result d c.if-i-places.true)
-    (subst (λ (l : LineValue). StaysWhere l.holding c.wake.new.self.line.holding) c.wake.ensures.same (still_held c.wake.new.self)))
+    (subst (λ (l : LineValue). StaysWhere l.holding c.wake.new.self.line.holding × (c.wake.new.self.line.peers ≡ l.peers)) c.wake.ensures.same (still_held c.wake.new.self)))
     (λ number place other. still_held place)
 
 pub returns-else-i-places-clause-stays : goal.returns-else-i-places-clause-stays

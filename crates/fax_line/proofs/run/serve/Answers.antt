@@ -1,9 +1,10 @@
-use Rattle.std.proofs.Common.{◌+◌, [], ◌∷◌, ◌∙◌, List, ℕ, Option, Some, None, inl, inr, refl, subst, ap, arith}
+use Rattle.std.proofs.Common.{◌+◌, [], ◌∷◌, ◌∙◌, List, ℕ, Option, Some, None, inl, inr, refl, sym, subst, ap, arith}
 use Rattle.fax_gateway.specs.Wires.{Grows}
 use Rattle.fax_gateway.proofs.DrivingLemmas.{grows_more, grows_none}
 use Rattle.fax_line.specs.declared.order.Order.{Order}
 use Rattle.fax_line.specs.Deeds.{SlotTells, TurnsSlot, Went, rests_at, slot_before}
 use Rattle.fax_line.specs.KeptRuns.{IsSettledIf}
+use Rattle.fax_line.specs.Pacing.{Paced}
 use Rattle.fax_line.specs.Runs.{AskedOf, Done, Turned, Woken, words_of}
 use Rattle.fax_line.specs.Words.{Asks}
 use Rattle.fax_line.proofs.KeptRunning.{of_turn, ran_asked, ran_is, ran_none, ran_turned, ran_woken, slot_back, went_asked}
@@ -16,6 +17,7 @@ loop-init g c = (
   [],
   record { went = went_none c.args.lines.now.lines; slot_is = refl; moment_is = refl; many = refl; words = grows_none (g.P.Pace.words c.args.pace.now) },
   ran_none g.row.K.Denot g.K.RunKeeper.is_same g.K.Keeper.puts g.K.RunKeeper.notes g.K.RunKeeper.ends c.args.lines.now.slot c.args.lines.now.lines c.args.keeper.now,
+  refl,
 )
 
 pub returns-in_default : goal.returns-in_default
@@ -23,13 +25,15 @@ returns-in_default g c =
     let done : List Done = c.loop.invariant.0 in
     let run = c.loop.invariant.1 in
     let none = no_order c.next.result c.in_default.not-Some in
-    let asked = subst (λ (o : Option Order). Grows (Asks o ∷ []) (g.P.Pace.words c.loop.pace) (g.P.Pace.words c.next.new.self)) none c.next.ensures in (
+    let given = subst (λ (o : Option Order). g.P.Pace.gives o c.loop.pace c.next.new.self) none c.next.ensures.gives in
+    let asked = subst (λ (o : Option Order). Grows (Asks o ∷ []) (g.P.Pace.words c.loop.pace) (g.P.Pace.words c.next.new.self)) none c.next.ensures.words in (
       done,
       run.went,
       run.slot_is,
       rising c.args.lines.now.slot done,
       inl (grows_more (words_of done) (Asks None ∷ []) (g.P.Pace.words c.args.pace.now) (g.P.Pace.words c.loop.pace) (g.P.Pace.words c.next.new.self) run.words asked),
       c.loop.invariant.2,
+      inl (c.loop.pace, c.loop.invariant.3, given),
     )
 
 pub loop-preserved : goal.loop-preserved
@@ -37,6 +41,8 @@ loop-preserved g c =
     let done : List Done = c.loop.invariant.0 in
     let run = c.loop.invariant.1 in
     let ran = c.loop.invariant.2 in
+    let paced = c.loop.invariant.3 in
+    let paced_with = λ (d : Done). λ (p : g.row.P.Denot). Paced g.P.Pace.gives g.P.Pace.hears g.P.Pace.sees (d ∷ done) c.args.pace.now p in
     let olds = c.args.lines.now.lines in
     let first = c.args.lines.now.slot in
     let before = g.P.Pace.words c.args.pace.now in
@@ -50,7 +56,8 @@ loop-preserved g c =
     let kept = c.args.keeper.now in
     elim c.match-order.branch [
       | in-Turn w ↦
-          let asked = subst (λ (o : Option Order). Grows (Asks o ∷ []) now_told asked_of) (c.in-Some.is ∙ ap (λ (o : Order). Some o) w.in-Turn.is) c.next.ensures in
+          let asked = subst (λ (o : Option Order). Grows (Asks o ∷ []) now_told asked_of) (c.in-Some.is ∙ ap (λ (o : Order). Some o) w.in-Turn.is) c.next.ensures.words in
+          let given = subst (λ (o : Option Order). g.P.Pace.gives o c.loop.pace c.next.new.self) (c.in-Some.is ∙ ap (λ (o : Order). Some o) w.in-Turn.is) c.next.ensures.gives in
           let rests = rests_at w.max-latest.result c.loop.lines.lines in
           let d : Done = Turned w.in-Turn.now rests in
           let turned = turned_on first w.in-Turn.now c.loop.latest w.max-latest.result c.loop.counter c.loop.lines.slot w.turn.new.self.slot rests done olds c.loop.lines.lines w.turn.new.self.lines before now_told asked_of
@@ -69,24 +76,28 @@ loop-preserved g c =
                 w.latest-is w.lines-is (ap g.P.Pace.words w.pace-is) more,
             ran_is K same puts notes ends first (d ∷ done) olds w.settle.new.lines c.match-order.lines kept w.settle.new.keeper c.match-order.keeper w.lines-is w.keeper-is
                 (ran_turned K same puts notes ends first w.in-Turn.now rests done olds c.loop.lines.lines w.turn.new.self.lines w.settle.new.lines.lines kept c.loop.keeper w.settle.new.keeper ran went tells settled),
+            subst (paced_with d) (sym w.pace-is) (c.loop.pace, c.next.new.self, paced, given, w.settle.ensures.sees),
           )
       | in-Ask w ↦
-          let asked = subst (λ (o : Option Order). Grows (Asks o ∷ []) now_told asked_of) (c.in-Some.is ∙ ap (λ (o : Order). Some o) w.in-Ask.is) c.next.ensures in
+          let asked = subst (λ (o : Option Order). Grows (Asks o ∷ []) now_told asked_of) (c.in-Some.is ∙ ap (λ (o : Order). Some o) w.in-Ask.is) c.next.ensures.words in
+          let given = subst (λ (o : Option Order). g.P.Pace.gives o c.loop.pace c.next.new.self) (c.in-Some.is ∙ ap (λ (o : Order). Some o) w.in-Ask.is) c.next.ensures.gives in
           let told = g.P.Pace.words w.done.new.self in
           let what = w.in-Ask.what in
           let answer = w.ask-answer.result in
           let d : Done = AskedOf w.in-Ask.line w.in-Ask.now what answer in
           let more = asked_on first w.in-Ask.line w.in-Ask.now c.loop.latest w.max-latest-in-Ask.result c.loop.counter c.loop.lines.slot w.ask-answer.new.self.slot what answer done olds c.loop.lines.lines w.ask-answer.new.self.lines
-          before now_told asked_of told run w.max-latest-in-Ask.ensures w.ask-answer.ensures.went w.ask-answer.ensures.slot asked w.done.ensures in
+          before now_told asked_of told run w.max-latest-in-Ask.ensures w.ask-answer.ensures.went w.ask-answer.ensures.slot asked w.done.ensures.words in
           let went = went_asked w.in-Ask.now c.loop.latest w.max-latest-in-Ask.result w.in-Ask.line what answer done c.loop.lines.lines w.ask-answer.new.self.lines run.moment_is w.max-latest-in-Ask.ensures w.ask-answer.ensures.went in (
             d ∷ done,
             run_is first (c.loop.counter + 1) (d ∷ done) olds before w.max-latest-in-Ask.result c.match-order.latest w.ask-answer.new.self c.match-order.lines told (g.P.Pace.words c.match-order.pace)
                 w.latest-is w.lines-is (ap g.P.Pace.words w.pace-is) more,
             ran_is K same puts notes ends first (d ∷ done) olds w.ask-answer.new.self c.match-order.lines kept c.loop.keeper c.match-order.keeper w.lines-is w.keeper-is
                 (ran_asked K same puts notes ends first w.in-Ask.line w.in-Ask.now what answer done olds c.loop.lines.lines w.ask-answer.new.self.lines kept c.loop.keeper ran went w.ask-answer.ensures.frees),
+            subst (paced_with d) (sym w.pace-is) (c.loop.pace, c.next.new.self, paced, given, w.done.ensures.hears),
           )
       | in-Wake w ↦
-          let asked = subst (λ (o : Option Order). Grows (Asks o ∷ []) now_told asked_of) (c.in-Some.is ∙ ap (λ (o : Order). Some o) w.in-Wake.is) c.next.ensures in
+          let asked = subst (λ (o : Option Order). Grows (Asks o ∷ []) now_told asked_of) (c.in-Some.is ∙ ap (λ (o : Order). Some o) w.in-Wake.is) c.next.ensures.words in
+          let given = subst (λ (o : Option Order). g.P.Pace.gives o c.loop.pace c.next.new.self) (c.in-Some.is ∙ ap (λ (o : Order). Some o) w.in-Wake.is) c.next.ensures.gives in
           let d : Done = Woken w.in-Wake.line in
           let more = woken_on first w.in-Wake.line c.loop.latest c.loop.counter c.loop.lines.slot w.wake.new.self.slot done olds c.loop.lines.lines w.wake.new.self.lines
           before now_told asked_of run w.wake.ensures.went w.wake.ensures.slot asked in (
@@ -95,6 +106,7 @@ loop-preserved g c =
                 w.latest-is w.lines-is (ap g.P.Pace.words w.pace-is) more,
             ran_is K same puts notes ends first (d ∷ done) olds w.wake.new.self c.match-order.lines kept c.loop.keeper c.match-order.keeper w.lines-is w.keeper-is
                 (ran_woken K same puts notes ends first w.in-Wake.line done olds c.loop.lines.lines w.wake.new.self.lines kept c.loop.keeper ran w.wake.ensures.went w.wake.ensures.stays),
+            subst (paced_with d) (sym w.pace-is) (c.loop.pace, paced, given),
           )
     ]
 
@@ -102,4 +114,4 @@ pub returns : goal.returns
 returns g c =
     let done : List Done = c.loop.invariant.0 in
     let run = c.loop.invariant.1 in
-    (done, run.went, run.slot_is, rising c.args.lines.now.slot done, inr (omega (arith, run.many), run.words), c.loop.invariant.2)
+    (done, run.went, run.slot_is, rising c.args.lines.now.slot done, inr (omega (arith, run.many), run.words), c.loop.invariant.2, inr (omega (arith, run.many), c.loop.invariant.3))

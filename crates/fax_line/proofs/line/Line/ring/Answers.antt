@@ -1,20 +1,27 @@
-use Rattle.std.proofs.Common.{[], ◌∷◌, Ok, Err, subst, sym}
-use Rattle.fax_gateway.specs.Reached.{GatewayValue}
-use Rattle.fax_repeat.specs.Policies.{due_of}
+use Rattle.std.proofs.Common.{[], ◌∷◌, Ok, ◌∙◌, ap}
+use Rattle.fax_gateway.specs.declared.side.Side.TheVariants as side
+use Rattle.fax_repeat.specs.Peers.{Peers, bounded, change_on}
 use Rattle.fax_line.specs.declared.asked.Asked.TheVariants as asked
-use Rattle.fax_line.specs.Actions.{Asks, Goes, LineValue}
-use Rattle.fax_line.proofs.Goings.{goes_refused, goes_ring, line_of, rung_as}
+use Rattle.fax_line.specs.Actions.{Asks}
+use Rattle.fax_line.proofs.Goings.{goes_more, goes_peers, rung_as}
+use Rattle.fax_line.specs.LegPeers.{cut_if}
+use Rattle.fax_line.proofs.Heard.{freed_last, tells_more}
 use Rattle.fax_line.proofs.line.Line.ring.Goals as goal
 
 pub returns-in-Ok-clause-goes : goal.returns-in-Ok-clause-goes
 returns-in-Ok-clause-goes g c =
-    let new : LineValue = line_of c.ring.new.self c.self.inside.engine (g.W.Wire.known c.cease.new.self) (due_of g.W.TimedWire.due c.cease.new.self) (g.W.LineWire.holding c.cease.new.self) c.self.inside.turned in
-    subst (λ (l : LineValue). Goes (Asks c.args.now asked.Ring (rung_as (Ok c.in-Ok.number)) ∷ []) l new) c.self.view_is
-    (goes_ring c.args.now c.in-Ok.number c.self.inside.gateway c.ring.new.self c.self.inside.engine (g.W.Wire.known c.self.inside.wire) (g.W.Wire.known c.cease.new.self)
-    (due_of g.W.TimedWire.due c.self.inside.wire) (due_of g.W.TimedWire.due c.cease.new.self) (g.W.LineWire.holding c.self.inside.wire) (g.W.LineWire.holding c.cease.new.self) c.self.inside.turned c.cease.ensures.told c.in-Ok.ensures.rung)
+    goes_more (Asks c.args.now (asked.Ring c.args.ringing) (rung_as (Ok c.in-Ok.number)) ∷ []) [] c.args.self.now c.accept_ring.new.self c.begin.new.self (c.in-Ok.ensures.goes c.args.ringing)
+    (goes_peers c.accept_ring.new.self c.begin.new.self (tells_more c.accept_ring.new.self c.cut_if.new.self c.begin.new.self c.cut_if.ensures.tells c.begin.ensures.tells))
+
+pub returns-in-Ok-clause-freed : goal.returns-in-Ok-clause-freed
+returns-in-Ok-clause-freed g c =
+    freed_last side.Calling c.args.self.now c.accept_ring.new.self c.begin.new.self c.in-Ok.ensures.freed
+    (tells_more c.accept_ring.new.self c.cut_if.new.self c.begin.new.self c.cut_if.ensures.tells c.begin.ensures.tells)
+
+pub returns-in-Ok-clause-peers : goal.returns-in-Ok-clause-peers
+returns-in-Ok-clause-peers g c =
+    c.begin.ensures.peers
+    ∙ ap (λ (p : Peers). change_on side.Calling (bounded c.args.ringing.bounds) p) (c.cut_if.ensures.peers ∙ ap (λ (p : Peers). cut_if side.Calling c.args.ringing.forgets_peer p) c.accept_ring.ensures.peers)
 
 pub returns-in-Err-clause-goes : goal.returns-in-Err-clause-goes
-returns-in-Err-clause-goes g c =
-    let new : GatewayValue → LineValue = λ x. line_of x c.self.inside.engine (g.W.Wire.known c.self.inside.wire) (due_of g.W.TimedWire.due c.self.inside.wire) (g.W.LineWire.holding c.self.inside.wire) c.self.inside.turned in
-    subst (λ (l : LineValue). Goes (Asks c.args.now asked.Ring (rung_as (Err c.in-Err.fault)) ∷ []) l (new c.ring.new.self)) c.self.view_is
-    (subst (λ (x : GatewayValue). Goes (Asks c.args.now asked.Ring (rung_as (Err c.in-Err.fault)) ∷ []) (new c.self.inside.gateway) (new x)) (sym c.in-Err.ensures.err) (goes_refused c.args.now (new c.self.inside.gateway) c.in-Err.fault c.in-Err.ensures.busy c.in-Err.ensures.no_number))
+returns-in-Err-clause-goes g c = c.in-Err.ensures.goes c.args.ringing

@@ -1,43 +1,38 @@
-use Rattle.std.proofs.Common.{◌++◌, [], ◌∷◌, List, subst}
-use Rattle.fax_call.specs.Writings.{IsWriting, Writing}
-use Rattle.fax_gateway.specs.Events.{Event}
-use Rattle.fax_gateway.specs.Setups.{Setup}
-use Rattle.fax_gateway.specs.Reached.{IsReachedBy}
-use Rattle.fax_gateway.specs.Driving.{Entry, HasMade}
-use Rattle.fax_gateway.proofs.DrivingLemmas.{wire_shown}
-use Rattle.fax_repeat.specs.Policies.{due_of}
-use Rattle.fax_hold.specs.Holding.{SendsWhere, StaysWhere}
-use Rattle.fax_hold.proofs.Held.{held_later, logs_are_held}
-use Rattle.fax_line.specs.Actions.{Goes, LineValue, TellsTurn, Turns}
-use Rattle.fax_line.proofs.Goings.{goes_turn, line_of, tells_turn}
+use Rattle.std.proofs.Common.{◌≡◌, ◌∙◌, ap, is_some, sym}
+use Rattle.fax_gateway.specs.declared.side.Side.TheVariants as side
+use Rattle.fax_gateway.specs.declared.turned.Turned.{Turned}
+use Rattle.fax_gateway.specs.Reached.{GatewayValue}
+use Rattle.fax_gateway.specs.Sides.{job_asked}
+use Rattle.fax_gateway.specs.Turns.{call_asked, call_dialled, call_ended, call_if_new, call_kept}
+use Rattle.fax_line.specs.LegPeers.{cut_if}
+use Rattle.fax_line.proofs.Heard.{goes_between, turn_between}
 use Rattle.fax_line.proofs.line.Line.turn.Goals as goal
 
 pub returns-clause-goes : goal.returns-clause-goes
 returns-clause-goes g c =
-    let new : LineValue = line_of c.turn-self-inside.new.gateway c.turn-self-inside.new.self (g.W.Wire.known c.turn-self-inside.new.wire) (due_of g.W.TimedWire.due c.turn-self-inside.new.wire) (g.W.LineWire.holding c.turn-self-inside.new.wire) c.turn-self-inside.result in
-    subst (λ (l : LineValue). Goes (Turns c.args.now ∷ []) l new) c.self.view_is
-    (goes_turn c.args.now c.self.inside.gateway c.turn-self-inside.new.gateway c.self.inside.engine c.turn-self-inside.new.self (g.W.Wire.known c.self.inside.wire) (g.W.Wire.known c.go_on.new.self)
-    (g.W.Wire.known c.turn-self-inside.new.wire) (due_of g.W.TimedWire.due c.self.inside.wire) (due_of g.W.TimedWire.due c.turn-self-inside.new.wire) (g.W.LineWire.holding c.self.inside.wire) (g.W.LineWire.holding c.turn-self-inside.new.wire) c.self.inside.turned c.turn-self-inside.result c.go_on.ensures.told
-    (λ (setup : Setup) (writes : Writing) (trace : List Event) (earlier : List Entry) (writing : IsWriting writes) (reached : IsReachedBy setup writes trace c.self.inside.gateway) (made : HasMade earlier c.self.inside.engine).
-    let t = c.turn-self-inside.ensures.turned setup writes trace earlier writing reached made in (t.0, t.1, t.2, t.3, t.4)))
+    goes_between c.args.now c.args.self.now c.settle_peers.new.self c.drive.new.self c.cut_if.new.self c.settle_peers.ensures.tells c.drive.ensures.goes c.cut_if.ensures.tells
 
 pub returns-clause-tells : goal.returns-clause-tells
 returns-clause-tells g c =
-    let new : LineValue = line_of c.turn-self-inside.new.gateway c.turn-self-inside.new.self (g.W.Wire.known c.turn-self-inside.new.wire) (due_of g.W.TimedWire.due c.turn-self-inside.new.wire) (g.W.LineWire.holding c.turn-self-inside.new.wire) c.turn-self-inside.result in
-    let was = g.W.LineWire.holding c.self.inside.wire in
-    let mid = g.W.LineWire.holding c.go_on.new.self in
-    let is = g.W.LineWire.holding c.turn-self-inside.new.wire in
-    subst (λ (l : LineValue). TellsTurn c.args.now l new) c.self.view_is
-    (tells_turn c.args.now c.self.inside.gateway c.turn-self-inside.new.gateway c.self.inside.engine c.turn-self-inside.new.self (g.W.Wire.known c.self.inside.wire) (g.W.Wire.known c.go_on.new.self)
-    (g.W.Wire.known c.turn-self-inside.new.wire) (due_of g.W.TimedWire.due c.self.inside.wire) (due_of g.W.TimedWire.due c.turn-self-inside.new.wire) was is c.self.inside.turned c.turn-self-inside.result c.go_on.ensures.told
-    (λ (setup : Setup) (writes : Writing) (trace : List Event) (earlier : List Entry) (writing : IsWriting writes) (reached : IsReachedBy setup writes trace c.self.inside.gateway) (made : HasMade earlier c.self.inside.engine).
-    let t = c.turn-self-inside.ensures.turned setup writes trace earlier writing reached made in (
-      t.0,
-      t.1,
-      t.2,
-      t.3,
-      t.4,
-      held_later t.0 was mid is (g.met.W.LineWire.on_time c.self.inside.wire c.go_on.new.self c.go_on.ensures.makes)
-          (logs_are_held t.0 mid is
-          (wire_shown g.W.LineWire.holding g.W.Wire.receives g.W.Wire.sends (λ at. StaysWhere) SendsWhere t.0 c.go_on.new.self c.turn-self-inside.new.wire g.met.W.LineWire.on_receive g.met.W.LineWire.on_send t.5)),
-    )))
+    turn_between c.args.now c.args.self.now c.settle_peers.new.self c.drive.new.self c.cut_if.new.self c.settle_peers.ensures.tells c.settle_peers.ensures.peers c.drive.ensures.drives c.cut_if.ensures.tells
+    (c.cut_if.ensures.peers ∙ ap (λ b. cut_if side.Called b c.drive.new.self.peers) c.has_report-has_report.ensures)
+
+pub returns-clause-ended : goal.returns-clause-ended
+returns-clause-ended g c =
+    ap (λ (x : Turned). x.ended) c.cut_if.ensures.tells.turned ∙ c.drive.ensures.ended
+    ∙ ap (λ (x : GatewayValue). call_ended (call_kept x.calling) (call_kept c.drive.new.self.gateway.calling)) c.settle_peers.ensures.tells.gateway
+    ∙ ap (λ (x : GatewayValue). call_ended (call_kept c.args.self.now.gateway.calling) (call_kept x.calling)) (sym c.cut_if.ensures.tells.gateway)
+
+pub returns-clause-dialled : goal.returns-clause-dialled
+returns-clause-dialled g c =
+    ap (λ (x : Turned). x.dialled) c.cut_if.ensures.tells.turned ∙ c.drive.ensures.dialled
+    ∙ ap (λ (x : GatewayValue). call_dialled (is_some x.book.sending) c.drive.new.self.gateway.book.sending) c.settle_peers.ensures.tells.gateway
+    ∙ ap (λ (x : GatewayValue). call_dialled (is_some c.args.self.now.gateway.book.sending) x.book.sending) (sym c.cut_if.ensures.tells.gateway)
+
+pub returns-clause-asked : goal.returns-clause-asked
+returns-clause-asked g c =
+    let was = c.args.self.now.gateway in
+    let is = c.drive.new.self.gateway in
+    ap (λ (x : Turned). x.asked) c.cut_if.ensures.tells.turned ∙ c.drive.ensures.asked
+    ∙ ap (λ (x : GatewayValue). call_if_new (call_asked (job_asked x.settings.asks x.book)) (call_asked (job_asked is.settings.asks is.book))) c.settle_peers.ensures.tells.gateway
+    ∙ ap (λ (x : GatewayValue). call_if_new (call_asked (job_asked was.settings.asks was.book)) (call_asked (job_asked x.settings.asks x.book))) (sym c.cut_if.ensures.tells.gateway)
