@@ -109,15 +109,14 @@ module _ (setup : Setup) (writes : Writing) (before : List Tiding) where
   -- so it is of what is asked of a line alone
   ask_is_inert : (behind : List Event) (now : ℕ) (what : Asked) (answer : Option Answered) (log : List Entry) (trace : List Event) (p : List CallPage) (old new : Option HoldingValue)
       → IsAsked setup writes behind now what answer log → Frees (side_begun answer) old new → Leg setup trace old p → IsInert log trace p new
-  ask_is_inert behind now asked.Ring (Some (answered.Rung result)) log trace p old new is frees leg = ring_is_inert now result log trace p old new is frees leg
-  ask_is_inert behind now asked.Ring (Some (answered.Placed result)) log trace p old new is frees leg = absurd is
-  ask_is_inert behind now asked.Connect (Some (answered.Rung result)) log trace p old new is frees leg = absurd is
-  ask_is_inert behind now asked.Connect (Some (answered.Placed result)) log trace p old new is frees leg = place_is_inert behind now true result log trace p old new is frees leg
-  ask_is_inert behind now asked.NotConnected (Some (answered.Rung result)) log trace p old new is frees leg = absurd is
+  ask_is_inert behind now (asked.Ring ringing) (Some (answered.Rung result)) log trace p old new is frees leg = ring_is_inert now result log trace p old new is frees leg
+  ask_is_inert behind now (asked.Peer peering) (Some answered.Done) log trace p old new is frees leg = (told_none log trace is, leg_quiet log trace p old new is frees leg)
+  ask_is_inert behind now (asked.Peer peering) (Some answered.NoRoute) log trace p old new is frees leg = (told_none log trace is, leg_quiet log trace p old new is frees leg)
+  ask_is_inert behind now (asked.Connect connecting) (Some (answered.Placed result)) log trace p old new is frees leg = place_is_inert behind now true result log trace p old new is frees leg
+  ask_is_inert behind now (asked.Connect connecting) (Some answered.NoRoute) log trace p old new is frees leg = (told_none log trace is, leg_quiet log trace p old new is frees leg)
   ask_is_inert behind now asked.NotConnected (Some (answered.Placed result)) log trace p old new is frees leg = place_is_inert behind now false result log trace p old new is frees leg
-  ask_is_inert behind now asked.Ring None log trace p old new is frees leg = absurd is
-  ask_is_inert behind now asked.Connect None log trace p old new is frees leg = absurd is
-  ask_is_inert behind now asked.NotConnected None log trace p old new is frees leg = absurd is
+  ask_is_inert behind now (asked.HangUp hanging_up) (Some answered.Done) log trace p old new is frees leg = (told_none log trace is, leg_quiet log trace p old new is frees leg)
+  ask_is_inert behind now what answer log trace p old new is frees leg = absurd is
 
   one_part : (newer older log : List Entry) → log ≡ newer ++ older → older ≡ [] → log ≡ newer
   one_part newer older log is none = is ∙ ap (λ (l : List Entry). newer ++ l) none ∙ append-nil newer
@@ -637,19 +636,19 @@ module _
             let stays : StaysHeld old new = told_so false r is rest in
             let quiet : Goes [] old.line new.line = subst (λ (c : Bool). Goes (if c then (if rests number then Rests now else Turns now) ∷ [] else []) old.line new.line) is goes in
             rests_on q ends slot end was.tidings was.puts was.on_leg turned lines k l many (ap (λ (c : Bool). c && new.turned) is) settled was.are_put was.are_on_leg
-            (goes_still setup writes before was.tidings was.on_leg old.line new.line writing quiet stays was.reaches) was.held
+            (goes_still setup writes before was.tidings was.on_leg old.line new.line writing quiet stays.0 was.reaches) was.held
         by true is true rest =
             let quiet : Goes (Rests now ∷ []) old.line new.line =
             subst (λ (r : Bool). Goes ((if r then Rests now else Turns now) ∷ []) old.line new.line) rest
             (subst (λ (c : Bool). Goes (if c then (if rests number then Rests now else Turns now) ∷ [] else []) old.line new.line) is goes) in
             let none : TellsOrRests now true old new = told_so true true is rest in
             rests_on q ends slot end was.tidings was.puts was.on_leg turned lines k l many (ap (λ (c : Bool). c && new.turned) is ∙ none.0) settled was.are_put was.are_on_leg
-            (goes_with setup writes before was.tidings was.on_leg old.line new.line (Rests now) tt writing quiet none.1 was.reaches) was.held
+            (goes_with setup writes before was.tidings was.on_leg old.line new.line (Rests now) tt writing quiet none.1.0 was.reaches) was.held
         by true is false rest =
             let turns : TellsOrRests now false old new = told_so true false is rest in
             turns_on q ends slot now end was.tidings was.puts was.on_leg mid turned lines k l many (ap (λ (c : Bool). c && new.turned) is ∙ turns.0) turns.1 settled was.are_put was.are_on_leg was.reaches was.held
 
-    ask_on : (q : List CallPage) (ends : List SlotEnd) (of now : ℕ) (what : Asked) (answer : Option Answered) (mid lines : List PlaceValue) (k : K) → Went (AsksLine of now what answer ∷ []) mid lines → AskFrees of answer mid lines → Stands q ends mid k
+    ask_on : (q : List CallPage) (ends : List SlotEnd) (of now : ℕ) (what : Asked) (answer : Option Answered) (mid lines : List PlaceValue) (k : K) → Went (AsksLine of now what answer ∷ []) mid lines → AskFrees of what answer mid lines → Stands q ends mid k
         → Stands q ends lines k
     ask_on q ends of now what answer mid lines k went frees was = record { many = went.as_many ∙ was.many; tidings = was.tidings; puts = was.puts; are_put = was.are_put; on_leg = was.on_leg; are_on_leg = was.are_on_leg; reaches = by (nat_eq number of) refl; held = was.held }
       where
@@ -662,16 +661,16 @@ module _
         goes : Goes (actions_of number (AsksLine of now what answer ∷ [])) old.line new.line
         goes = (went.each number other (low_in mid was.many)).goes
 
-        freed : IsFreed (nat_eq number of) answer old new
+        freed : IsFreed (nat_eq number of) what answer old new
         freed = frees.each number other (low_in mid was.many)
 
         by : (b : Bool) → nat_eq number of ≡ b → Reaches setup writes before was.tidings was.on_leg new.line
         by true is =
             goes_with setup writes before was.tidings was.on_leg old.line new.line (Asks now what answer) tt writing (subst (λ (c : Bool). Goes (if c then Asks now what answer ∷ [] else []) old.line new.line) is goes)
-            (subst (λ (c : Bool). IsFreed c answer old new) is freed) was.reaches
+            (let freed_so : IsFreed true what answer old new = subst (λ (c : Bool). IsFreed c what answer old new) is freed in freed_so.0) was.reaches
         by false is =
-            goes_still setup writes before was.tidings was.on_leg old.line new.line writing (subst (λ (c : Bool). Goes (if c then Asks now what answer ∷ [] else []) old.line new.line) is goes)
-            (subst (λ (c : Bool). IsFreed c answer old new) is freed) was.reaches
+            let same : new ≡ old = subst (λ (c : Bool). IsFreed c what answer old new) is freed in
+            subst (λ (x : PlaceValue). Reaches setup writes before was.tidings was.on_leg x.line) (sym same) was.reaches
 
     wake_on : (q : List CallPage) (ends : List SlotEnd) (woken : ℕ) (mid lines : List PlaceValue) (k : K) → Went (WakesLine woken ∷ []) mid lines → AllStayHeld mid lines → Stands q ends mid k → Stands q ends lines k
     wake_on q ends woken mid lines k went stays was = record { many = went.as_many ∙ was.many; tidings = was.tidings; puts = was.puts; are_put = was.are_put; on_leg = was.on_leg; are_on_leg = was.are_on_leg; reaches = by (nat_eq number woken) refl; held = was.held }
@@ -689,8 +688,8 @@ module _
         held = stays.each number other (low_in mid was.many)
 
         by : (b : Bool) → nat_eq number woken ≡ b → Reaches setup writes before was.tidings was.on_leg new.line
-        by true is = goes_with setup writes before was.tidings was.on_leg old.line new.line Wakes tt writing (subst (λ (c : Bool). Goes (if c then Wakes ∷ [] else []) old.line new.line) is goes) held was.reaches
-        by false is = goes_still setup writes before was.tidings was.on_leg old.line new.line writing (subst (λ (c : Bool). Goes (if c then Wakes ∷ [] else []) old.line new.line) is goes) held was.reaches
+        by true is = goes_with setup writes before was.tidings was.on_leg old.line new.line Wakes tt writing (subst (λ (c : Bool). Goes (if c then Wakes ∷ [] else []) old.line new.line) is goes) held.0 was.reaches
+        by false is = goes_still setup writes before was.tidings was.on_leg old.line new.line writing (subst (λ (c : Bool). Goes (if c then Wakes ∷ [] else []) old.line new.line) is goes) held.0 was.reaches
 
     run_on : (q : List CallPage) (first : ℕ) (done : List Done) (settled : List SlotEnd) (begun left : List PlaceValue) (k l : K) → Ran Same Puts Notes Ends first done settled begun left k l → Stands q [] begun k → Stands q settled left l
     run_on q first [] [] begun left k l ran was = subst (λ (m : K). Stands q [] left m) (sym ran.1) (subst (λ (p : List PlaceValue). Stands q [] p k) (sym ran.0) was)
