@@ -1,11 +1,25 @@
--- What is counted of a leg (this project's profile).
-use Rattle.std.specs.Prelude.{◌≡◌, ◌⊎◌, ◌+◌, ◌-◌, ◌^◌, min}
+-- What is counted of a leg (this project's profile). Counts stop at the greatest `u64`.
+use Rattle.std.specs.Prelude.{ℕ, ◌+◌, ◌-◌, ◌^◌, min, Bool, true, false}
 use Rattle.fax_legs.specs.declared.leg_socket.LegCounts.{LegCounts}
 
 abbrev pub no_counts : LegCounts
 no_counts = record { received = 0; sent = 0; receive_failures = 0; send_failures = 0; unsent = 0 }
 
--- one datagram more was handed to the system, or dropped since no peer was known
-abbrev pub IsSent : LegCounts → LegCounts → Type 0
-IsSent old new =
-    (new ≡ record old { sent = min (old.sent + 1) (2 ^ 64 - 1) }) ⊎ (new ≡ record old { unsent = min (old.unsent + 1) (2 ^ 64 - 1) })
+abbrev pub one_more : ℕ → ℕ
+one_more count = min (count + 1) (2 ^ 64 - 1)
+
+-- a datagram came; it could not be received
+abbrev pub one_received : LegCounts → LegCounts
+one_received old = record old { received = one_more old.received }
+
+abbrev pub one_not_received : LegCounts → LegCounts
+one_not_received old = record old { receive_failures = one_more old.receive_failures }
+
+-- one was handed to the system, which took it or not
+abbrev pub one_handed : Bool → LegCounts → LegCounts
+one_handed true old = record old { sent = one_more old.sent }
+one_handed false old = record old { send_failures = one_more old.send_failures }
+
+-- one was dropped, since there is no peer
+abbrev pub one_unsent : LegCounts → LegCounts
+one_unsent old = record old { unsent = one_more old.unsent }

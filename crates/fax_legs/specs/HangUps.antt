@@ -1,13 +1,13 @@
 -- How the end of a peer's call is brought in where a word says it (this project's profile).
-use Rattle.std.specs.Prelude.{◌≡◌, ℕ, ◌+◌, ◌-◌, ◌*◌, ◌<◌, ◌%◌, nat_lt, Bool, false, List, [], ◌∷◌, ◌++◌, drop, Option, None, Some, if◌then◌else◌}
+use Rattle.std.specs.Prelude.{◌≡◌, ℕ, ◌+◌, ◌-◌, ◌*◌, ◌<◌, ◌%◌, nat_lt, Bool, true, false, List, [], ◌∷◌, ◌++◌, drop, Option, None, Some, if◌then◌else◌}
 use Rattle.fax_frames.specs.declared.writing.Plain.TheVariants.{Dcn}
 use Rattle.fax_frames.specs.Written.{written_plain}
 use Rattle.fax_ifp.specs.Packets.{FieldText}
 use Rattle.fax_ifp.specs.WrittenPackets.{frame_fields, written_message}
 use Rattle.fax_udptl.specs.Datagrams.{DatagramValue, written_datagram}
 use Rattle.fax_udptl.specs.Taking.{IsAfter}
-use Rattle.fax_legs.specs.declared.hang_up.Peer.{Peer}
-use Rattle.fax_legs.specs.declared.hang_up.Peer.TheVariants as peers
+use Rattle.fax_legs.specs.declared.hang_up.Standing.{Standing}
+use Rattle.fax_legs.specs.declared.hang_up.Standing.TheVariants as standings
 use Rattle.fax_legs.specs.declared.hang_up.PeerCall.{PeerCall}
 
 -- What the peer would say last: a frame that it has begun is none, and a DCN follows. (ITU-T T.38: V.21 data, hdlc-sig-end,
@@ -38,16 +38,22 @@ abbrev pub number_behind : Option ℕ → ℕ
 number_behind None = 0
 number_behind (Some newest) = (newest + 1) % 65536
 
+-- whether it is gone
+abbrev pub is_over : Standing → Bool
+is_over standings.There = false
+is_over standings.Gone = true
+is_over standings.Told = true
+
 -- in the next turn it is to be handed out once more
-abbrev pub due_again : Peer → Peer
-due_again peers.There = peers.There
-due_again peers.Gone = peers.Gone
-due_again peers.Told = peers.Gone
+abbrev pub due_again : Standing → Standing
+due_again standings.There = standings.There
+due_again standings.Gone = standings.Gone
+due_again standings.Told = standings.Gone
 
 -- The goodbye behind the newest datagram is handed out, in the front of the buffer, and is the newest then.
 pub record HandsOut (old new : PeerCall) (before after : List ℕ) : Type 0 where
   pub octets : after ≡ goodbye (number_behind old.newest) ++ drop 14 before
-  pub call : new ≡ record { newest = Some (number_behind old.newest); peer = peers.Told }
+  pub call : new ≡ record { newest = Some (number_behind old.newest); standing = standings.Told }
 
 -- the number of the newest of the datagrams that came, where the last of them stands first
 abbrev pub newest_of : List DatagramValue → Option ℕ

@@ -1,3 +1,7 @@
+pub mod Bounding
+pub mod BoundingLaws
 pub mod Counts
 pub mod HangUps
+pub mod Keeping
 pub mod Legs
+pub mod Sockets

@@ -1,13 +1,13 @@
 //! How the end of a peer's call is brought in where a word says it: a datagram with a DCN is handed out, as if it had come.
 ghost use Rattle.std.specs.Prelude.{◌≡◌, ◌≤◌, ◌↔◌, true, false, length, IsTrue};
-ghost use Rattle.fax_legs.specs.HangUps.{HandsOut, due_again, goodbye, newest_behind, number_behind, is_late};
+ghost use Rattle.fax_legs.specs.HangUps.{HandsOut, due_again, goodbye, is_over, newest_behind, number_behind, is_late};
 
 /// How many octets a datagram with a DCN has.
 pub(crate) const GOODBYE_OCTETS: usize = 14;
 
 /// Whether the peer's call is gone.
 #[derive(Clone, Copy, PartialEq, Eq, Debug)]
-pub(crate) enum Peer {
+pub(crate) enum Standing {
     /// Nothing says so.
     There,
     /// It is, and a DCN is to be handed out.
@@ -21,40 +21,40 @@ pub(crate) enum Peer {
 pub(crate) struct PeerCall {
     /// The number of the newest datagram of the call.
     newest: Option<u16>,
-    peer: Peer,
+    standing: Standing,
 }
 
 impl PeerCall {
     /// Nothing has come of it.
     pub(crate) fn new() -> Self
-        ensures { result ≡ record { newest = None; peer = Peer.There } }
+        ensures { result ≡ record { newest = None; standing = Standing.There } }
     {
         PeerCall {
             newest: None,
-            peer: Peer::There,
+            standing: Standing::There,
         }
     }
 
     /// It is gone.
     pub(crate) fn hang_up(&mut self)
-        ensures { self.new ≡ record self.old { peer = Peer.Gone } }
+        ensures { self.new ≡ record self.old { standing = Standing.Gone } }
     {
-        self.peer = Peer::Gone;
+        self.standing = Standing::Gone;
     }
 
     /// Whether it is gone.
     pub(crate) fn is_gone(&self) -> bool
-        ensures { result ≡ false ↔ (self.now.peer ≡ Peer.There) }
+        ensures { result ≡ is_over self.now.standing }
     {
-        self.peer != Peer::There
+        self.standing != Standing::There
     }
 
     /// Another turn begins in which the leg's call is on: a DCN that was handed out is handed out once more.
     pub(crate) fn go_on(&mut self)
-        ensures { self.new ≡ record self.old { peer = due_again self.old.peer } }
+        ensures { self.new ≡ record self.old { standing = due_again self.old.standing } }
     {
-        if self.peer == Peer::Told {
-            self.peer = Peer::Gone;
+        if self.standing == Standing::Told {
+            self.standing = Standing::Gone;
         }
     }
 
@@ -75,18 +75,18 @@ impl PeerCall {
     /// Where it is gone, and no DCN was handed out in this turn, hands one out: a datagram behind the newest, in the front of a
     /// buffer that has room for it. It answers whether it did.
     pub(crate) fn hand_out(&mut self, buffer: &mut [u8]) -> bool
-        ensures due { IsTrue result ↔ ((self.old.peer ≡ Peer.Gone) × (14 ≤ length buffer.old)) }
+        ensures due { IsTrue result ↔ ((self.old.standing ≡ Standing.Gone) × (14 ≤ length buffer.old)) }
         ensures handed { result ≡ true → HandsOut self.old self.new buffer.old buffer.new }
         ensures none { result ≡ false → self.new ≡ self.old }
         ensures left { result ≡ false → buffer.new ≡ buffer.old }
     {
-        if self.peer != Peer::Gone || buffer.len() < GOODBYE_OCTETS {
+        if self.standing != Standing::Gone || buffer.len() < GOODBYE_OCTETS {
             return false;
         }
         let number = number_behind(self.newest);
         buffer[..GOODBYE_OCTETS].copy_from_slice(&goodbye(number));
         self.newest = Some(number);
-        self.peer = Peer::Told;
+        self.standing = Standing::Told;
         true
     }
 }

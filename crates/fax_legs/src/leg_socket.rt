@@ -1,16 +1,23 @@
 //! The socket of a leg.
-ghost use Rattle.std.specs.Prelude.{◌≡◌, ◌+◌, ◌-◌, ◌^◌, ◌≤◌, length, min, Ok, None, Some, IfOk, IfSome, OnErr, OnOk};
+ghost use Rattle.std.specs.Prelude.{◌≡◌, ◌≤◌, ◌||◌, Ok, None, Some, false, true, is_ok, is_some, length, option_map, IfOk, IfSome, IsOk, IsSome, OnErr, OnOk};
+ghost use Rattle.fax_repeat.specs.Peers.{bounded, cut_off, gone, said, settled, state_of};
+ghost use Rattle.fax_legs.specs.Counts.{one_not_received};
 ghost use Rattle.fax_legs.specs.HangUps.{HandsOut};
-ghost use Rattle.fax_legs.specs.Counts.{IsSent, no_counts};
-ghost use Rattle.fax_legs.specs.declared.hang_up.Peer.TheVariants as peers;
+ghost use Rattle.fax_legs.specs.Legs.{HearsSystem, Receives, at_address, call_settled, fixed, gone_call, new_leg, no_call, sent_by};
+ghost use Rattle.fax_legs.specs.Sockets.{connected};
+ghost use Rattle.fax_legs.specs.declared.hang_up.Standing.TheVariants as standings;
 
-use crate::hang_up::{GOODBYE_OCTETS, PeerCall};
+use crate::hang_up::GOODBYE_OCTETS;
+use crate::leg_peer::LegPeer;
+use crate::sending::send_bounded;
+use crate::socket::DatagramSocket;
+use fax_repeat::{Bounds, LegState, Peer};
 use std::cell::Cell;
 use std::io;
 use std::io::ErrorKind;
 use std::marker::Model;
-use std::net::{SocketAddr, UdpSocket};
-use std::os::fd::{AsRawFd, RawFd};
+use std::net::SocketAddr;
+use std::os::fd::RawFd;
 
 /// The most datagrams that are dropped where a leg gets another peer: more than a socket keeps.
 const MOST_DROPPED: u16 = 4096;
@@ -30,97 +37,162 @@ pub struct LegCounts {
 
 /// The socket of a leg. It is connected to its peer once that is known, and does not wait.
 #[derive(Drop)]
-pub struct LegSocket {
-    socket: UdpSocket,
-    has_peer: Cell<bool>,
-    /// Whether the configuration gave its peer.
-    is_fixed: bool,
+pub struct LegSocket<S: DatagramSocket + Drop> {
+    socket: S,
+    peer: LegPeer,
+    /// How many packets before its own a datagram has at most, where nothing else is said.
+    redundancy: u8,
     /// Whether the system tells when a datagram comes.
     is_watched: Cell<bool>,
     /// Whether a datagram may have come that was not received. Where the leg is not watched one always may.
     may_have_come: Cell<bool>,
-    /// The peer's part in the call that is on.
-    call: Cell<PeerCall>,
     counts: LegCounts,
 }
 
-/// Contracts see its counts.
-impl Model for LegSocket {
-    ghost use Rattle.fax_legs.specs.declared.leg_socket.LegCounts.{LegCounts as Counts};
+/// Contracts see all but whether the system is asked at all.
+impl<S: DatagramSocket + Drop> Model for LegSocket<S> {
+    ghost use Rattle.fax_legs.specs.Legs.{LegValue, peer_of};
+    ghost use Rattle.fax_legs.specs.Sockets.{IsConnected};
 
-    ghost Value = { Counts };
+    ghost Value = { LegValue };
 
-    ghost view = { λ leg. leg.counts };
+    ghost view = { λ leg. record { peer = peer_of leg.peer; call = leg.peer.call; redundancy = leg.redundancy; counts = leg.counts; socket = S.known leg.socket } };
+
+    ghost invariant = { λ leg. IsConnected leg.peer.address (S.known leg.socket) };
 }
 
-impl LegSocket {
-    /// A leg over this socket, whose peer is not known. It waits no more. An `Err` is that of the system.
-    pub fn new(socket: UdpSocket) -> io::Result<Self>
-        ensures { IfOk result (λ leg. leg ≡ no_counts) }
+impl<S: DatagramSocket + Drop> LegSocket<S> {
+    /// A leg over this socket, whose peer is not known, of a line whose datagrams have at most so many packets before their
+    /// own. It waits no more. An `Err` is that of the system.
+    pub fn new(socket: S, redundancy: u8) -> io::Result<Self>
+        ensures { IfOk result (λ leg. leg ≡ new_leg redundancy (S.known socket)) }
     {
-        socket.set_nonblocking(true)?;
+        let mut socket = socket;
+        socket.wait_not()?;
         Ok(LegSocket {
             socket,
-            has_peer: Cell::new(false),
-            is_fixed: false,
+            peer: LegPeer::new(),
+            redundancy,
             is_watched: Cell::new(false),
             may_have_come: Cell::new(true),
-            call: Cell::new(PeerCall::new()),
             counts: LegCounts::default(),
         })
     }
 
     /// From now on datagrams go to this peer and come from it alone; those that came before and were not received are
-    /// dropped. An `Err` is that of the system, and the peer is as before.
-    pub fn set_peer(&self, peer: SocketAddr) -> io::Result<()> {
-        self.socket.connect(peer)?;
-        self.drop_waiting();
-        self.has_peer.set(true);
-        self.wake();
-        Ok(())
-    }
-
-    /// The same of the peer that the configuration gives: it is not cut.
-    pub fn fix_peer(&mut self, peer: SocketAddr) -> io::Result<()>
-        ensures { self.new ≡ self.old }
+    /// dropped. One without an address is the sender of the first that comes; until then none is sent. An `Err` is that of
+    /// the system, and the peer is as before.
+    pub fn set_peer(&mut self, peer: Peer) -> io::Result<()>
+        ensures ok { OnOk result (self.new ≡ record self.old { peer = said peer self.old.peer; socket = option_map (connected peer.address) self.old.socket }) }
+        ensures err { OnErr result (self.new ≡ self.old) }
     {
-        self.set_peer(peer)?;
-        self.is_fixed = true;
+        turn_to(&mut self.socket, peer.address)?;
+        self.peer.set(peer);
+        self.may_have_come.set(true);
         Ok(())
     }
 
-    /// Whether the configuration gave its peer.
-    pub fn is_fixed(&self) -> bool {
-        self.is_fixed
+    /// The same of the peer that its line has for ever: it is not cut.
+    pub fn fix_peer(&mut self, address: SocketAddr) -> io::Result<()>
+        ensures ok { OnOk result (self.new ≡ record self.old { peer = fixed (said (at_address address) self.old.peer); socket = option_map (connected (Some address)) self.old.socket }) }
+        ensures err { OnErr result (self.new ≡ self.old) }
+    {
+        self.set_peer(Peer {
+            address: Some(address),
+            bounds: Bounds::default(),
+        })?;
+        self.peer.fix();
+        Ok(())
     }
 
-    /// From now on it has no peer, but where the configuration gave it: what it is to send is dropped, and nothing that comes is
+    /// From now on it has no peer, but where its line has one for ever: what it is to send is dropped, and nothing that comes is
     /// heard.
-    pub fn cut(&self) {
-        if !self.is_fixed {
-            self.has_peer.set(false);
-        }
+    pub fn cut(&mut self)
+        ensures { self.new ≡ record self.old { peer = cut_off self.old.peer } }
+    {
+        self.peer.cut();
     }
 
-    /// Drops what came and was not received.
-    fn drop_waiting(&self) {
-        let mut octets = [0u8; 1];
-        for _ in 0..MOST_DROPPED {
-            match self.socket.recv(&mut octets) {
-                Err(error) if error.kind() == ErrorKind::WouldBlock => return,
-                Ok(_) | Err(_) => {}
-            }
-        }
+    /// A call begins, whose datagrams are bounded so. Nothing is known of its peer's call.
+    pub fn begin(&mut self, bounds: Bounds)
+        ensures { self.new ≡ record self.old { peer = bounded bounds self.old.peer; call = no_call } }
+    {
+        self.peer.begin(bounds);
+    }
+
+    /// The peer's call is gone: from now on a datagram with a DCN is received once a turn, as if it had come, until the call of
+    /// the leg is over.
+    pub fn hang_up(&mut self)
+        ensures { self.new ≡ record self.old { peer = gone self.old.peer; call = gone_call self.old.call } }
+    {
+        self.peer.hang_up();
+    }
+
+    /// A turn begins, and the call of the leg is on or not. Where it is, a DCN that was handed out is handed out once
+    /// more; else all is forgotten that was known of the peer's call.
+    pub fn settle(&mut self, is_on: bool)
+        ensures { self.new ≡ record self.old { peer = settled is_on self.old.peer; call = call_settled is_on self.old.call } }
+    {
+        self.peer.settle(is_on);
+    }
+
+    /// Its peer, where that is known.
+    pub fn peer(&self) -> Option<SocketAddr>
+        ensures { result ≡ self.now.peer.address }
+    {
+        self.peer.address
     }
 
     /// Whether its peer is known.
-    pub fn has_peer(&self) -> bool {
-        self.has_peer.get()
+    pub fn has_peer(&self) -> bool
+        ensures { result ≡ is_some self.now.peer.address }
+    {
+        self.peer.address.is_some()
+    }
+
+    /// Whether its line has the peer for ever.
+    pub fn is_fixed(&self) -> bool
+        ensures { result ≡ self.now.peer.is_fixed }
+    {
+        self.peer.is_fixed
+    }
+
+    /// Whether the peer's call was said to be gone.
+    pub fn is_hung_up(&self) -> bool
+        ensures { result ≡ self.now.peer.is_gone }
+    {
+        self.peer.call.is_gone()
+    }
+
+    /// Whether a datagram came in the call that is on.
+    pub fn is_heard(&self) -> bool
+        ensures { result ≡ self.now.peer.is_heard }
+    {
+        self.peer.is_heard
+    }
+
+    /// What is known of its peer.
+    pub fn state(&self) -> LegState
+        ensures { result ≡ state_of (Some self.now.peer) }
+    {
+        LegState {
+            has_peer: self.may_hear(),
+            is_fixed: self.peer.is_fixed,
+            is_heard: self.peer.is_heard,
+            is_gone: self.peer.call.is_gone(),
+        }
+    }
+
+    /// What went over it.
+    pub fn counts(&self) -> LegCounts
+        ensures { result ≡ self.now.counts }
+    {
+        self.counts
     }
 
     /// The descriptor of the socket.
     pub fn descriptor(&self) -> RawFd {
-        self.socket.as_raw_fd()
+        self.socket.descriptor()
     }
 
     /// From now on the system tells when a datagram comes, or no more: where it does the leg is woken then.
@@ -135,106 +207,115 @@ impl LegSocket {
     }
 
     /// Whether a receive may bring something: one that has come, or a DCN where the peer's call is gone.
-    pub fn asks(&self) -> bool {
-        self.is_hung_up() || (self.has_peer.get() && self.may_have_come.get())
-    }
-
-    /// The peer's call is gone: from now on a datagram with a DCN is received once a turn, as if it had come, until a server sees
-    /// that the call of the leg is over.
-    pub fn hang_up(&self) {
-        let mut call = self.call.get();
-        call.hang_up();
-        self.call.set(call);
-    }
-
-    /// Whether the peer's call was said to be gone.
-    pub fn is_hung_up(&self) -> bool {
-        self.call.get().is_gone()
-    }
-
-    /// A turn is over, and the call of the leg is on.
-    pub fn go_on(&self) {
-        let mut call = self.call.get();
-        call.go_on();
-        self.call.set(call);
-    }
-
-    /// No call of the leg is on, or one begins.
-    pub fn begin_anew(&self) {
-        self.call.set(PeerCall::new());
-    }
-
-    /// What went over it.
-    pub fn counts(&self) -> LegCounts
-        ensures { result ≡ self.now }
+    pub fn asks(&self) -> bool
+        ensures gone { self.now.peer.is_gone ≡ true → result ≡ true }
+        ensures nobody { self.now.peer.is_gone ≡ false → self.now.peer.address ≡ None → self.now.peer.learns ≡ false → result ≡ false }
     {
-        self.counts
+        self.is_hung_up() || (self.may_hear() && self.may_have_come.get())
+    }
+
+    /// Whether there is a peer to hear, or one to learn.
+    fn may_hear(&self) -> bool
+        ensures { result ≡ (is_some self.now.peer.address || self.now.peer.learns) }
+    {
+        self.peer.address.is_some() || self.peer.learns
     }
 
     /// Receives a datagram into the front of the buffer, and says how many octets it has: the one with a DCN where the peer's
-    /// call is gone and none was received in this turn, and else one that has come. `None`: none has. While no peer is known
-    /// none comes.
+    /// call is gone and none was received in this turn, and else one that has come. `None`: none has. While there is no peer,
+    /// and none is to be learned, none comes.
     pub fn receive(&mut self, buffer: &mut [u8]) -> io::Result<Option<usize>>
-        ensures { IfOk result (λ came. IfSome came (λ count. count ≤ length buffer.new)) }
-    {
-        let mut call = self.call.get();
-        let came = self.receive_in(&mut call, buffer);
-        self.call.set(call);
-        came
-    }
-
-    /// The same in a call. Where a DCN is to be handed out it is, and nothing else is done.
-    fn receive_in(&mut self, call: &mut PeerCall, buffer: &mut [u8]) -> io::Result<Option<usize>>
         ensures fits { IfOk result (λ came. IfSome came (λ count. count ≤ length buffer.new)) }
-        ensures goodbye { call.old.peer ≡ peers.Gone → 14 ≤ length buffer.old → result ≡ Ok (Some 14) }
-        ensures handed { call.old.peer ≡ peers.Gone → 14 ≤ length buffer.old → HandsOut call.old call.new buffer.old buffer.new }
-        ensures counts { call.old.peer ≡ peers.Gone → 14 ≤ length buffer.old → self.new ≡ self.old }
-        ensures peer { (call.old.peer ≡ peers.Gone → ⊥) → call.new.peer ≡ call.old.peer }
+        ensures makes { Receives self.old self.new }
+        ensures goodbye { self.old.call.standing ≡ standings.Gone → 14 ≤ length buffer.old → result ≡ Ok (Some 14) }
+        ensures handed { self.old.call.standing ≡ standings.Gone → 14 ≤ length buffer.old → HandsOut self.old.call self.new.call buffer.old buffer.new }
+        ensures kept { self.old.call.standing ≡ standings.Gone → 14 ≤ length buffer.old → self.new ≡ record self.old { call = self.new.call } }
+        ensures heard { (self.old.call.standing ≡ standings.Gone → ⊥) → HearsSystem buffer.new result self.old self.new }
+        ensures deaf { (self.old.call.standing ≡ standings.Gone → ⊥) → self.old.peer.address ≡ None → self.old.peer.learns ≡ false → result ≡ Ok None }
     {
-        if call.hand_out(buffer) {
+        if self.peer.call.hand_out(buffer) {
             return Ok(Some(GOODBYE_OCTETS));
         }
-        self.hear(call, buffer)
+        self.hear(buffer)
     }
 
-    /// Receives a datagram that has come in a call. Of a leg that is watched the system is asked only where one may have. It is counted, or that it could not be received.
-    fn hear(&mut self, call: &mut PeerCall, buffer: &mut [u8]) -> io::Result<Option<usize>>
+    /// Receives a datagram that has come. Of a leg that is watched the system is asked only where one may have. It is counted, or
+    /// that it could not be received.
+    fn hear(&mut self, buffer: &mut [u8]) -> io::Result<Option<usize>>
         ensures fits { IfOk result (λ came. IfSome came (λ count. count ≤ length buffer.new)) }
-        ensures came { IfOk result (λ came. IfSome came (λ _. self.new ≡ record self.old { received = min (self.old.received + 1) (2 ^ 64 - 1) })) }
-        ensures none { result ≡ Ok None → self.new ≡ self.old }
-        ensures failed { OnErr result (self.new ≡ record self.old { receive_failures = min (self.old.receive_failures + 1) (2 ^ 64 - 1) }) }
-        ensures peer { call.new.peer ≡ call.old.peer }
+        ensures heard { HearsSystem buffer.new result self.old self.new }
+        ensures deaf { self.old.peer.address ≡ None → self.old.peer.learns ≡ false → result ≡ Ok None }
     {
-        if !self.has_peer.get() || !self.may_have_come.get() {
+        if !self.may_have_come.get() {
             return Ok(None);
         }
-        match self.socket.recv(buffer) {
-            Ok(count) => {
-                self.counts.received = self.counts.received.saturating_add(1);
-                call.note(&buffer[..count]);
-                Ok(Some(count))
-            }
-            Err(error) if error.kind() == ErrorKind::WouldBlock => {
-                self.may_have_come.set(!self.is_watched.get());
-                Ok(None)
-            }
-            Err(error) => {
-                self.counts.receive_failures = self.counts.receive_failures.saturating_add(1);
-                Err(error)
-            }
+        if self.peer.address.is_some() {
+            self.hear_peer(buffer)
+        } else if self.peer.learns {
+            self.hear_first(buffer)
+        } else {
+            Ok(None)
         }
     }
 
-    /// Sends a datagram. It is counted, or that it could not be sent. While no peer is known it is dropped, and that is counted.
-    pub fn send(&mut self, octets: &[u8]) -> io::Result<()>
-        ensures sent { OnOk result (IsSent self.old self.new) }
-        ensures failed { OnErr result (self.new ≡ record self.old { send_failures = min (self.old.send_failures + 1) (2 ^ 64 - 1) }) }
+    /// Receives one that has come from the peer.
+    fn hear_peer(&mut self, buffer: &mut [u8]) -> io::Result<Option<usize>>
+        requires { IsSome self.old.peer.address }
+        ensures fits { IfOk result (λ came. IfSome came (λ count. count ≤ length buffer.new)) }
+        ensures heard { HearsSystem buffer.new result self.old self.new }
     {
-        if !self.has_peer.get() {
+        match self.socket.receive_octets(buffer) {
+            Ok(count) => {
+                self.peer.hear(&buffer[..count]);
+                self.counts.received = self.counts.received.saturating_add(1);
+                Ok(Some(count))
+            }
+            Err(error) => self.hear_none(error),
+        }
+    }
+
+    /// Receives the first one that has come, whose sender becomes the peer.
+    fn hear_first(&mut self, buffer: &mut [u8]) -> io::Result<Option<usize>>
+        requires nobody { self.old.peer.address ≡ None }
+        requires learns { self.old.peer.learns ≡ true }
+        ensures fits { IfOk result (λ came. IfSome came (λ count. count ≤ length buffer.new)) }
+        ensures heard { HearsSystem buffer.new result self.old self.new }
+    {
+        match receive_first(&mut self.socket, buffer) {
+            Ok((count, from)) => {
+                self.peer.learn(from, &buffer[..count]);
+                self.counts.received = self.counts.received.saturating_add(1);
+                Ok(Some(count))
+            }
+            Err(error) => self.hear_none(error),
+        }
+    }
+
+    /// None has come, or it could not be received, which is counted.
+    fn hear_none(&mut self, error: io::Error) -> io::Result<Option<usize>>
+        ensures some { IfOk result (λ came. came ≡ None) }
+        ensures none { OnOk result (self.new ≡ self.old) }
+        ensures failed { OnErr result (self.new ≡ record self.old { counts = one_not_received self.old.counts }) }
+    {
+        if error.kind() == ErrorKind::WouldBlock {
+            self.may_have_come.set(!self.is_watched.get());
+            return Ok(None);
+        }
+        self.counts.receive_failures = self.counts.receive_failures.saturating_add(1);
+        Err(error)
+    }
+
+    /// Sends a datagram, as the bounds have it. It is counted, or that it could not be sent. While there is no peer it is dropped,
+    /// and that is counted.
+    pub fn send(&mut self, octets: &[u8]) -> io::Result<()>
+        ensures sent { self.new ≡ sent_by octets.now (is_ok result) self.old.peer.address self.old }
+        ensures unsent { self.old.peer.address ≡ None → IsOk result }
+    {
+        if self.peer.address.is_none() {
             self.counts.unsent = self.counts.unsent.saturating_add(1);
             return Ok(());
         }
-        match self.socket.send(octets) {
+        match send_bounded(&mut self.socket, self.peer.limits(self.redundancy), octets) {
             Ok(_) => {
                 self.counts.sent = self.counts.sent.saturating_add(1);
                 Ok(())
@@ -245,4 +326,46 @@ impl LegSocket {
             }
         }
     }
+}
+
+/// From now on datagrams go to this address and come from it alone, or come from everywhere where there is none; those that came
+/// before and were not received are dropped. An `Err`: it is connected as before.
+fn turn_to<S: DatagramSocket>(socket: &mut S, address: Option<SocketAddr>) -> io::Result<()>
+    ensures ok { OnOk result (S.known socket.new ≡ option_map (connected address) (S.known socket.old)) }
+    ensures err { OnErr result (S.known socket.new ≡ S.known socket.old) }
+{
+    match address {
+        Some(address) => socket.connect_to(address)?,
+        None => socket.disconnect()?,
+    }
+    drop_waiting(socket);
+    Ok(())
+}
+
+/// Drops what came and was not received.
+fn drop_waiting<S: DatagramSocket>(socket: &mut S)
+    ensures { S.known socket.new ≡ S.known socket.old }
+{
+    let mut octets = [0u8; 1];
+    for _ in 0..MOST_DROPPED {
+        match socket.receive_octets(&mut octets) {
+            Err(error) if error.kind() == ErrorKind::WouldBlock => return,
+            Ok(_) | Err(_) => {}
+        }
+    }
+}
+
+/// Receives a datagram, and connects to its sender.
+fn receive_first<S: DatagramSocket>(
+    socket: &mut S,
+    buffer: &mut [u8],
+) -> io::Result<(usize, SocketAddr)>
+    ensures fits { IfOk result (λ came. came.0 ≤ length buffer.new) }
+    ensures ok { IfOk result (λ came. S.known socket.new ≡ option_map (connected (Some came.1)) (S.known socket.old)) }
+    ensures err { OnErr result (S.known socket.new ≡ S.known socket.old) }
+{
+    let (count, from) = socket.receive_from(buffer)?;
+    socket.connect_to(from)?;
+    drop_waiting(socket);
+    Ok((count, from))
 }

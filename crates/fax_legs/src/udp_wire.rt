@@ -1,23 +1,28 @@
 //! A wire of a line over UDP.
-ghost use Rattle.std.specs.Prelude.{◌≡◌, ◌+◌, min};
-ghost use Rattle.fax_gateway.specs.Wires.{greatest_count};
+ghost use Rattle.std.specs.Prelude.{◌≡◌, Ok, is_ok, option_map, IfOk, OnErr, OnOk};
+ghost use Rattle.fax_gateway.specs.Wires.{failures_after};
+ghost use Rattle.fax_repeat.specs.Peers.{said};
 ghost use Rattle.fax_legs.specs.Legs.{leg_on};
+ghost use Rattle.fax_legs.specs.Sockets.{connected};
 
 use crate::leg_socket::LegSocket;
+use crate::socket::DatagramSocket;
 use fax_gateway::{Side, Wire, WireFault};
+use fax_repeat::{Bounds, LegState, LegWire, NoRoute, Peer};
+use std::io;
 use std::marker::Model;
 
 /// Two sockets, one for each leg of a line.
 #[derive(Drop)]
-pub struct UdpWire {
-    calling: LegSocket,
-    called: LegSocket,
+pub struct UdpWire<S: DatagramSocket + Drop> {
+    calling: LegSocket<S>,
+    called: LegSocket<S>,
     /// How many receives and sends failed.
     failures: u64,
 }
 
-/// Contracts see what is counted.
-impl Model for UdpWire {
+/// Contracts see both legs, and how many calls failed.
+impl<S: DatagramSocket + Drop> Model for UdpWire<S> {
     ghost use Rattle.fax_legs.specs.Legs.{UdpValue};
 
     ghost Value = { UdpValue };
@@ -25,9 +30,9 @@ impl Model for UdpWire {
     ghost view = { λ wire. record { calling = wire.calling; called = wire.called; failures = wire.failures } };
 }
 
-impl UdpWire {
+impl<S: DatagramSocket + Drop> UdpWire<S> {
     /// A wire over these legs.
-    pub fn new(calling: LegSocket, called: LegSocket) -> Self
+    pub fn new(calling: LegSocket<S>, called: LegSocket<S>) -> Self
         ensures { result ≡ record { calling = calling; called = called; failures = 0 } }
     {
         UdpWire {
@@ -38,7 +43,7 @@ impl UdpWire {
     }
 
     /// The socket of a leg.
-    pub fn leg(&self, side: Side) -> &LegSocket
+    pub fn leg(&self, side: Side) -> &LegSocket<S>
         ensures { result.now ≡ leg_on side self.now }
     {
         match side {
@@ -46,46 +51,109 @@ impl UdpWire {
             Side::Called => &self.called,
         }
     }
+}
 
-    /// One more call failed.
-    fn fail(&mut self) -> WireFault
-        ensures { self.new ≡ record self.old { failures = min (self.old.failures + 1) greatest_count } }
-    {
-        self.failures = self.failures.saturating_add(1);
-        WireFault
+/// What a leg answered to a call, which is counted where it failed.
+fn answered<T>(answer: io::Result<T>, failures: &mut u64) -> Result<T, WireFault>
+    ensures ok { IfOk answer (λ value. result ≡ Ok value) }
+    ensures is_ok { is_ok result ≡ is_ok answer }
+    ensures failures { failures.new ≡ failures_after failures.old result }
+{
+    match answer {
+        Ok(value) => Ok(value),
+        Err(_) => {
+            *failures = failures.saturating_add(1);
+            Err(WireFault)
+        }
     }
 }
 
-/// What came and what was sent is not told of sockets. A receive or a send on a leg leaves the other leg's socket as it was.
-impl Wire for UdpWire {
-    ghost use Rattle.std.specs.Prelude.{◌≡◌, None};
-    ghost use Rattle.fax_legs.specs.Legs.{other_leg};
+/// From now on datagrams of a leg go to this peer and come from it alone. An `Err`: the peer is as before.
+fn set_peer_of<S: DatagramSocket + Drop>(leg: &mut LegSocket<S>, peer: Peer) -> Result<(), NoRoute>
+    ensures ok { OnOk result (leg.new ≡ record leg.old { peer = said peer leg.old.peer; socket = option_map (connected peer.address) leg.old.socket }) }
+    ensures err { OnErr result (leg.new ≡ leg.old) }
+{
+    match leg.set_peer(peer) {
+        Ok(()) => Ok(()),
+        Err(_) => Err(NoRoute),
+    }
+}
+
+/// Datagrams as they come and go are not told. A receive or a send on a leg leaves the other leg as it was.
+impl<S: DatagramSocket + Drop> Wire for UdpWire<S> {
+    ghost use Rattle.std.specs.Prelude.{None};
+    ghost use Rattle.fax_legs.specs.Legs.{ReceivesOn, SendsOn};
 
     ghost known = { λ wire. record { failures = wire.failures; received = None; sent = None } };
 
-    ghost receives = { λ side old new. other_leg side new ≡ other_leg side old };
+    ghost receives = { ReceivesOn };
 
-    ghost sends = { λ side octets is_sent old new. other_leg side new ≡ other_leg side old };
+    ghost sends = { SendsOn };
 
     fn receive(&mut self, side: Side, buffer: &mut [u8]) -> Result<Option<usize>, WireFault> {
-        let came = match side {
-            Side::Calling => self.calling.receive(buffer),
-            Side::Called => self.called.receive(buffer),
-        };
-        match came {
-            Ok(came) => Ok(came),
-            Err(_) => Err(self.fail()),
+        match side {
+            Side::Calling => answered(self.calling.receive(buffer), &mut self.failures),
+            Side::Called => answered(self.called.receive(buffer), &mut self.failures),
         }
     }
 
     fn send(&mut self, side: Side, octets: &[u8]) -> Result<(), WireFault> {
-        let sent = match side {
-            Side::Calling => self.calling.send(octets),
-            Side::Called => self.called.send(octets),
-        };
-        match sent {
-            Ok(()) => Ok(()),
-            Err(_) => Err(self.fail()),
+        match side {
+            Side::Calling => answered(self.calling.send(octets), &mut self.failures),
+            Side::Called => answered(self.called.send(octets), &mut self.failures),
+        }
+    }
+}
+
+/// The peers of both legs are told.
+impl<S: DatagramSocket + Drop> LegWire for UdpWire<S> {
+    ghost use Rattle.fax_legs.specs.Keeping.{keeps_on_receive as kept_on_receive, keeps_on_send as kept_on_send, told_peer};
+
+    ghost peer_at = { told_peer };
+
+    ghost keeps_on_receive = { kept_on_receive };
+
+    ghost keeps_on_send = { kept_on_send };
+
+    fn set_peer(&mut self, side: Side, peer: Peer) -> Result<(), NoRoute> {
+        match side {
+            Side::Calling => set_peer_of(&mut self.calling, peer),
+            Side::Called => set_peer_of(&mut self.called, peer),
+        }
+    }
+
+    fn cut(&mut self, side: Side) {
+        match side {
+            Side::Calling => self.calling.cut(),
+            Side::Called => self.called.cut(),
+        }
+    }
+
+    fn begin(&mut self, side: Side, bounds: Bounds) {
+        match side {
+            Side::Calling => self.calling.begin(bounds),
+            Side::Called => self.called.begin(bounds),
+        }
+    }
+
+    fn hang_up(&mut self, side: Side) {
+        match side {
+            Side::Calling => self.calling.hang_up(),
+            Side::Called => self.called.hang_up(),
+        }
+    }
+
+    fn settle(&mut self, side: Side, is_on: bool) {
+        match side {
+            Side::Calling => self.calling.settle(is_on),
+            Side::Called => self.called.settle(is_on),
+        }
+    }
+
+    fn leg_state(&self, side: Side) -> LegState {
+        match side {
+            Side::Calling => self.calling.state(),
+            Side::Called => self.called.state(),
         }
     }
 }

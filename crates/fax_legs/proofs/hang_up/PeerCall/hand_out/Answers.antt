@@ -1,12 +1,12 @@
 use Rattle.std.proofs.Common.{ℕ, List, Some, ◌++◌, ◌∙◌, ap, drop}
-use Rattle.fax_legs.specs.declared.hang_up.Peer.TheVariants as peers
+use Rattle.fax_legs.specs.declared.hang_up.Standing.TheVariants as standings
 use Rattle.fax_legs.specs.declared.hang_up.PeerCall.{PeerCall}
 use Rattle.fax_legs.specs.HangUps.{goodbye}
 use Rattle.fax_legs.proofs.hang_up.PeerCall.hand_out.Goals as goal
 
 -- the call in which a goodbye of this number was handed out
 abbrev called : ℕ → PeerCall
-called n = record { newest = Some n; peer = peers.Told }
+called n = record { newest = Some n; standing = standings.Told }
 
 pub returns-clause-handed : goal.returns-clause-handed
 returns-clause-handed c =
