@@ -1,2 +1,4 @@
+pub mod OptionLemmas
+pub mod SayingLemmas
 pub mod SpaceLemmas
 pub mod WordLemmas

@@ -3,7 +3,7 @@ use Rattle.std.specs.Prelude.{ℕ, List, ◌++◌, codes, decimal}
 use Rattle.fax_control.specs.declared.refusal.Refusal.{Refusal}
 use Rattle.fax_control.specs.declared.refusal.Refusal.TheVariants.{Busy, NoNumber, NoMemory, NoPeer, Stopping, InCall, NoLine, NoWord, TooLong, NoRoute, NoCall, Fixed}
 use Rattle.fax_control.specs.declared.answer.Answer.{Answer}
-use Rattle.fax_control.specs.declared.answer.Answer.TheVariants.{Done, Rung, Refused}
+use Rattle.fax_control.specs.declared.answer.Answer.TheVariants.{Done, Rung, RungOn, Refused}
 
 abbrev pub number_of_refusal : Refusal → ℕ
 number_of_refusal Busy = 1
@@ -41,4 +41,5 @@ refusal_text refusal = decimal (number_of_refusal refusal) ++ (codes " " ++ name
 abbrev pub answer_text : Answer → List ℕ
 answer_text Done = codes "ok"
 answer_text (Rung call) = codes "ok " ++ decimal call
+answer_text (RungOn line call) = codes "ok " ++ (line.now ++ (codes " " ++ decimal call))
 answer_text (Refused refusal) = codes "refused " ++ refusal_text refusal

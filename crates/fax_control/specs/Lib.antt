@@ -1,3 +1,4 @@
 pub mod Answers
 pub mod ClientStreams
+pub mod Options
 pub mod Words

@@ -1,8 +1,9 @@
 -- Control words, each a line (this project's profile).
-use Rattle.std.specs.Prelude.{◌≡◌, ◌≢◌, ℕ, ◌<◌, ◌≤◌, List, ◌∷◌, ◌++◌, length, slice_index, codes, Option, None, Some, option_map}
+use Rattle.std.specs.Prelude.{◌≡◌, ◌≢◌, ℕ, ◌<◌, ◌≤◌, Bool, true, false, List, ◌∷◌, ◌++◌, length, slice_index, codes, decimal, Option, None, Some, option_map, IfSome}
 use Rattle.std.specs.Str.{IsUtf8}
 use Rattle.std.specs.Net.Grammar.{IsSocketText}
 use Rattle.std.specs.declared.net.socket_addr.SocketAddr.{SocketAddr}
+use Rattle.fax_control.specs.declared.word.Bounds.{Bounds}
 use Rattle.fax_control.specs.declared.word.Leg.{Leg}
 use Rattle.fax_control.specs.declared.word.Leg.TheVariants.{Calling, Called}
 use Rattle.fax_control.specs.declared.word.Word.{Word}
@@ -10,8 +11,8 @@ use Rattle.fax_control.specs.declared.word.Word.TheVariants as word
 
 -- What a word orders: the same, apart from where its texts lie.
 pub data Order : Type 0 where
-  Ring : List ℕ → Option (List ℕ) → Order
-  Peer : List ℕ → Leg → SocketAddr → Order
+  Ring : Option (List ℕ) → Option (List ℕ) → Bounds → Order
+  Peer : List ℕ → Leg → Option SocketAddr → Bounds → Bool → Order
   HangUp : List ℕ → Leg → Order
   Refuse : List ℕ → List ℕ → Order
   Report : List ℕ → Order
@@ -21,8 +22,8 @@ pub data Order : Type 0 where
   Stop : Order
 
 abbrev pub order_of : Word → Order
-order_of (word.Ring line tag) = Ring line.now (option_map (λ text. text.now) tag)
-order_of (word.Peer line leg address) = Peer line.now leg address
+order_of (word.Ring ring) = Ring (option_map (λ text. text.now) ring.line) (option_map (λ text. text.now) ring.tag) ring.bounds
+order_of (word.Peer peer) = Peer peer.line.now peer.leg peer.address peer.bounds peer.is_moved
 order_of (word.HangUp line leg) = HangUp line.now leg
 order_of (word.Refuse line cause) = Refuse line.now cause.now
 order_of (word.Report line) = Report line.now
@@ -55,12 +56,66 @@ leg_text Called = codes "called"
 abbrev pub spaced : List ℕ → List ℕ → List ℕ
 spaced first rest = first ++ 32 ∷ rest
 
+-- a word, and what follows it behind a space, if anything does
+abbrev pub led : List ℕ → Option (List ℕ) → List ℕ
+led first None = first
+led first (Some rest) = spaced first rest
+
+-- what follows, behind a word where there is one
+abbrev pub word_led : Option (List ℕ) → Option (List ℕ) → Option (List ℕ)
+word_led None rest = rest
+word_led (Some first) rest = Some (led first rest)
+
+-- what follows, behind an option with its value where it has one
+abbrev pub option_led : List ℕ → Option ℕ → Option (List ℕ) → Option (List ℕ)
+option_led name None rest = rest
+option_led name (Some value) rest = Some (led (name ++ decimal value) rest)
+
+-- what follows, behind what is said of bounds
+abbrev pub bounds_led : Bounds → Option (List ℕ) → Option (List ℕ)
+bounds_led bounds rest = option_led (codes "redundancy=") bounds.redundancy (option_led (codes "octets=") bounds.octets rest)
+
+-- that a peer has moved is the last word of all
+abbrev pub moved_text : Bool → Option (List ℕ)
+moved_text true = Some (codes "moved")
+moved_text false = None
+
+-- a value, where there is one, lies between these
+abbrev pub IsWithin : ℕ → ℕ → Option ℕ → Type 0
+IsWithin least most value = IfSome value (λ n. (least ≤ n) × (n ≤ most))
+
+abbrev pub IsInRange : Bounds → Type 0
+IsInRange bounds = IsWithin 0 8 bounds.redundancy × IsWithin 32 65535 bounds.octets
+
+-- the text begins with these octets
+abbrev pub BeginsWith : List ℕ → List ℕ → Type 0
+BeginsWith front text = (rest : List ℕ) × (text ≡ front ++ rest)
+
+-- the text can be the tag of a ring: it begins as no option does
+abbrev pub IsRingTag : List ℕ → Type 0
+IsRingTag text = IsTag text × ¬ (BeginsWith (codes "redundancy=") text) × ¬ (BeginsWith (codes "octets=") text)
+
+-- what says which line is rung: its name, or `any`, which is the name of none
+abbrev pub rung_text : Option (List ℕ) → List ℕ
+rung_text None = codes "any"
+rung_text (Some line) = line
+
+abbrev pub IsRungLine : Option (List ℕ) → Type 0
+IsRungLine line = IfSome line (λ name. IsName name × (name ≢ codes "any"))
+
+-- the text says the peer of a leg: an address, or, of the calling leg alone, that it is any
+abbrev pub IsPeerText : Leg → List ℕ → Option SocketAddr → Type 0
+IsPeerText leg text (Some address) = HasNoSpace text × IsSocketText text address
+IsPeerText Calling text None = text ≡ codes "any"
+IsPeerText Called text None = ⊥
+
 -- the text spells the order
 abbrev pub Spells : List ℕ → Order → Type 0
-Spells text (Ring line None) = (text ≡ spaced (codes "ring") line) × IsName line
-Spells text (Ring line (Some tag)) = (text ≡ spaced (codes "ring") (spaced line tag)) × IsName line × IsTag tag
-Spells text (Peer line leg address) =
-    (address_text : List ℕ) × (text ≡ spaced (codes "peer") (spaced line (spaced (leg_text leg) address_text))) × IsName line × IsSocketText address_text address
+Spells text (Ring line tag bounds) =
+    (text ≡ spaced (codes "ring") (led (rung_text line) (word_led tag (bounds_led bounds None)))) × IsRungLine line × IfSome tag IsRingTag × IsInRange bounds
+Spells text (Peer line leg address bounds is_moved) =
+    (peer_text : List ℕ) × (text ≡ spaced (codes "peer") (spaced line (spaced (leg_text leg) (led peer_text (bounds_led bounds (moved_text is_moved))))))
+    × IsName line × IsPeerText leg peer_text address × IsInRange bounds
 Spells text (HangUp line leg) = (text ≡ spaced (codes "hangup") (spaced line (leg_text leg))) × IsName line
 Spells text (Refuse line cause) = (text ≡ spaced (codes "refuse") (spaced line cause)) × IsName line × IsCause cause
 Spells text (Report line) = (text ≡ spaced (codes "report") line) × IsName line

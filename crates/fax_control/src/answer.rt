@@ -4,16 +4,18 @@ use std::fmt;
 
 /// The answer to a control word, told in one line.
 #[derive(Clone, Copy, PartialEq, Eq, Debug)]
-pub enum Answer {
+pub enum Answer<'a> {
     /// `ok`.
     Done,
     /// `ok CALL`: the number of the call that was rung.
     Rung(u32),
+    /// `ok LINE CALL`: the line that was rung, where any was to be, and the number of its call.
+    RungOn(&'a str, u32),
     /// `refused NUMBER NAME`.
     Refused(Refusal),
 }
 
-impl fmt::Display for Answer {
+impl fmt::Display for Answer<'_> {
     ghost use Rattle.std.specs.Prelude.{Some};
     ghost use Rattle.fax_control.specs.Answers.{answer_text};
 
@@ -23,6 +25,7 @@ impl fmt::Display for Answer {
         match self {
             Answer::Done => write!(f, "ok"),
             Answer::Rung(call) => write!(f, "ok {call}"),
+            Answer::RungOn(line, call) => write!(f, "ok {line} {call}"),
             Answer::Refused(refusal) => write!(f, "refused {refusal}"),
         }
     }

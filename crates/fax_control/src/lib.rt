@@ -3,12 +3,14 @@
 
 mod answer;
 mod hearing;
+mod options;
 mod reading;
 mod refusal;
+mod spaces;
 mod word;
 
 pub use answer::Answer;
 pub use hearing::{ClientLines, Heard};
 pub use reading::read_word;
 pub use refusal::Refusal;
-pub use word::{Leg, MOST_OCTETS, MOST_TAG_OCTETS, Word};
+pub use word::{Bounds, Leg, MOST_OCTETS, MOST_TAG_OCTETS, PeerWord, RingWord, Word};

@@ -1,8 +1,12 @@
 //! From a line's octets to the word that they say.
-ghost use Rattle.std.specs.Prelude.{◌≡◌, true, false, Some, codes, IfSome, IfNone, IsSomeAnd};
-ghost use Rattle.fax_control.specs.Words.{HasNoSpace, IsTag, Order, Says, Spells, leg_text, order_of, spaced};
+ghost use Rattle.std.specs.Prelude.{◌≡◌, List, ℕ, Option, Some, codes, IfSome, IfNone, IsSomeAnd};
+ghost use Rattle.std.specs.declared.net.socket_addr.SocketAddr.{SocketAddr as SocketAddrShown};
+ghost use Rattle.fax_control.specs.Options.{text_of};
+ghost use Rattle.fax_control.specs.Words.{HasNoSpace, IsPeerText, IsRungLine, Order, Says, Spells, leg_text, order_of, rung_text, spaced};
 
-use crate::word::{Leg, MOST_OCTETS, MOST_TAG_OCTETS, Word};
+use crate::options::{bounds_of, is_tag, moved_of, tag_of};
+use crate::spaces::{cut, first_word};
+use crate::word::{Leg, MOST_OCTETS, PeerWord, RingWord, Word};
 use std::net::SocketAddr;
 
 /// The word that the octets of a line say, its line feed aside; none where they say none.
@@ -44,14 +48,6 @@ fn word_of(text: &str) -> Option<Word<'_>>
     }
 }
 
-/// A text up to its first space, and what follows that.
-fn cut(text: &str) -> Option<(&str, &str)>
-    ensures some { IfSome result (λ parts. (text.now ≡ spaced parts.0.now parts.1.now) × HasNoSpace parts.0.now) }
-    ensures none { IfNone result (HasNoSpace text.now) }
-{
-    text.split_once(' ')
-}
-
 /// The word of a text with no space.
 fn bare_word(text: &str) -> Option<Word<'_>>
     requires { HasNoSpace text.now }
@@ -71,42 +67,35 @@ fn bare_word(text: &str) -> Option<Word<'_>>
     }
 }
 
-/// What follows `ring`: the name of a line, and a tag if there is one.
+/// What follows `ring`: the name of a line, or `any`, a tag if there is one, and bounds.
 fn ring_of(rest: &str) -> Option<Word<'_>>
     ensures said { IfSome result (λ word. Spells (spaced (codes "ring") rest.now) (order_of word)) }
     ensures only { (order : Order) → Spells (spaced (codes "ring") rest.now) order → IsSomeAnd result (λ word. order_of word ≡ order) }
 {
-    let Some((line, tag)) = cut(rest) else {
-        return if rest.is_empty() {
-            None
-        } else {
-            Some(Word::Ring(rest, None))
-        };
-    };
-    if line.is_empty() {
-        return None;
-    }
-    if is_tag(tag) {
-        Some(Word::Ring(line, Some(tag)))
-    } else {
-        None
+    let (line, words) = first_word(rest);
+    let line = rung_line(line)?;
+    let (tag, words) = tag_of(words)?;
+    let (bounds, words) = bounds_of(words)?;
+    match words {
+        None => Some(Word::Ring(RingWord { line, tag, bounds })),
+        Some(_) => None,
     }
 }
 
-/// Whether a text can be a tag, or a cause.
-fn is_tag(text: &str) -> bool
-    ensures yes { result ≡ true → IsTag text.now }
-    ensures no { result ≡ false → IsTag text.now → ⊥ }
+/// The line that a word says to ring: any, or one of this name.
+fn rung_line(word: &str) -> Option<Option<&str>>
+    requires { HasNoSpace word.now }
+    ensures said { IfSome result (λ line. word.now ≡ rung_text (text_of line)) }
+    ensures line { IfSome result (λ line. IsRungLine (text_of line)) }
+    ensures only { (line : Option (List ℕ)) → word.now ≡ rung_text line → IsRungLine line
+        → IsSomeAnd result (λ found. text_of found ≡ line) }
 {
-    if text.is_empty() {
-        return false;
-    }
-    if text.len() > MOST_TAG_OCTETS {
-        return false;
-    }
-    match cut(text) {
-        None => true,
-        Some(_) => false,
+    if word.is_empty() {
+        None
+    } else if word == "any" {
+        Some(None)
+    } else {
+        Some(Some(word))
     }
 }
 
@@ -154,21 +143,54 @@ fn hang_up_of(rest: &str) -> Option<Word<'_>>
     }
 }
 
-/// What follows `peer`: the name of a line, a leg, and an address.
+/// What follows `peer`: the name of a line, a leg, who its peer is, bounds, and `moved`.
 fn peer_of(rest: &str) -> Option<Word<'_>>
     ensures said { IfSome result (λ word. Spells (spaced (codes "peer") rest.now) (order_of word)) }
     ensures only { (order : Order) → Spells (spaced (codes "peer") rest.now) order → IsSomeAnd result (λ word. order_of word ≡ order) }
 {
     let (line, rest) = cut(rest)?;
-    let (leg, address) = cut(rest)?;
+    let (leg, rest) = cut(rest)?;
     let leg = leg_of(leg)?;
-    let Ok(address) = address.parse::<SocketAddr>() else {
-        return None;
-    };
+    let (address, words) = first_word(rest);
+    let address = peer_address(leg, address)?;
+    let (bounds, words) = bounds_of(words)?;
+    let is_moved = moved_of(words)?;
     if line.is_empty() {
         None
     } else {
-        Some(Word::Peer(line, leg, address))
+        Some(Word::Peer(PeerWord {
+            line,
+            leg,
+            address,
+            bounds,
+            is_moved,
+        }))
+    }
+}
+
+/// The address that a word says for the peer of a leg; none of it where it says any.
+fn peer_address(leg: Leg, word: &str) -> Option<Option<SocketAddr>>
+    requires { HasNoSpace word.now }
+    ensures said { IfSome result (λ address. IsPeerText leg word.now address) }
+    ensures only { (address : Option SocketAddrShown) → IsPeerText leg word.now address → result ≡ Some address }
+{
+    if word == "any" {
+        return any_address(leg);
+    }
+    match word.parse::<SocketAddr>() {
+        Ok(address) => Some(Some(address)),
+        Err(_) => None,
+    }
+}
+
+/// That the peer of a leg is any: none, where it cannot be.
+fn any_address(leg: Leg) -> Option<Option<SocketAddr>>
+    ensures said { IfSome result (λ address. IsPeerText leg (codes "any") address) }
+    ensures only { (address : Option SocketAddrShown) → IsPeerText leg (codes "any") address → result ≡ Some address }
+{
+    match leg {
+        Leg::Calling => Some(None),
+        Leg::Called => None,
     }
 }
 

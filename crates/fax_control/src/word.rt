@@ -31,13 +31,46 @@ impl Leg {
     }
 }
 
+/// What bounds the datagrams that a leg sends in a call. What is not said is as the line has it.
+#[derive(Clone, Copy, PartialEq, Eq, Debug, Default)]
+pub struct Bounds {
+    /// How many packets before its own a datagram has at most: 0 to 8.
+    pub redundancy: Option<u8>,
+    /// The most octets of a datagram, 32 to 65,535, but of one that has its own packet alone.
+    pub octets: Option<u16>,
+}
+
+/// What `ring` says.
+#[derive(Clone, Copy, PartialEq, Eq, Debug)]
+pub struct RingWord<'a> {
+    /// The name of the line. `None`: any line whose calling leg is idle and has no peer of the configuration.
+    pub line: Option<&'a str>,
+    /// The tag of the call.
+    pub tag: Option<&'a str>,
+    pub bounds: Bounds,
+}
+
+/// What `peer` says.
+#[derive(Clone, Copy, PartialEq, Eq, Debug)]
+pub struct PeerWord<'a> {
+    /// The name of the line.
+    pub line: &'a str,
+    pub leg: Leg,
+    /// Where the leg's datagrams go from now on, and where alone they come from. `None`, of the calling leg alone: it is the
+    /// sender of the first datagram that comes.
+    pub address: Option<SocketAddr>,
+    pub bounds: Bounds,
+    /// The peer of a call that is on has moved.
+    pub is_moved: bool,
+}
+
 /// A control word. Names of lines and tags are as they were said.
 #[derive(Clone, Copy, PartialEq, Eq, Debug)]
 pub enum Word<'a> {
-    /// Rings the calling leg of a line, for a call with this tag.
-    Ring(&'a str, Option<&'a str>),
-    /// A leg's datagrams go to this address from now on, and come from there alone.
-    Peer(&'a str, Leg, SocketAddr),
+    /// Rings the calling leg of a line.
+    Ring(RingWord<'a>),
+    /// Says the peer of a leg.
+    Peer(PeerWord<'a>),
     /// The peer's call on a leg is gone.
     HangUp(&'a str, Leg),
     /// The call of a line's job, which is asked for, could not be placed, for this cause.

@@ -1,7 +1,7 @@
-use Rattle.std.proofs.Common.{◌≡◌, ◌≢◌, ℕ, ◌+◌, ◌<◌, ◌≤◌, List, ◌∷◌, ◌++◌, length, get_or, take, drop, refl, sym, ◌∙◌, ap, subst, arith, take-append-drop, length-take}
+use Rattle.std.proofs.Common.{◌≡◌, ◌≢◌, ℕ, ◌+◌, ◌<◌, List, ◌∷◌, ◌++◌, length, get_or, take, drop, sym, ◌∙◌, ap, arith, take-append-drop, length-take}
 use Rattle.std.proofs.lemmas.List.{take_rest, drop_more, get_or-take}
 use Rattle.std.proofs.lemmas.Grind.{common_steps}
-use Rattle.fax_control.specs.ClientStreams.{HasNoLineFeed, fitting, octets_of_heard}
+use Rattle.fax_control.specs.ClientStreams.{HasNoLineFeed}
 use Rattle.fax_control.proofs.hearing.ClientLines.hear.Goals as goal
 
 -- octets up to a line feed, and what follows it

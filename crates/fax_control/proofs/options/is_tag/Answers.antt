@@ -1,7 +1,7 @@
 use Rattle.std.proofs.Common.{subst}
 use Rattle.fax_control.specs.Words.{HasNoSpace}
 use Rattle.fax_control.proofs.SpaceLemmas.{has_space}
-use Rattle.fax_control.proofs.reading.is_tag.Goals as goal
+use Rattle.fax_control.proofs.options.is_tag.Goals as goal
 
 pub returns-in-Some-clause-no : goal.returns-in-Some-clause-no
 returns-in-Some-clause-no c = λ _ tag.
