@@ -1,5 +1,5 @@
 -- What the members of a TOML table tell (TOML 1.1; which keys there are is this project's profile).
-use Rattle.std.specs.Prelude.{◌≡◌, ℕ, ◌<◌, ◌≤◌, ◌⊎◌, pos, List, [], ◌∷◌, length, codes, Option, None, Some, All, Contains}
+use Rattle.std.specs.Prelude.{◌≡◌, ◌≢◌, ℕ, ◌<◌, ◌≤◌, ◌⊎◌, pos, List, [], ◌∷◌, length, codes, Option, None, Some, All, Contains}
 use Rattle.std.specs.Net.Grammar.{IsSocketText}
 use Rattle.std.specs.declared.net.socket_addr.SocketAddr.{SocketAddr}
 use Rattle.toml.specs.Data.{string, integer, table, Members, no_members, member, get_member}
@@ -52,6 +52,6 @@ abbrev pub IsRepeatAt : Members → Repeat → Type 0
 IsRepeatAt members kind =
     ((get_member (codes "repeat") members ≡ None) × (kind ≡ repeat.Full)) ⊎ (get_member (codes "repeat") members ≡ Some (string (repeat_text kind)))
 
--- the text can be the name of a line: 1 to 64 octets, none of them a space or a control character of ASCII below it
+-- the text can be the name of a line: 1 to 64 octets, none of them a space or a control character of ASCII below it, and not `any`
 abbrev pub IsLineName : List ℕ → Type 0
-IsLineName text = (0 < length text) × (length text ≤ 64) × All (λ octet. 32 < octet) text
+IsLineName text = (0 < length text) × (length text ≤ 64) × (text ≢ codes "any") × All (λ octet. 32 < octet) text

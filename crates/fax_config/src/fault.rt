@@ -73,7 +73,10 @@ impl fmt::Display for Trouble {
             Trouble::NotTables => write!(f, "is no list of tables"),
             Trouble::NotAddress => write!(f, "is no address with a port"),
             Trouble::NotRepeat => write!(f, "is none of full, last and none"),
-            Trouble::NotName => write!(f, "is no name of 1 to 64 octets without a space"),
+            Trouble::NotName => write!(
+                f,
+                "is no name of 1 to 64 octets without a space, or is any"
+            ),
             Trouble::OutOfRange(least, most) => write!(f, "is not from {least} to {most}"),
         }
     }

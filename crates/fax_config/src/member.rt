@@ -122,7 +122,7 @@ pub fn repeat_of(table: &Table) -> Result<Repeat, Flaw>
     }
 }
 
-/// Whether a text can be the name of a line.
+/// Whether a text can be the name of a line. `any` is what a word says for any of them.
 fn is_name(text: &str) -> bool
     ensures { IsTrue result ↔ IsLineName text.now }
 {
@@ -130,6 +130,9 @@ fn is_name(text: &str) -> bool
         return false;
     }
     if text.len() > MOST_NAME_OCTETS {
+        return false;
+    }
+    if text == "any" {
         return false;
     }
     text.as_bytes().iter().all(|octet| *octet > b' ')
