@@ -1,0 +1,11 @@
+pub mod Cards
+pub mod Desks
+pub mod Laws
+pub mod Questions
+pub mod Said
+pub mod Shown
+pub mod Stops
+pub mod Tags
+pub mod Telling
+pub mod Turns
+pub mod Words

@@ -1,0 +1,364 @@
+//! The desk.
+ghost use Rattle.std.specs.Prelude.{◌≡◌, ◌↔◌, IsTrue, None, Some, length, not, option_map, slice_get};
+ghost use Rattle.fax_desk.specs.Desks.{asked_cards, connected_happened, desk_new, done_of, due_of, free_line, happened_of, heard_until, line_named, looked_at, looked_cards, name_at, next_any, next_at, next_ring, noted, noted_at, peer_next, question_at, refuse_next, step_of, stop_behind, told_at, turned_at};
+ghost use Rattle.fax_desk.specs.Said.{any_behind, peer_said, unasked_if, waits_if};
+ghost use Rattle.fax_desk.specs.Stops.{is_over, stop_after, takes_rings};
+ghost use Rattle.fax_desk.specs.Tags.{tag_of_text};
+
+use crate::answer::{next_of, refuses, reply_to, ring_order};
+use crate::card::Card;
+use crate::next::{Ask, HangUpAsk, Next, Note, Order, Reply, RingAsk};
+use crate::questions::{HeardTime, Question};
+use crate::said::{
+    any_behind, bounds_of, first_free, peer_of, rung_happened, side_of, tag_said, unasked_if,
+    waits_if,
+};
+use crate::stop::Stop;
+use crate::tag::Tag;
+use crate::told::{Happened, Told, Turn};
+use crate::view::{LineView, View};
+use fax_clients::Asker;
+use fax_control::{PeerWord, Refusal, RingWord, Word};
+use fax_line::Answered;
+
+/// An order that was given and not told back, and who is answered by its end.
+#[derive(Drop)]
+pub struct Waits {
+    pub asker: Option<Asker>,
+    pub order: Order,
+}
+
+/// The end of an order: who is answered what, and what happened on its line.
+#[derive(Drop)]
+pub struct Done {
+    pub asker: Option<Asker>,
+    pub line: usize,
+    pub reply: Reply,
+    pub happened: Option<Happened>,
+}
+
+/// What a look at a line's question comes to.
+#[derive(Clone, Copy)]
+pub enum Looked {
+    Nothing,
+    /// Clients are asked.
+    Asks(Happened),
+    /// Nobody answered in its time.
+    Orders(Order),
+}
+
+/// The desk of a server.
+#[derive(Drop)]
+pub struct Desk {
+    /// The lines' names.
+    pub names: Vec<String>,
+    pub cards: Vec<Card>,
+    pub stop: Stop,
+    /// A stop takes so many milliseconds at most.
+    pub stop_ms: u64,
+    /// The time of questions, and whether a client hears events.
+    pub time: HeardTime,
+    pub is_heard: bool,
+    /// The order that waits.
+    pub waits: Option<Waits>,
+    /// The line from which on any is looked for that can be rung.
+    pub any_from: usize,
+}
+
+impl Desk {
+    /// The desk of lines with these names, of which this is known.
+    pub fn new(names: Vec<String>, cards: Vec<Card>, stop_ms: u64) -> Self
+        ensures { result ≡ desk_new names cards stop_ms }
+    {
+        Desk {
+            names,
+            cards,
+            stop: Stop::No,
+            stop_ms,
+            time: HeardTime::new(),
+            is_heard: false,
+            waits: None,
+            any_from: 0,
+        }
+    }
+
+    /// Whether no order waits.
+    pub fn is_free(&self) -> bool
+        ensures { IsTrue result ↔ (self.now.waits ≡ None) }
+    {
+        self.waits.is_none()
+    }
+
+    /// The line of this name.
+    pub fn find(&self, name: &str) -> Option<usize>
+        ensures { result ≡ line_named self.now.names.items name.now }
+    {
+        self.names.iter().position(|text| text.as_str() == name)
+    }
+
+    /// The name of line i.
+    pub fn name(&self, i: usize) -> Option<&str>
+        ensures { option_map (λ name. name.now) result ≡ name_at self.now.names.items i }
+    {
+        match self.names.get(i) {
+            Some(text) => Some(text.as_str()),
+            None => None,
+        }
+    }
+
+    /// A word comes while no order waits. It is answered by this, or by what is told of the order that it gives.
+    pub fn step<V: View>(&mut self, asker: Asker, word: Word<'_>, view: &V, now: u64) -> Next
+        requires { self.old.waits ≡ None }
+        ensures next { result ≡ step_of self.old (V.line view.now) word.entry }
+        ensures waits { self.new.waits ≡ waits_if asker result }
+        ensures stop { self.new.stop ≡ stop_behind word.entry now self.old.stop_ms self.old.stop }
+        ensures any { self.new.any_from ≡ any_behind self.old.any_from result }
+        ensures same { self.new ≡ record self.old { waits = self.new.waits; stop = self.new.stop; any_from = self.new.any_from } }
+    {
+        let next = self.next(word, view);
+        if let Word::Stop = word {
+            self.stop(now);
+        }
+        self.any_from = any_behind(self.any_from, next);
+        self.waits = waits_if(asker, next);
+        next
+    }
+
+    /// What a word comes to.
+    fn next<V: View>(&self, word: Word<'_>, view: &V) -> Next
+        ensures { result ≡ step_of self.now (V.line view.now) word.entry }
+    {
+        match word {
+            Word::Ring(ring) => self.ring(ring, view),
+            Word::Peer(peer) => self.say_peer(peer, view),
+            Word::HangUp(name, leg) => {
+                let side = side_of(leg);
+                self.ask(name, Ask::HangUp(HangUpAsk { side }), view)
+            }
+            Word::Refuse(name, cause) => self.refuse(name, cause, view),
+            Word::Report(name) => self.ask(name, Ask::Report, view),
+            Word::Status => Next::Status,
+            Word::Metrics => Next::Metrics,
+            Word::Events => Next::Events,
+            Word::Stop => Next::Replies(Reply::Done),
+        }
+    }
+
+    /// What it comes to that this is asked of the line of this name.
+    fn ask<V: View>(&self, name: &str, ask: Ask, view: &V) -> Next
+        ensures { result ≡ next_at self.now (V.line view.now) name.now ask }
+    {
+        let Some(i) = self.find(name) else {
+            return refuses(Refusal::NoLine);
+        };
+        let Some(line) = view.line(i) else {
+            return refuses(Refusal::NoLine);
+        };
+        next_of(self.question(i), i, line, ask)
+    }
+
+    /// What a ring comes to.
+    fn ring<V: View>(&self, ring: RingWord<'_>, view: &V) -> Next
+        ensures { result ≡ next_ring self.now (V.line view.now) (option_map (λ text. text.now) ring.entry.line) (option_map (λ text. text.now) ring.entry.tag) ring.entry.bounds }
+    {
+        if !self.stop.takes_rings() {
+            return refuses(Refusal::Stopping);
+        }
+        let Some(tag) = tag_said(ring.tag) else {
+            return refuses(Refusal::NoWord);
+        };
+        let bounds = bounds_of(ring.bounds);
+        match ring.line {
+            Some(name) => self.ask(name, Ask::Ring(RingAsk { tag, bounds }), view),
+            None => self.ring_any(RingAsk { tag, bounds }, view),
+        }
+    }
+
+    /// What it comes to that any line is to ring.
+    fn ring_any<V: View>(&self, ring: RingAsk, view: &V) -> Next
+        ensures { result ≡ next_any self.now (V.line view.now) ring }
+    {
+        match self.free_line(view) {
+            Some(i) => {
+                let note = Note::RingAny(ring.tag);
+                Next::Orders(ring_order(i, true, ring.bounds, note))
+            }
+            None => refuses(Refusal::Busy),
+        }
+    }
+
+    /// The first line that can be rung without its peer, from the one behind that which was taken last.
+    fn free_line<V: View>(&self, view: &V) -> Option<usize>
+        ensures { result ≡ free_line self.now.any_from (length self.now.names.items) (V.line view.now) }
+    {
+        match first_free(view, self.any_from, self.names.len()) {
+            Some(i) => Some(i),
+            None => first_free(view, 0, self.any_from),
+        }
+    }
+
+    /// What it comes to that the peer of a leg is said.
+    fn say_peer<V: View>(&self, peer: PeerWord<'_>, view: &V) -> Next
+        ensures { result ≡ peer_next self.now (V.line view.now) peer.entry.line.now (peer_said peer.entry.leg peer.entry.address peer.entry.bounds peer.entry.is_moved) }
+    {
+        match peer_of(peer) {
+            Some(ask) => self.ask(peer.line, Ask::Peer(ask), view),
+            None => refuses(Refusal::NoWord),
+        }
+    }
+
+    /// What it comes to that the called machine of a line could not be reached, for this cause.
+    fn refuse<V: View>(&self, name: &str, cause: &str, view: &V) -> Next
+        ensures { result ≡ refuse_next self.now (V.line view.now) name.now (tag_of_text cause.now) }
+    {
+        match Tag::of(cause) {
+            Some(cause) => self.ask(name, Ask::Refuse(cause), view),
+            None => refuses(Refusal::NoWord),
+        }
+    }
+
+    /// The question of line i that is open.
+    fn question(&self, i: usize) -> Option<Question>
+        ensures { result ≡ question_at self.now.cards.items i }
+    {
+        match self.cards.get(i) {
+            Some(card) => card.question,
+            None => None,
+        }
+    }
+
+    /// The line answered this to the order that waits, or there is no such line. It answers who is answered what, and what happened.
+    pub fn done(&mut self, answered: Option<Answered>) -> Option<Done>
+        ensures done { result ≡ done_of self.old.cards.items self.old.waits answered }
+        ensures cards { self.new.cards.items ≡ noted self.old.cards.items self.old.waits answered }
+        ensures same { self.new ≡ record self.old { waits = None; cards = self.new.cards } }
+    {
+        let Some(waits) = self.waits.take() else {
+            return None;
+        };
+        let Waits { asker, order } = waits;
+        let happened = self.happened(order, answered);
+        self.note(order, answered);
+        Some(Done {
+            asker,
+            line: order.line,
+            reply: reply_to(order, answered),
+            happened,
+        })
+    }
+
+    /// What happened where a line answered this to an order: a call was rung, or the call of a job began.
+    fn happened(&self, order: Order, answered: Option<Answered>) -> Option<Happened>
+        ensures { result ≡ happened_of self.now.cards.items order answered }
+    {
+        match answered {
+            Some(Answered::Rung(Ok(call))) => rung_happened(order.note, call),
+            Some(Answered::Placed(Ok(()))) => self.connected(order),
+            _ => None,
+        }
+    }
+
+    /// The same where the call of a job was placed, or could not be.
+    fn connected(&self, order: Order) -> Option<Happened>
+        ensures { result ≡ connected_happened (slice_get self.now.cards.items order.line) order.note }
+    {
+        let Note::Connect(job) = order.note else {
+            return None;
+        };
+        match self.cards.get(order.line) {
+            Some(card) => Some(Happened::Connected(card.tagged_job(job.first, job.call))),
+            None => None,
+        }
+    }
+
+    /// The card of the order's line notes what that answered.
+    fn note(&mut self, order: Order, answered: Option<Answered>)
+        ensures cards { self.new.cards.items ≡ noted_at self.old.cards.items order answered }
+        ensures same { self.new ≡ record self.old { cards = self.new.cards } }
+    {
+        let i = order.line;
+        if i < self.cards.len() {
+            self.cards[i].note(order, answered);
+        }
+    }
+
+    /// Line i had a turn. It answers what is told of that.
+    pub fn turn(&mut self, i: usize, turn: Turn) -> Option<Told>
+        ensures told { result ≡ told_at self.old.cards.items i turn }
+        ensures cards { self.new.cards.items ≡ turned_at self.old.cards.items i turn }
+        ensures same { self.new ≡ record self.old { cards = self.new.cards } }
+    {
+        if i < self.cards.len() {
+            Some(self.cards[i].turn(turn))
+        } else {
+            None
+        }
+    }
+
+    /// Time goes on to this moment, and a client hears events meanwhile, or none does.
+    pub fn go_on(&mut self, now: u64, is_heard: bool)
+        ensures { self.new ≡ record self.old { time = heard_until now is_heard self.old.time; is_heard = is_heard } }
+    {
+        self.time.go_on(now, is_heard);
+        self.is_heard = is_heard;
+    }
+
+    /// Whether the question of line i is to be looked at: its time is over, or none is open where the line asks for a call.
+    pub fn is_due(&self, i: usize, asks: bool) -> bool
+        ensures { result ≡ due_of (question_at self.now.cards.items i) self.now.time.heard asks }
+    {
+        match self.question(i) {
+            Some(question) => question.is_over(self.time.heard()),
+            None => asks,
+        }
+    }
+
+    /// The question of line i, which is so, is looked at, while no order waits: clients are asked where one hears events, a question
+    /// whose time is over is refused, and one of a call that is asked for no more is closed.
+    pub fn look(&mut self, i: usize, line: LineView) -> Looked
+        requires { self.old.waits ≡ None }
+        ensures looked { result ≡ looked_at self.old i line }
+        ensures cards { self.new.cards.items ≡ looked_cards self.old i line }
+        ensures waits { self.new.waits ≡ unasked_if result }
+        ensures same { self.new ≡ record self.old { cards = self.new.cards; waits = self.new.waits } }
+    {
+        if i < self.cards.len() {
+            let looked = self.cards[i].look(i, line, self.time.heard, self.is_heard);
+            self.waits = unasked_if(looked);
+            looked
+        } else {
+            Looked::Nothing
+        }
+    }
+
+    /// The question of line i is open from now on, where the line asks for a call, since a client is told what is on.
+    pub fn ask_at(&mut self, i: usize, line: LineView)
+        ensures cards { self.new.cards.items ≡ asked_cards self.old.cards.items self.old.time.heard i line }
+        ensures same { self.new ≡ record self.old { cards = self.new.cards } }
+    {
+        if i < self.cards.len() {
+            self.cards[i].ask_if(line, self.time.heard);
+        }
+    }
+
+    /// It is asked to stop.
+    pub fn stop(&mut self, now: u64)
+        ensures { self.new ≡ record self.old { stop = stop_after self.old.stop now self.old.stop_ms } }
+    {
+        self.stop = self.stop.asked(now, self.stop_ms);
+    }
+
+    /// Whether it was asked to stop.
+    pub fn is_stopping(&self) -> bool
+        ensures { result ≡ not (takes_rings self.now.stop) }
+    {
+        !self.stop.takes_rings()
+    }
+
+    /// Whether the run is over.
+    pub fn is_over(&self, now: u64, are_idle: bool) -> bool
+        ensures { result ≡ is_over self.now.stop now are_idle }
+    {
+        self.stop.is_over(now, are_idle)
+    }
+}

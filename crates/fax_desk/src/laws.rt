@@ -1,0 +1,22 @@
+//! Laws of the definitions: functions that do nothing, each of whose contracts is a theorem.
+ghost use Rattle.fax_desk.specs.Laws.{AnsweredOnce, AnswersWhatWasDone, NoRingWhileStopping, OrdersTheNamed};
+
+/// Each word is answered once, in the order in which they came.
+pub fn words_are_answered_once()
+    ensures { AnsweredOnce }
+{}
+
+/// Who is answered behind an order gave it by the word just before, and is answered what its line answered to it.
+pub fn answers_are_what_was_done()
+    ensures { AnswersWhatWasDone }
+{}
+
+/// An order goes to the line that was named.
+pub fn orders_go_to_the_named_line()
+    ensures { OrdersTheNamed }
+{}
+
+/// No ring is ordered by a server that stops.
+pub fn no_ring_while_stopping()
+    ensures { NoRingWhileStopping }
+{}

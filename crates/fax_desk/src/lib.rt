@@ -1,0 +1,33 @@
+//! The desk of a server: what a control word comes to, what it is answered, and what is told of lines. It reads and writes nothing,
+//! and knows no clock: who drives it hands what it orders to the lines, and what they answered back to it, and writes what is told.
+#![tactic(auto)]
+
+mod answer;
+mod asking;
+mod card;
+mod desk;
+mod events;
+pub mod laws;
+mod next;
+mod questions;
+mod said;
+mod shown;
+mod stop;
+mod tag;
+mod telling;
+mod told;
+mod turning;
+mod view;
+
+pub use answer::next_of;
+pub use card::{Card, LineCounts, RefusedJob, ReportTexts, TagsOn};
+pub use desk::{Desk, Done, Looked, Waits};
+pub use next::{
+    Ask, ConnectNote, HangUpAsk, Next, Note, Order, PeerAsk, Refused, Reply, RingAsk, RungOn,
+};
+pub use questions::{Cause, HeardTime, Question};
+pub use stop::Stop;
+pub use tag::{Tag, Tagged};
+pub use telling::{Listener, tell_at, tell_turn};
+pub use told::{Happened, LineState, Told, Turn, ending};
+pub use view::{AskedView, FirstJob, LegView, LineView, View};

@@ -1,0 +1,106 @@
+//! What is told of a turn.
+ghost use Rattle.std.specs.Prelude.{◌≡◌};
+ghost use Rattle.fax_desk.specs.Turns.{card_behind, dial_told, ended_told, job_told, not_kept_told, page_told, refused_told, told_of};
+
+use crate::card::Card;
+use crate::told::{Happened, Told, Turn, ending};
+use crate::view::FirstJob;
+use fax_events::PageKept;
+use fax_gateway::{Kept, Refused};
+use fax_jobs::Report;
+
+impl Card {
+    /// The line had a turn. It answers what is told of that.
+    pub(crate) fn turn(&mut self, turn: Turn) -> Told
+        ensures told { result ≡ told_of self.old turn }
+        ensures card { self.new ≡ card_behind self.old turn }
+    {
+        let turned = turn.turned;
+        let not_kept = self.not_kept_told(turn.is_kept, turned.kept);
+        let page = self.page_told(turned.kept);
+        let refused = self.refused_told(turned.refused);
+        let job = self.job_told(turn.first, turned.report);
+        self.keep_page(turned.kept);
+        let ended = self.ended_told(turn, turned.ended);
+        self.end_job(turn.first, turned.report);
+        let dialled = self.dial_told(turn.first, turned.dialled);
+        Told {
+            not_kept,
+            page,
+            refused,
+            ended,
+            job,
+            dialled,
+        }
+    }
+
+    fn not_kept_told(&self, is_kept: bool, kept: Option<Kept>) -> Option<Happened>
+        ensures { result ≡ not_kept_told self.now is_kept kept }
+    {
+        match kept {
+            Some(kept) if !is_kept => Some(Happened::NotKept(self.tagged(kept.call))),
+            _ => None,
+        }
+    }
+
+    fn page_told(&self, kept: Option<Kept>) -> Option<Happened>
+        ensures { result ≡ page_told self.now kept }
+    {
+        match kept {
+            None => None,
+            Some(kept) => Some(Happened::Page(
+                PageKept {
+                    call: kept.call,
+                    number: self.pages_in_call.saturating_add(1),
+                    format: kept.format,
+                    rows: kept.rows,
+                },
+                self.tag(kept.call),
+            )),
+        }
+    }
+
+    fn refused_told(&self, refused: Option<Refused>) -> Option<Happened>
+        ensures { result ≡ refused_told self.now refused }
+    {
+        match refused {
+            None => None,
+            Some(refused) => Some(Happened::RefusedPage(refused, self.tag(refused.call))),
+        }
+    }
+
+    fn ended_told(&self, turn: Turn, ended: Option<u32>) -> Option<Happened>
+        ensures { result ≡ ended_told self.now turn ended }
+    {
+        match ended {
+            None => None,
+            Some(call) => {
+                let is_given_up = turn.turned.gave_up.is_some();
+                let how = ending(turn.is_mute, turn.is_hung_up, is_given_up, self.is_closed);
+                Some(Happened::Ended(self.tagged(call), how))
+            }
+        }
+    }
+
+    fn job_told(&self, first: FirstJob, report: Option<Report>) -> Option<Happened>
+        ensures { result ≡ job_told self.now first report }
+    {
+        match report {
+            None => None,
+            Some(report) => Some(Happened::Job(
+                report,
+                self.job_tag(first, report.call),
+                self.cause(self.jobs),
+            )),
+        }
+    }
+
+    fn dial_told(&self, first: FirstJob, dialled: Option<u32>) -> Option<Happened>
+        ensures { result ≡ dial_told self.now first dialled }
+    {
+        match dialled {
+            None => None,
+            Some(call) => Some(Happened::Dial(self.tagged_job(first, call))),
+        }
+    }
+}
