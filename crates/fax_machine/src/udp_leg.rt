@@ -5,7 +5,7 @@ ghost use Rattle.fax_gateway.specs.Wires.{greatest_count};
 use crate::clock_pace::ClockPace;
 use crate::watch::Watch;
 use fax_gateway::{Side, Wire, WireFault};
-use fax_repeat::TimedWire;
+use fax_repeat::{Bounds, LegState, LegWire, NoRoute, Peer, TimedWire};
 use std::cell::Cell;
 use std::io;
 use std::io::ErrorKind;
@@ -133,6 +133,37 @@ impl Wire for UdpLeg<'_> {
         match self.port.socket.send_to(octets, self.peer) {
             Ok(_) => Ok(()),
             Err(error) => Err(self.fail(&error)),
+        }
+    }
+}
+
+/// It has one peer, for ever, and takes no word of another.
+impl LegWire for UdpLeg<'_> {
+    ghost use Rattle.std.specs.Prelude.{refl};
+    ghost use Rattle.fax_repeat.specs.Telling.{hears_none};
+
+    ghost keeps_on_receive = { λ at old new made. hears_none at };
+
+    ghost keeps_on_send = { λ at octets is_sent old new made. refl };
+
+    fn set_peer(&mut self, _side: Side, _peer: Peer) -> Result<(), NoRoute> {
+        Err(NoRoute)
+    }
+
+    fn cut(&mut self, _side: Side) {}
+
+    fn begin(&mut self, _side: Side, _bounds: Bounds) {}
+
+    fn hang_up(&mut self, _side: Side) {}
+
+    fn settle(&mut self, _side: Side, _is_on: bool) {}
+
+    fn leg_state(&self, _side: Side) -> LegState {
+        LegState {
+            has_peer: false,
+            is_fixed: false,
+            is_heard: false,
+            is_gone: false,
         }
     }
 }
