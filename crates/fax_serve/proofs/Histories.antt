@@ -1,5 +1,5 @@
 -- The lines of a server, each by its name.
-use Rattle.std.proofs.Common.{◌≡◌, ◌≢◌, ◌⊎◌, ◌∙◌, ◌<◌, ℕ, zero, suc, inl, inr, Bool, List, [], ◌∷◌, length, map, Option, Some, None, slice_get, get_or, arith, refl, sym, ap, subst}
+use Rattle.std.proofs.Common.{◌≡◌, ◌≢◌, ◌⊎◌, ◌∙◌, ◌<◌, ℕ, zero, suc, inl, inr, Bool, List, [], ◌∷◌, length, map, Some, None, slice_get, get_or, arith, refl, sym, ap, subst}
 use Rattle.std.specs.String.{string_bytes}
 use Rattle.fax_config.specs.declared.config.LineConfig.{LineConfig}
 use Rattle.fax_config.specs.Configurations.{AreUnlike, names_of_lines}

@@ -1,3 +1,6 @@
+mod Seeing
+mod Desking
+mod Passings
 mod Restoring
 mod Histories
 mod Crossings

@@ -13,6 +13,7 @@ use Rattle.fax_spool.specs.Opened.{IsOpened}
 use Rattle.fax_spool.specs.Spools.{AreClean, files_of}
 use Rattle.fax_spool.specs.declared.spool.Spool.{Spool}
 use Rattle.fax_shelf.specs.Shelves.{ShelfValue}
+use Rattle.fax_serve.specs.Desking.{WordsAreDone}
 use Rattle.fax_serve.specs.Openings.{IsRestored}
 
 -- Each line of a configuration is restored with those of these pages that are its own, and its shelf has just these.
@@ -22,7 +23,8 @@ AreRestored pages (config ∷ configs) (place ∷ places) (shelf ∷ shelves) = 
 AreRestored pages configs places shelves = ⊥
 
 -- A run went on from these lines and this keeper, with slot 0 first: behind each turn of a slot, before anything else was done, the pages
--- that its lines confirmed were put at once, and what confirms them went out where the answer was Ok (`IsSettled`).
+-- that its lines confirmed were put at once, and what confirms them went out where the answer was Ok (`IsSettled`). What lines were asked
+-- is what words ordered.
 pub record RanKept {K : Type 0} (same : K → K → Type 0) (puts : List PageToKeep → Bool → K → K → Type 0) (notes : ℕ → ℕ → K → K → Type 0) (ends : ℕ → Report → K → K → Type 0) (begun : List PlaceValue) (before : K) : Type 0 where
   pub left : List PlaceValue
   pub after : K
@@ -30,6 +32,7 @@ pub record RanKept {K : Type 0} (same : K → K → Type 0) (puts : List PageToK
   pub settled : List SlotEnd
   pub first : ℕ
   pub first_is : first ≡ 0
+  pub words : WordsAreDone done
   pub ran : Ran same puts notes ends first done settled begun left before after
 
 -- A SERVER WITH A SPOOL RAN: the spool was opened, each line began with the pages of its own that waited in it, and its shelf with just

@@ -1,8 +1,7 @@
-pub mod Endings
+pub mod Desking
 pub mod Histories
 pub mod KeptRuns
 pub mod Openings
-pub mod Orders
-pub mod Questions
 pub mod Runs
+pub mod Views
 pub mod Crossings

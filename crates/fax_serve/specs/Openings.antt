@@ -1,7 +1,8 @@
 -- What a line of a configuration is opened with. (This project's profile.)
-use Rattle.std.specs.Prelude.{◌≡◌, Bool, not, is_some, List, [], ◌∷◌, ◌++◌, map}
+use Rattle.std.specs.Prelude.{◌≡◌, max, min, Bool, not, is_some, List, [], ◌∷◌, ◌++◌, map}
 use Rattle.std.specs.String.{string_bytes}
 use Rattle.fax_config.specs.declared.config.LineConfig.{LineConfig}
+use Rattle.fax_gateway.specs.declared.settings.Settings.{Settings}
 use Rattle.fax_gateway.specs.Restored.{call_shown}
 use Rattle.fax_line.specs.Actions.{BeginsWith}
 use Rattle.fax_line.specs.Places.{PlaceValue}
@@ -15,13 +16,18 @@ use Rattle.fax_shelf.specs.declared.restored.Restored.{Restored}
 abbrev pub asks_by : LineConfig → Bool
 asks_by config = not (is_some config.called.peer)
 
+-- What is set for its gateway: a datagram has as many packets before its own as any call may have (its leg sends those that the call
+-- has), and the packet behind a preamble waits as long as the configuration says, between 40 and 2,000 ms.
+abbrev pub settings_by : LineConfig → Settings
+settings_by config = record { redundancy = 8; preamble_ms = min (max config.preamble_ms 40) 2000; asks = asks_by config }
+
 -- A LINE BEGINS WITH THE CALLS OF ITS OWN of these pages: of those that have its name; and so does its shelf. Its wire holds nothing back.
 pub record IsRestored (pages : List spool.PageValue) (config : LineConfig) (place : PlaceValue) (shelf : ShelfValue) : Type 0 where
   pub restored : Restored
   pub restores : Restores (string_bytes config.name) pages restored
   pub begins : BeginsWith (map call_shown restored.calls.items) place.line
   pub fresh : HasDoneOn [] place.line.holding
-  pub asks : place.line.gateway.settings.asks ≡ asks_by config
+  pub settings : place.line.gateway.settings ≡ settings_by config
   pub shelf_is : restored.shelf ≡ shelf
 
 -- one more line, behind the others, and its shelf

@@ -1,54 +1,66 @@
 //! The texts that control words are answered with.
-use crate::card::Card;
 use crate::failures::Failures;
-use crate::sockets::{ServedLine, ServedLines};
+use crate::sockets::SocketLegs;
+use crate::view::{Seen, first_job, view_of};
 use fax_bits::NoMemory;
 use fax_control::Answer;
+use fax_desk::{Desk, Happened, LineView, Tag};
 use fax_events::{Counters, Event, What, write_event};
 use fax_gateway::Side;
-use fax_legs::{LegCounts, LegSocket};
+use fax_hold::LineWire;
+use fax_legs::LegCounts;
+use fax_line::{Line, Lines};
+use sqlite_disk::Disk;
 use std::alloc::{AllocError, Global};
 
 /// The most reports of a line that are told.
 const MOST_REPORTS: usize = 64;
 
 /// The line of an answer.
-pub(crate) fn answer_text(alloc: Global, answer: Answer) -> Result<Vec<u8>, AllocError> {
+pub(crate) fn answer_text(alloc: Global, answer: Answer<'_>) -> Result<Vec<u8>, AllocError> {
     let text = format!(in alloc; "{answer}\n")?;
     Ok(text.into_bytes())
 }
 
-/// The reports of a line that are kept, oldest first, as events of this moment, and `ok`.
-pub(crate) fn report_text(
+/// The reports of line i that are kept, oldest first, as events of this moment, and `ok`.
+pub(crate) fn report_text<W: LineWire + Drop>(
     alloc: Global,
-    card: &Card,
-    line: &ServedLine,
+    desk: &Desk,
+    i: usize,
+    line: &Line<W>,
     at: u64,
 ) -> Result<Vec<u8>, NoMemory> {
     let mut text = Vec::new(alloc);
     let kept = reports_kept(line);
-    for i in 0..kept {
-        let Some(report) = line.report(i) else {
-            break;
-        };
-        let event = Event {
-            line: card.name(),
+    for k in 0..kept {
+        put_happened(
+            alloc,
+            desk,
+            i,
             at,
-            what: What::Job(
-                report,
-                card.report_tag(i, kept, report.call),
-                card.report_cause(i, kept),
-            ),
-        };
-        let told = write_event(alloc, &event)?;
-        text.extend_from_slice(told.as_slice())?;
+            reported(desk, i, line, k, kept),
+            &mut text,
+        )?;
     }
     text.extend_from_slice(b"ok\n")?;
     Ok(text)
 }
 
+/// Report k of so many that are kept of line i.
+fn reported<W: LineWire + Drop>(
+    desk: &Desk,
+    i: usize,
+    line: &Line<W>,
+    k: usize,
+    kept: usize,
+) -> Option<Happened> {
+    let report = line.report(k)?;
+    let known = desk.report_texts(i, k, kept, report.call);
+    Some(Happened::Job(report, known.tag, known.cause))
+}
+
 /// How many reports of a line are kept.
-fn reports_kept(line: &ServedLine) -> usize {
+fn reports_kept<W: LineWire + Drop>(line: &Line<W>) -> usize {
     let mut count = 0;
     for i in 0..MOST_REPORTS {
         if line.report(i).is_some() {
@@ -58,16 +70,85 @@ fn reports_kept(line: &ServedLine) -> usize {
     count
 }
 
-/// A line for each line of the configuration, and `ok`.
-pub(crate) fn status_text(
+/// The pages that are not sent, of which these lines of events tell, each call that is on, and each job whose call is on or is asked
+/// for, as events of this moment, and `ok`: for a client that wants events from now on.
+pub(crate) fn state_text<W: LineWire + Drop, D: Disk>(
     alloc: Global,
-    cards: &[Card],
-    lines: &ServedLines,
+    aside: &[Vec<u8>],
+    desk: &Desk,
+    seen: &Seen<'_, W, D>,
+    at: u64,
 ) -> Result<Vec<u8>, NoMemory> {
     let mut text = Vec::new(alloc);
-    for (i, card) in cards.iter().enumerate() {
-        if let Some(line) = lines.line(i) {
-            let told = line_text(alloc, card, line)?;
+    for told in aside {
+        text.extend_from_slice(told.as_slice())?;
+    }
+    for i in 0..seen.lines.len() {
+        put_state(alloc, desk, seen, i, at, &mut text)?;
+    }
+    text.extend_from_slice(b"ok\n")?;
+    Ok(text)
+}
+
+/// Adds the lines that tell what is on on line i.
+fn put_state<W: LineWire + Drop, D: Disk>(
+    alloc: Global,
+    desk: &Desk,
+    seen: &Seen<'_, W, D>,
+    i: usize,
+    at: u64,
+    text: &mut Vec<u8>,
+) -> Result<(), NoMemory> {
+    if let Some(line) = seen.lines.line(i)
+        && let Some(state) = desk.state(i, view_of(line, first_job(seen.keeper, i)))
+    {
+        put_happened(alloc, desk, i, at, state.rung, text)?;
+        put_happened(alloc, desk, i, at, state.job, text)?;
+    }
+    Ok(())
+}
+
+/// Adds the line of what happens on line i, where something does.
+fn put_happened(
+    alloc: Global,
+    desk: &Desk,
+    i: usize,
+    at: u64,
+    happened: Option<Happened>,
+    text: &mut Vec<u8>,
+) -> Result<(), NoMemory> {
+    if let Some(happened) = happened
+        && let Some(name) = desk.name(i)
+    {
+        put_event(alloc, name, at, happened.shown(), text)?;
+    }
+    Ok(())
+}
+
+/// Adds the line of what happens on the line of this name.
+fn put_event(
+    alloc: Global,
+    line: &str,
+    at: u64,
+    what: What<'_>,
+    text: &mut Vec<u8>,
+) -> Result<(), NoMemory> {
+    let told = write_event(alloc, &Event { line, at, what })?;
+    text.extend_from_slice(told.as_slice())?;
+    Ok(())
+}
+
+/// A line for each line of the configuration, and `ok`.
+pub(crate) fn status_text<W: SocketLegs + Drop, D: Disk>(
+    alloc: Global,
+    desk: &Desk,
+    seen: &Seen<'_, W, D>,
+) -> Result<Vec<u8>, NoMemory> {
+    let mut text = Vec::new(alloc);
+    for i in 0..seen.lines.len() {
+        if let Some(line) = seen.lines.line(i) {
+            let view = view_of(line, first_job(seen.keeper, i));
+            let told = line_text(alloc, desk, i, line, view)?;
             text.extend_from_slice(told.as_bytes())?;
         }
     }
@@ -75,46 +156,56 @@ pub(crate) fn status_text(
     Ok(text)
 }
 
-/// How a line is.
-fn line_text(alloc: Global, card: &Card, line: &ServedLine) -> Result<String, AllocError> {
-    let name = card.name();
-    let calling = calling_text(alloc, line)?;
-    let called = called_text(alloc, line)?;
-    let calls = card.calls();
-    let pages = card.pages();
+/// How line i is.
+fn line_text<W: SocketLegs + Drop>(
+    alloc: Global,
+    desk: &Desk,
+    i: usize,
+    line: &Line<W>,
+    view: LineView,
+) -> Result<String, AllocError> {
+    let name = desk.name(i).unwrap_or("");
+    let calling = leg_text(alloc, "call-", view.call)?;
+    let called = leg_text(alloc, "job-", view.sending)?;
+    let counts = desk.counts(i);
+    let calls = counts.calls;
+    let pages = counts.pages;
     let waiting = line.waiting();
     let failures = failures_of(line).sum();
+    let tags = desk.tags_on(i, view);
+    let calling_tag = tag_text(alloc, " calling_tag=", tags.calling)?;
+    let called_tag = tag_text(alloc, " called_tag=", tags.called)?;
     format!(in alloc;
-        "line {name} calling {calling} called {called} calls {calls} pages {pages} waiting {waiting} failures {failures}\n"
+        "line {name} calling {calling} called {called} calls {calls} pages {pages} waiting {waiting} failures {failures}{calling_tag}{called_tag}\n"
     )
 }
 
-/// How the calling leg is: the call that is on there.
-fn calling_text(alloc: Global, line: &ServedLine) -> Result<String, AllocError> {
-    match line.call() {
-        Some(call) => format!(in alloc; "call-{call}"),
+/// How a leg is: the call that is on there, or the call whose pages are sent there.
+fn leg_text(alloc: Global, what: &str, call: Option<u32>) -> Result<String, AllocError> {
+    match call {
+        Some(call) => format!(in alloc; "{what}{call}"),
         None => String::from_str(alloc, "idle"),
     }
 }
 
-/// How the called leg is: the call whose pages are sent there.
-fn called_text(alloc: Global, line: &ServedLine) -> Result<String, AllocError> {
-    match line.sending() {
-        Some(job) => {
-            let call = job.call();
-            format!(in alloc; "job-{call}")
+/// A tag, where there is one.
+fn tag_text(alloc: Global, what: &str, tag: Option<Tag>) -> Result<String, AllocError> {
+    match tag {
+        Some(tag) => {
+            let text = tag.text();
+            format!(in alloc; "{what}{text}")
         }
-        None => String::from_str(alloc, "idle"),
+        None => Ok(String::new(alloc)),
     }
 }
 
 /// Whether a line has no call and no job.
-pub(crate) fn is_idle(line: &ServedLine) -> bool {
+pub(crate) fn is_idle<W: LineWire + Drop>(line: &Line<W>) -> bool {
     line.call().is_none() && line.sending().is_none() && line.waiting() == 0
 }
 
 /// What failed on a line.
-pub(crate) fn failures_of(line: &ServedLine) -> Failures {
+pub(crate) fn failures_of<W: SocketLegs + Drop>(line: &Line<W>) -> Failures {
     let calling = counts_of(line, Side::Calling);
     let called = counts_of(line, Side::Called);
     Failures {
@@ -125,18 +216,13 @@ pub(crate) fn failures_of(line: &ServedLine) -> Failures {
     }
 }
 
-/// The socket of a leg of a line.
-pub(crate) fn leg_of(line: &ServedLine, side: Side) -> &LegSocket {
-    line.wire().wire().wire().leg(side)
-}
-
 /// What went over a leg of a line.
-pub(crate) fn counts_of(line: &ServedLine, side: Side) -> LegCounts {
-    leg_of(line, side).counts()
+fn counts_of<W: SocketLegs + Drop>(line: &Line<W>, side: Side) -> LegCounts {
+    line.wire().leg(side).counts()
 }
 
 /// The counts, with what the lines count added.
-pub(crate) fn counters_of(counters: Counters, lines: &ServedLines) -> Counters {
+pub(crate) fn counters_of<W: SocketLegs + Drop>(counters: Counters, lines: &Lines<W>) -> Counters {
     let mut sums = counters;
     for i in 0..lines.len() {
         if let Some(line) = lines.line(i) {
@@ -147,7 +233,7 @@ pub(crate) fn counters_of(counters: Counters, lines: &ServedLines) -> Counters {
 }
 
 /// Adds what a line counts.
-fn add_line(sums: &mut Counters, line: &ServedLine) {
+fn add_line<W: SocketLegs + Drop>(sums: &mut Counters, line: &Line<W>) {
     let under_way = if line.sending().is_some() { 1 } else { 0 };
     let waiting = (line.waiting() as u64).saturating_add(under_way);
     sums.jobs_waiting = sums.jobs_waiting.saturating_add(waiting);

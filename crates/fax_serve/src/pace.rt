@@ -1,40 +1,27 @@
 //! What gives the orders: the clock, and those who say words.
-ghost use Rattle.std.specs.Prelude.{◌≡◌, ◌-◌, nat_lt, if◌then◌else◌};
+ghost use Rattle.std.specs.Prelude.{◌≡◌, ◌-◌, [], nat_lt, IfOk, None, Some, if◌then◌else◌};
+ghost use Rattle.fax_serve.specs.Desking.{GivesOrder, given_by};
 ghost use Rattle.fax_shelf.specs.SpoolKeeping.{IsUnchanged};
 
-mod asking;
+mod telling;
+mod words;
 
-use crate::answers::{
-    answer_text, counters_of, counts_of, is_idle, leg_of, report_text, status_text,
-};
-use crate::card::Card;
+use crate::answers::is_idle;
 use crate::clock::Stopwatch;
 use crate::keeper::SpoolKeeper;
-use crate::legs::{hang_up_answer, settle_legs};
-use crate::orders::{Ordered, Ringing};
-use crate::questions::HeardTime;
 use crate::schedule::Schedule;
-use crate::sockets::{ServedLine, ServedLines};
-use crate::state::state_text;
-use crate::stop::Stop;
-use crate::tags::{is_restored, job_tag};
+use crate::sockets::SocketLegs;
 use crate::telling::Teller;
-use crate::watch::{Watch, asks, wake_legs};
-use fax_bits::NoMemory;
-use fax_clients::{Asker, Clients};
-use fax_control::{Answer, Heard, Leg, Refusal, Word, read_word};
-use fax_events::{What, write_metrics};
-use fax_gateway::{Kept, Side};
-use fax_hold::HoldingWire;
-use fax_jobs::Report;
-use fax_legs::UdpWire;
-use fax_line::{Answered, Order, Pace, SLOTS, SlotEnd};
-use fax_repeat::RepeatingWire;
-use fax_shelf::Shelf;
-use fax_spool::WaitingPage;
+use crate::watch::Watch;
+use fax_clients::Clients;
+use fax_desk::{Desk, Tag};
+use fax_gateway::Kept;
+use fax_hold::LineWire;
+use fax_line::{Answered, Lines, Order, Pace, SLOTS, SlotEnd};
 use sqlite_disk::Disk;
-use std::alloc::Global;
+use std::alloc::{AllocError, Global};
 use std::io::{Read, Write};
+use std::marker::Model;
 use std::rt::Clock;
 
 /// A turn that is so many milliseconds late is told.
@@ -59,7 +46,7 @@ const MOST_QUIET_MS: u64 = 9;
 /// The most words and wake-ups between two turns.
 const MOST_WAKES: u32 = 100_000;
 
-/// The clock and the clients.
+/// The clock and the clients, and the desk at which their words come in.
 #[derive(Drop)]
 pub struct RealPace<'a, C: Clock, I: Read + Drop, O: Write + Drop> {
     alloc: Global,
@@ -73,16 +60,9 @@ pub struct RealPace<'a, C: Clock, I: Read + Drop, O: Write + Drop> {
     turned: Option<usize>,
     /// From which moment on a late turn is told again.
     late_from: u64,
-    stop: Stop,
-    stop_ms: u64,
-    /// What was ordered of a line and is not told of yet, and what the line answered.
-    ordered: Option<Ordered>,
-    answered: Option<(usize, Option<Answered>)>,
-    /// The time of questions.
-    heard: HeardTime,
+    desk: Desk,
     /// The lines whose questions are to be looked at: one is to be asked, or its time is over.
     to_ask: Vec<usize>,
-    cards: Vec<Card>,
     teller: Teller<I, O>,
     /// What tells which legs have datagrams, where the system gives it.
     watch: Option<Watch>,
@@ -92,20 +72,35 @@ pub struct RealPace<'a, C: Clock, I: Read + Drop, O: Write + Drop> {
     has_looked: bool,
     /// When the pages of a slot were handed to the spool, in microseconds, where that is to be told.
     put_from: Option<u64>,
+    /// The lines whose pages could not be kept in the turn that was ordered.
+    not_kept: Vec<usize>,
+}
+
+/// Contracts see what the desk waits to be told of.
+impl<'a, C: Clock, I: Read + Drop, O: Write + Drop> Model for RealPace<'a, C, I, O> {
+    ghost use Rattle.fax_serve.specs.Desking.{PaceValue};
+
+    ghost Value = { PaceValue };
+
+    ghost view = { λ p. record { waits = p.desk.waits } };
 }
 
 impl<'a, C: Clock, I: Read + Drop, O: Write + Drop> RealPace<'a, C, I, O> {
-    /// The time begins now. A stop takes so many milliseconds at most.
+    /// The time begins now, and nothing was ordered.
     pub(crate) fn new(
         alloc: Global,
         clock: Stopwatch<'a, C>,
         clients: Clients<I, O>,
-        cards: Vec<Card>,
-        stop_ms: u64,
+        desk: Desk,
+        lines: usize,
         watch: Option<Watch>,
-    ) -> Self {
-        let count = cards.len();
-        RealPace {
+    ) -> Result<Self, AllocError>
+        requires { desk.waits ≡ None }
+        ensures { IfOk result (λ pace. pace.waits ≡ None) }
+    {
+        let mut not_kept = Vec::new(alloc);
+        not_kept.reserve(lines / SLOTS + 1)?;
+        Ok(RealPace {
             alloc,
             clock,
             now: 0,
@@ -113,142 +108,26 @@ impl<'a, C: Clock, I: Read + Drop, O: Write + Drop> RealPace<'a, C, I, O> {
             turns: 0,
             turned: None,
             late_from: 0,
-            stop: Stop::No,
-            stop_ms,
-            ordered: None,
-            answered: None,
-            heard: HeardTime::new(),
+            desk,
             to_ask: Vec::new(alloc),
-            cards,
-            teller: Teller::new(alloc, clients, count),
+            teller: Teller::new(alloc, clients, lines)?,
             watch,
             woken: Vec::new(alloc),
             has_looked: false,
             put_from: None,
-        }
-    }
-
-    /// Tells what the spool was found to hold that is not sent: so many damaged records, pages whose texts mean none, and of the
-    /// pages that waited those of lines that are not served.
-    pub(crate) fn tell_aside(&mut self, damaged: usize, pages: &[WaitingPage], shelves: &[Shelf]) {
-        self.teller.counters.records_damaged = damaged as u64;
-        for shelf in shelves {
-            for (call, number) in shelf.aside() {
-                self.teller.tell_aside(shelf.line(), *call, *number);
-            }
-        }
-        for page in pages {
-            if let Ok(line) = std::str::from_utf8(page.line.as_slice())
-                && self.find(line).is_none()
-            {
-                self.teller.tell_aside(line, page.call, page.number);
-            }
-        }
-    }
-
-    /// Tells the pages that lines of a slot confirmed in its turn and that were not kept.
-    fn tell_lost(&mut self, slot: usize, end: &SlotEnd, lines: &ServedLines) {
-        let rounds = lines.len() / SLOTS + 1;
-        for round in 0..rounds {
-            let i = round.saturating_mul(SLOTS).saturating_add(slot);
-            if let Some(kept) = kept_in(lines, i)
-                && !end.is_kept(i)
-            {
-                self.tell_lost_page(i, kept);
-            }
-        }
-    }
-
-    /// Tells that a page of line i was not kept.
-    fn tell_lost_page(&mut self, i: usize, kept: Kept) {
-        if let Some(card) = self.cards.get(i) {
-            self.teller
-                .tell_not_kept(card.name(), kept.call, card.tag(kept.call), self.now);
-        }
+            not_kept,
+        })
     }
 
     /// Reads the clock. Where it does not tell, the moment is the one before.
-    fn read_clock(&mut self) {
+    fn read_clock(&mut self)
+        ensures { self.new ≡ self.old }
+    {
         if let Some(now) = self.clock.now() {
             self.now = now;
         }
         let is_heard = self.teller.clients.tell_events();
-        self.heard.go_on(self.now, is_heard);
-    }
-
-    /// Tells what the turn that was ordered came to, of each line that was not left at rest in it.
-    fn tell_turned<D: Disk>(&mut self, lines: &ServedLines, keeper: Option<&SpoolKeeper<D>>) {
-        let Some(slot) = self.turned.take() else {
-            return;
-        };
-        let looks = self.looks(slot);
-        let rounds = lines.len() / SLOTS + 1;
-        for round in 0..rounds {
-            let i = round.saturating_mul(SLOTS).saturating_add(slot);
-            let has_turned = lines.has_turned(i);
-            if has_turned || looks {
-                self.tell_line(i, has_turned, looks, lines, keeper);
-            }
-            self.note_question(i, has_turned || looks, lines);
-        }
-    }
-
-    /// Tells what the turn of a line came to, where it had one. Where something may come over its legs still, and where they
-    /// are to be asked, it is to be woken.
-    fn tell_line<D: Disk>(
-        &mut self,
-        i: usize,
-        has_turned: bool,
-        looks: bool,
-        lines: &ServedLines,
-        keeper: Option<&SpoolKeeper<D>>,
-    ) {
-        let Some(line) = lines.line(i) else {
-            return;
-        };
-        if has_turned && let Some(card) = self.cards.get_mut(i) {
-            self.teller.tell_turn(card, line, self.now);
-            self.tell_jobs(i, line, keeper);
-            settle_legs(line);
-        }
-        if looks {
-            wake_legs(line);
-        }
-        if asks(line) {
-            let _ = self.woken.push(i);
-        }
-    }
-
-    /// Tells the job of a line that ended in its last turn, and the one whose call began.
-    fn tell_jobs<D: Disk>(&mut self, i: usize, line: &ServedLine, keeper: Option<&SpoolKeeper<D>>) {
-        let turned = line.turned();
-        if let Some(report) = turned.report {
-            self.tell_job(i, report, keeper);
-        }
-        if turned.dialled.is_some()
-            && let Some(card) = self.cards.get_mut(i)
-        {
-            card.dial(counts_of(line, Side::Called).received);
-        }
-        if let Some(call) = turned.dialled
-            && let Some(card) = self.cards.get(i)
-        {
-            let tag = job_tag(keeper, card, i, call);
-            self.teller
-                .tell(card.name(), self.now, What::Dial(call, tag));
-        }
-    }
-
-    /// Tells a job of line i that ended.
-    fn tell_job<D: Disk>(&mut self, i: usize, report: Report, keeper: Option<&SpoolKeeper<D>>) {
-        if let Some(card) = self.cards.get_mut(i) {
-            card.end_job(is_restored(keeper, i));
-        }
-        let Some(card) = self.cards.get(i) else {
-            return;
-        };
-        let tag = job_tag(keeper, card, i, report.call);
-        self.teller.tell_job(card, report, tag, self.now);
+        self.desk.go_on(self.now, is_heard);
     }
 
     /// Whether the sockets of a slot's lines are asked in its next turn, whatever the system told.
@@ -258,15 +137,13 @@ impl<'a, C: Clock, I: Read + Drop, O: Write + Drop> RealPace<'a, C, I, O> {
     }
 
     /// Whether the run ends.
-    fn is_over(&mut self, lines: &ServedLines) -> bool {
-        if self.stop == Stop::No && self.teller.clients.have_ended() {
-            self.stop = self.stop.asked(self.now, self.stop_ms);
+    fn is_over<W: LineWire + Drop>(&mut self, lines: &Lines<W>) -> bool
+        ensures { self.new ≡ self.old }
+    {
+        if !self.desk.is_stopping() && self.teller.clients.have_ended() {
+            self.desk.stop(self.now);
         }
-        match self.stop {
-            Stop::No => false,
-            Stop::At(moment) => self.now >= moment || are_idle(lines),
-            Stop::Now => true,
-        }
+        self.desk.is_stopping() && self.desk.is_over(self.now, are_idle(lines))
     }
 
     /// Whether the clients are asked now.
@@ -275,7 +152,7 @@ impl<'a, C: Clock, I: Read + Drop, O: Write + Drop> RealPace<'a, C, I, O> {
     }
 
     /// For how many milliseconds words are waited for: until the next turn that finds something to do.
-    fn most_waited(&self, lines: &ServedLines) -> u64 {
+    fn most_waited<W: LineWire + Drop>(&self, lines: &Lines<W>) -> u64 {
         let left = self.schedule.left(self.now);
         let quiet = if left == 0 {
             0
@@ -285,34 +162,9 @@ impl<'a, C: Clock, I: Read + Drop, O: Write + Drop> RealPace<'a, C, I, O> {
         left.saturating_add(quiet).min(1_000)
     }
 
-    /// Waits for a word, for so many milliseconds at most. It answers what the word orders of a line.
-    fn wait<D: Disk>(
-        &mut self,
-        most: u64,
-        lines: &ServedLines,
-        keeper: Option<&SpoolKeeper<D>>,
-    ) -> Option<Order> {
-        self.teller.clients.wait(most.min(1_000) as i32);
-        self.read_clock();
-        let (asker, heard) = self.teller.clients.hear()?;
-        match heard {
-            Heard::TooLong => {
-                self.answer(asker, Answer::Refused(Refusal::TooLong));
-                None
-            }
-            Heard::Line(octets) => match read_word(octets.as_slice()) {
-                Some(word) => self.obey(asker, word, lines, keeper),
-                None => {
-                    self.answer(asker, Answer::Refused(Refusal::NoWord));
-                    None
-                }
-            },
-        }
-    }
-
     /// For how many milliseconds, behind those that are left until the next turn, all lines are left at rest by the turns that
     /// are due.
-    fn quiet_ms(&self, left: u64, lines: &ServedLines) -> u64 {
+    fn quiet_ms<W: LineWire + Drop>(&self, left: u64, lines: &Lines<W>) -> u64 {
         let due = self.now.saturating_add(left);
         for ms in 0..MOST_QUIET_MS {
             let slot = (lines.slot() + ms as usize) % SLOTS;
@@ -325,8 +177,33 @@ impl<'a, C: Clock, I: Read + Drop, O: Write + Drop> RealPace<'a, C, I, O> {
         MOST_QUIET_MS
     }
 
+    /// What clients order until the next turn is due. It answers the first order of theirs.
+    fn hear_words<W: SocketLegs + Drop, D: Disk>(
+        &mut self,
+        lines: &Lines<W>,
+        keeper: Option<&SpoolKeeper<D>>,
+    ) -> Option<Order>
+        requires { self.old.waits ≡ None }
+        ensures { GivesOrder result self.old self.new }
+    {
+        for _ in 0..MOST_WAKES {
+            let most = self.most_waited(lines);
+            if self.asks_clients()
+                && let Some(order) = self.wait(most, lines, keeper)
+            {
+                return Some(order);
+            }
+            if self.schedule.left(self.now) == 0 || self.is_over(lines) {
+                return None;
+            }
+        }
+        None
+    }
+
     /// Looks which legs have datagrams, once before each turn.
-    fn look(&mut self, lines: &ServedLines) {
+    fn look<W: SocketLegs + Drop>(&mut self, lines: &Lines<W>)
+        ensures { self.new ≡ self.old }
+    {
         self.has_looked = true;
         if let Some(watch) = &mut self.watch {
             watch.look(lines, &mut self.woken);
@@ -334,7 +211,10 @@ impl<'a, C: Clock, I: Read + Drop, O: Write + Drop> RealPace<'a, C, I, O> {
     }
 
     /// The turn of the next slot, behind the lines that are to be woken.
-    fn turn_or_wake(&mut self, lines: &ServedLines) -> Order {
+    fn turn_or_wake<W: LineWire + Drop>(&mut self, lines: &Lines<W>) -> Order
+        ensures same { self.new ≡ self.old }
+        ensures no_ask { given_by (Some result) ≡ [] }
+    {
         match self.woken.pop() {
             Some(line) => Order::Wake { line },
             None => self.turn(lines),
@@ -342,7 +222,10 @@ impl<'a, C: Clock, I: Read + Drop, O: Write + Drop> RealPace<'a, C, I, O> {
     }
 
     /// The turn of the next slot.
-    fn turn(&mut self, lines: &ServedLines) -> Order {
+    fn turn<W: LineWire + Drop>(&mut self, lines: &Lines<W>) -> Order
+        ensures same { self.new ≡ self.old }
+        ensures no_ask { given_by (Some result) ≡ [] }
+    {
         let late = self.schedule.begin(self.now);
         self.turns = self.turns.saturating_add(1);
         self.has_looked = false;
@@ -356,208 +239,33 @@ impl<'a, C: Clock, I: Read + Drop, O: Write + Drop> RealPace<'a, C, I, O> {
         }
     }
 
-    /// Counts a turn that is late, and tells it of the first line of its slot, once a second at most.
-    fn tell_late(&mut self, slot: usize, late: u64) {
-        let counters = &mut self.teller.counters;
-        counters.turns_late = counters.turns_late.saturating_add(1);
-        counters.skipped_ms = self.schedule.skipped();
-        if self.now < self.late_from {
-            return;
-        }
-        if let Some(card) = self.cards.get(slot) {
-            self.late_from = self.now.saturating_add(BETWEEN_LATE_MS);
-            self.teller.tell(card.name(), self.now, What::Late(late));
-        }
-    }
-
-    /// Does what a word says. It answers what the word orders of a line.
-    fn obey<D: Disk>(
+    /// What is to be done next, where nothing waits at the desk.
+    fn next_order<W: SocketLegs + Drop, D: Disk>(
         &mut self,
-        asker: Asker,
-        word: Word<'_>,
-        lines: &ServedLines,
+        lines: &Lines<W>,
         keeper: Option<&SpoolKeeper<D>>,
-    ) -> Option<Order> {
-        match word {
-            Word::Ring(name, tag) => return self.ring(asker, name, tag, lines),
-            Word::Peer(name, leg, address) => {
-                return self.say_peer(asker, name, leg, address, lines);
-            }
-            Word::Refuse(name, cause) => return self.refuse(asker, name, cause, lines),
-            Word::HangUp(name, leg) => {
-                let answer = self.hang_up(name, leg, lines);
-                self.answer(asker, answer);
-            }
-            Word::Report(name) => self.report(asker, name, lines),
-            Word::Status => {
-                let text = status_text(self.alloc, self.cards.as_slice(), lines);
-                self.put(asker, text);
-            }
-            Word::Metrics => self.tell_metrics(asker, lines, keeper),
-            Word::Events => self.want_events(asker, lines, keeper),
-            Word::Stop => {
-                self.stop = self.stop.asked(self.now, self.stop_ms);
-                self.answer(asker, Answer::Done);
-            }
+    ) -> Option<Order>
+        requires { self.old.waits ≡ None }
+        ensures { GivesOrder result self.old self.new }
+    {
+        if let Some(order) = self.look_at_questions(lines, keeper) {
+            return Some(order);
         }
-        None
-    }
-
-    /// A line is to ring: it answers the order, where the line can.
-    fn ring(
-        &mut self,
-        asker: Asker,
-        name: &str,
-        tag: Option<&str>,
-        lines: &ServedLines,
-    ) -> Option<Order> {
-        match self.ring_of(asker, name, tag, lines) {
-            Ok((i, ringing)) => Some(self.order(i, Ordered::Ring(ringing))),
-            Err(refusal) => self.refuse_word(asker, refusal),
+        if self.has_looked {
+            return Some(self.turn_or_wake(lines));
         }
-    }
-
-    /// This is ordered of line i. It answers the order.
-    fn order(&mut self, i: usize, ordered: Ordered) -> Order {
-        let what = ordered.asked();
-        self.ordered = Some(ordered);
-        Order::Ask {
-            line: i,
-            now: self.now,
-            what,
+        self.read_clock();
+        if self.is_over(lines) {
+            return None;
         }
-    }
-
-    /// A word is refused, and orders nothing.
-    fn refuse_word(&mut self, asker: Asker, refusal: Refusal) -> Option<Order> {
-        self.answer(asker, Answer::Refused(refusal));
-        None
-    }
-
-    /// The line that is to ring, and who asked for it.
-    fn ring_of(
-        &self,
-        asker: Asker,
-        name: &str,
-        tag: Option<&str>,
-        lines: &ServedLines,
-    ) -> Result<(usize, Ringing), Refusal> {
-        if !self.stop.takes_rings() {
-            return Err(Refusal::Stopping);
+        if let Some(order) = self.hear_words(lines, keeper) {
+            return Some(order);
         }
-        let Some(i) = self.find(name) else {
-            return Err(Refusal::NoLine);
-        };
-        let Some(line) = lines.line(i) else {
-            return Err(Refusal::NoLine);
-        };
-        if !leg_of(line, Side::Calling).has_peer() {
-            return Err(Refusal::NoPeer);
+        if self.is_over(lines) {
+            return None;
         }
-        let tag = match tag {
-            None => None,
-            Some(tag) => match String::from_str(self.alloc, tag) {
-                Ok(tag) => Some(tag),
-                Err(_) => return Err(Refusal::NoMemory),
-            },
-        };
-        let heard = counts_of(line, Side::Calling).received;
-        Ok((i, Ringing { asker, tag, heard }))
-    }
-
-    /// The line of this name.
-    fn find(&self, name: &str) -> Option<usize> {
-        self.cards.iter().position(|card| card.name() == name)
-    }
-
-    /// The peer's call on a leg is gone.
-    fn hang_up(&mut self, name: &str, leg: Leg, lines: &ServedLines) -> Answer {
-        if let Some(i) = self.find(name)
-            && let Some(line) = lines.line(i)
-        {
-            let _ = self.woken.push(i);
-            hang_up_answer(line, leg)
-        } else {
-            Answer::Refused(Refusal::NoLine)
-        }
-    }
-
-    /// The last reports of a line are told.
-    fn report(&mut self, asker: Asker, name: &str, lines: &ServedLines) {
-        if let Some(i) = self.find(name)
-            && let Some(card) = self.cards.get(i)
-            && let Some(line) = lines.line(i)
-        {
-            let text = report_text(self.alloc, card, line, self.now);
-            self.put(asker, text);
-        } else {
-            self.answer(asker, Answer::Refused(Refusal::NoLine));
-        }
-    }
-
-    /// The counts are told.
-    fn tell_metrics<D: Disk>(
-        &mut self,
-        asker: Asker,
-        lines: &ServedLines,
-        keeper: Option<&SpoolKeeper<D>>,
-    ) {
-        let mut counters = counters_of(self.teller.counters(), lines);
-        if let Some(keeper) = keeper {
-            counters.pages_kept = keeper.keeping.kept();
-        }
-        let text = match write_metrics(self.alloc, &counters) {
-            Ok(text) => Ok(text.into_bytes()),
-            Err(NoMemory) => Err(NoMemory),
-        };
-        self.put(asker, text);
-    }
-
-    /// From now on a client is told events, behind how the lines are. The calls that lines ask for are asked of it.
-    fn want_events<D: Disk>(
-        &mut self,
-        asker: Asker,
-        lines: &ServedLines,
-        keeper: Option<&SpoolKeeper<D>>,
-    ) {
-        let text = match self.teller.clients.want_events(asker) {
-            Ok(()) => self.state(lines, keeper),
-            Err(NoMemory) => Err(NoMemory),
-        };
-        self.put(asker, text);
-    }
-
-    /// How the lines are, for a client that is told events from now on: the questions are open that it is told.
-    fn state<D: Disk>(
-        &mut self,
-        lines: &ServedLines,
-        keeper: Option<&SpoolKeeper<D>>,
-    ) -> Result<Vec<u8>, NoMemory> {
-        self.open_questions(lines);
-        state_text(
-            self.alloc,
-            self.teller.aside(),
-            self.cards.as_slice(),
-            lines,
-            keeper,
-            self.now,
-            self.heard.heard(),
-        )
-    }
-
-    /// A client is answered by a line. Without memory for it there is no answer.
-    fn answer(&mut self, asker: Asker, answer: Answer) {
-        if let Ok(text) = answer_text(self.alloc, answer) {
-            self.teller.clients.answer(asker, text);
-        }
-    }
-
-    /// A client is answered by a text, or told that memory lacks for it.
-    fn put(&mut self, asker: Asker, text: Result<Vec<u8>, NoMemory>) {
-        match text {
-            Ok(text) => self.teller.clients.answer(asker, text),
-            Err(NoMemory) => self.answer(asker, Answer::Refused(Refusal::NoMemory)),
-        }
+        self.look(lines);
+        Some(self.turn_or_wake(lines))
     }
 
     /// Writes what clients are still to be told, for a while.
@@ -580,19 +288,35 @@ fn moment_of(now: u64, late: u64) -> u64
 }
 
 /// The page that line i confirmed in the last turn of its slot.
-fn kept_in(lines: &ServedLines, i: usize) -> Option<Kept> {
+fn kept_in<W: LineWire + Drop>(lines: &Lines<W>, i: usize) -> Option<Kept> {
     match lines.line(i) {
         Some(line) if lines.has_turned(i) => line.turned().kept,
         Some(_) | None => None,
     }
 }
 
-/// The tags of the calls in which lines of a slot confirmed pages in its last turn are noted. It answers whether one did.
-fn set_tags<D: Disk>(
-    keeper: &mut SpoolKeeper<D>,
-    cards: &[Card],
+/// Notes the lines of a slot whose pages were confirmed in its turn and not kept.
+fn note_lost<W: LineWire + Drop>(
+    not_kept: &mut Vec<usize>,
     slot: usize,
-    lines: &ServedLines,
+    end: &SlotEnd,
+    lines: &Lines<W>,
+) {
+    let rounds = lines.len() / SLOTS + 1;
+    for round in 0..rounds {
+        let i = round.saturating_mul(SLOTS).saturating_add(slot);
+        if kept_in(lines, i).is_some() && !end.is_kept(i) {
+            let _ = not_kept.push(i);
+        }
+    }
+}
+
+/// The tags of the calls in which lines of a slot confirmed pages in its last turn are noted. It answers whether one did.
+fn set_tags<W: LineWire + Drop, D: Disk>(
+    keeper: &mut SpoolKeeper<D>,
+    desk: &Desk,
+    slot: usize,
+    lines: &Lines<W>,
 ) -> bool
     ensures { IsUnchanged keeper.old.keeping.shelves.items keeper.new.keeping.shelves.items keeper.old.keeping.spool keeper.new.keeping.spool }
 {
@@ -602,31 +326,23 @@ fn set_tags<D: Disk>(
         let i = round.saturating_mul(SLOTS).saturating_add(slot);
         if let Some(kept) = kept_in(lines, i) {
             confirms = true;
-            set_tag(keeper, i, tag_of(cards, i, kept.call));
+            set_tag(keeper, i, desk.tag(i, kept.call));
         }
     }
     confirms
 }
 
 /// The tag of the call of line i is noted, where it has one.
-fn set_tag<D: Disk>(keeper: &mut SpoolKeeper<D>, i: usize, tag: Option<&str>)
+fn set_tag<D: Disk>(keeper: &mut SpoolKeeper<D>, i: usize, tag: Option<Tag>)
     ensures { IsUnchanged keeper.old.keeping.shelves.items keeper.new.keeping.shelves.items keeper.old.keeping.spool keeper.new.keeping.spool }
 {
     if let Some(tag) = tag {
-        keeper.set_tag(i, tag);
-    }
-}
-
-/// The tag of a call of line i.
-fn tag_of(cards: &[Card], i: usize, call: u32) -> Option<&str> {
-    match cards.get(i) {
-        Some(card) => card.tag(call),
-        None => None,
+        keeper.set_tag(i, tag.text());
     }
 }
 
 /// Whether the turn of a slot at this moment would leave all of its lines at rest.
-fn is_quiet(slot: usize, moment: u64, lines: &ServedLines) -> bool {
+fn is_quiet<W: LineWire + Drop>(slot: usize, moment: u64, lines: &Lines<W>) -> bool {
     let rounds = lines.len() / SLOTS + 1;
     for round in 0..rounds {
         let i = round.saturating_mul(SLOTS).saturating_add(slot);
@@ -638,7 +354,7 @@ fn is_quiet(slot: usize, moment: u64, lines: &ServedLines) -> bool {
 }
 
 /// Whether no line has a call or a job.
-fn are_idle(lines: &ServedLines) -> bool {
+fn are_idle<W: LineWire + Drop>(lines: &Lines<W>) -> bool {
     for i in 0..lines.len() {
         if let Some(line) = lines.line(i)
             && !is_idle(line)
@@ -649,68 +365,56 @@ fn are_idle(lines: &ServedLines) -> bool {
     true
 }
 
-/// What is asked and answered is not told of a clock and sockets.
-impl<'a, C: Clock, I: Read + Drop, O: Write + Drop, D: Disk> Pace<
-    HoldingWire<RepeatingWire<UdpWire>>,
+impl<'a, C: Clock, I: Read + Drop, O: Write + Drop, W: SocketLegs + Drop, D: Disk> Pace<
+    W,
     SpoolKeeper<D>,
 > for RealPace<'a, C, I, O> {
     ghost use Rattle.std.specs.Prelude.{None};
+    ghost use Rattle.fax_serve.specs.Desking.{GivesOrder, Hears, SeesNothing};
 
     ghost words = { λ _. None };
 
-    fn next(&mut self, lines: &ServedLines, keeper: Option<&SpoolKeeper<D>>) -> Option<Order> {
-        self.tell_answered(lines, keeper);
-        if let Some(order) = self.look_at_questions(lines, keeper) {
-            return Some(order);
+    ghost gives = { λ order old new. GivesOrder order old new };
+
+    ghost hears = { λ line answer old new. Hears answer old new };
+
+    ghost sees = { λ old new. SeesNothing old new };
+
+    fn next(&mut self, lines: &Lines<W>, keeper: Option<&SpoolKeeper<D>>) -> Option<Order> {
+        if !self.desk.is_free() {
+            self.tell_done(None);
         }
-        if self.has_looked {
-            return Some(self.turn_or_wake(lines));
-        }
-        self.read_clock();
-        for _ in 0..MOST_WAKES {
-            if self.is_over(lines) {
-                return None;
-            }
-            let most = self.most_waited(lines);
-            if self.asks_clients()
-                && let Some(order) = self.wait(most, lines, keeper)
-            {
-                return Some(order);
-            }
-            if self.schedule.left(self.now) == 0 {
-                break;
-            }
-        }
-        self.look(lines);
-        Some(self.turn_or_wake(lines))
+        self.next_order(lines, keeper)
     }
 
-    fn before_put(&mut self, lines: &ServedLines, keeper: &mut SpoolKeeper<D>) {
+    fn before_put(&mut self, lines: &Lines<W>, keeper: &mut SpoolKeeper<D>) {
+        self.not_kept.clear();
         let Some(slot) = self.turned else {
             return;
         };
         keeper.begin_slot();
-        if set_tags(keeper, self.cards.as_slice(), slot, lines) {
+        if set_tags(keeper, &self.desk, slot, lines) {
             self.put_from = Some(self.clock.micros().unwrap_or(0));
         }
     }
 
-    fn behind_put(&mut self, lines: &ServedLines, end: &SlotEnd) {
+    fn behind_put(&mut self, lines: &Lines<W>, end: &SlotEnd) {
         if let Some(slot) = self.turned
             && let Some(before) = self.put_from.take()
         {
             let behind = self.clock.micros().unwrap_or(0);
             self.teller.count_put(behind.saturating_sub(before));
-            self.tell_lost(slot, end, lines);
+            note_lost(&mut self.not_kept, slot, end, lines);
         }
     }
 
-    fn turned(&mut self, lines: &ServedLines, keeper: Option<&SpoolKeeper<D>>) {
+    fn turned(&mut self, lines: &Lines<W>, keeper: Option<&SpoolKeeper<D>>) {
         self.read_clock();
         self.tell_turned(lines, keeper);
     }
 
     fn done(&mut self, line: usize, answer: Option<Answered>) {
-        self.answered = Some((line, answer));
+        let _ = self.woken.push(line);
+        self.tell_done(answer);
     }
 }

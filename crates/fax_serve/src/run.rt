@@ -1,10 +1,9 @@
 //! A run of `faxgate serve`.
-ghost use Rattle.std.specs.Prelude.{◌≡◌, OnOk, true, false, is_some, length};
+ghost use Rattle.std.specs.Prelude.{◌≡◌, IfOk, None, OnOk, true, false, is_some, length};
 ghost use Rattle.fax_line.specs.Deeds.{AreBegun, AreNew};
 ghost use Rattle.fax_serve.specs.KeptRuns.{RanKept, ServedOver};
 ghost use Rattle.fax_serve.specs.Runs.{ServedAlone};
 
-use crate::card::Card;
 use crate::clock::Stopwatch;
 use crate::control::{close_control, open_control};
 use crate::fault::ServeFault;
@@ -14,6 +13,7 @@ use crate::sockets::{ServedLines, open_lines, open_restored_lines};
 use crate::watch::Watch;
 use fax_clients::Clients;
 use fax_config::{Config, LineConfig};
+use fax_desk::{Card, Desk};
 use fax_hold::Keeper;
 use fax_keep::{Folders, KeptFile};
 use fax_line::{PageToKeep, RunKeeper, serve};
@@ -139,15 +139,17 @@ fn pace_of<'a, N: Net + Clock, I: Read + Drop, O: Write + Drop>(
     config: &Config,
     clients: Clients<I, O>,
     lines: &ServedLines,
-) -> Result<RealPace<'a, N, I, O>, ServeFault> {
-    let cards = cards_of(alloc, config.lines.as_slice())?;
+) -> Result<RealPace<'a, N, I, O>, ServeFault>
+    ensures { IfOk result (λ pace. pace.waits ≡ None) }
+{
+    let stop_ms = u64::from(config.stop_seconds).saturating_mul(SECOND_MS);
+    let desk = desk_of(alloc, config.lines.as_slice(), stop_ms)?;
     let clock = match Stopwatch::new(system) {
         Ok(clock) => clock,
         Err(error) => return Err(ServeFault::Clock(error)),
     };
-    let stop_ms = u64::from(config.stop_seconds).saturating_mul(SECOND_MS);
     let watch = Watch::new(system, alloc, lines).ok();
-    Ok(RealPace::new(alloc, clock, clients, cards, stop_ms, watch))
+    Ok(RealPace::new(alloc, clock, clients, desk, lines.len(), watch)?)
 }
 
 /// Serves lines that are new.
@@ -155,7 +157,8 @@ fn serve_new<C: Clock, I: Read + Drop, O: Write + Drop, S: Start>(
     mut lines: ServedLines,
     pace: &mut RealPace<'_, C, I, O>,
 )
-    requires { AreNew lines.lines }
+    requires new { AreNew lines.lines }
+    requires idle { pace.old.waits ≡ None }
     ensures { ServedAlone (length lines.lines) false }
 {
     let mut keeper: Option<SpoolKeeper<KeptFile<S>>> = None;
@@ -170,6 +173,7 @@ fn serve_restored<C: Clock, I: Read + Drop, O: Write + Drop, S: Start>(
 )
     requires begun { AreBegun lines.lines }
     requires first { lines.slot ≡ 0 }
+    requires idle { pace.old.waits ≡ None }
     ensures alone { ServedAlone (length lines.lines) true }
     ensures kept { RanKept ⟦<SpoolKeeper<KeptFile<S>> as RunKeeper>⟧.is_same ⟦<SpoolKeeper<KeptFile<S>> as Keeper<PageToKeep>>⟧.puts ⟦<SpoolKeeper<KeptFile<S>> as RunKeeper>⟧.notes ⟦<SpoolKeeper<KeptFile<S>> as RunKeeper>⟧.ends lines.lines keeper }
 {
@@ -177,12 +181,15 @@ fn serve_restored<C: Clock, I: Read + Drop, O: Write + Drop, S: Start>(
     serve(&mut lines, &mut keeper, pace);
 }
 
-/// What is kept of the lines.
-fn cards_of(alloc: Global, configs: &[LineConfig]) -> Result<Vec<Card>, ServeFault> {
+/// The desk at which words about these lines come in; a stop takes so many milliseconds at most.
+fn desk_of(alloc: Global, configs: &[LineConfig], stop_ms: u64) -> Result<Desk, ServeFault>
+    ensures { IfOk result (λ desk. desk.waits ≡ None) }
+{
+    let mut names = Vec::new(alloc);
     let mut cards = Vec::new(alloc);
     for config in configs {
-        let card = Card::new(alloc, config.name.as_str(), config.dial_seconds)?;
-        cards.push(card)?;
+        names.push(String::from_str(alloc, config.name.as_str())?)?;
+        cards.push(Card::new(alloc, config.dial_seconds)?)?;
     }
-    Ok(cards)
+    Ok(Desk::new(names, cards, stop_ms))
 }

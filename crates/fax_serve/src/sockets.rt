@@ -6,13 +6,13 @@ ghost use Rattle.fax_line.specs.Actions.{BeginsWith};
 ghost use Rattle.fax_line.specs.Deeds.{AreBegun, AreNew};
 ghost use Rattle.fax_shelf.specs.OnLeg.{HasDoneOn};
 ghost use Rattle.fax_serve.specs.KeptRuns.{AreRestored};
-ghost use Rattle.fax_serve.specs.Openings.{AddsRestored, asks_by};
+ghost use Rattle.fax_serve.specs.Openings.{AddsRestored, settings_by};
 
 use crate::fault::ServeFault;
 use fax_config::{LegConfig, LineConfig, Repeat};
 use fax_control::Leg;
-use fax_gateway::{RestoredCall, Settings};
-use fax_hold::HoldingWire;
+use fax_gateway::{RestoredCall, Settings, Side};
+use fax_hold::{HoldingWire, LineWire};
 use fax_legs::{LegSocket, UdpWire};
 use fax_line::{Line, Lines};
 use fax_pagestore::PackedRows;
@@ -21,15 +21,15 @@ use fax_shelf::{Restored, Shelf, restore_line};
 use fax_spool::WaitingPage;
 use std::alloc::Global;
 use std::io;
-use std::net::Net;
+use std::net::{Net, UdpSocket};
 
 /// The wire of a line that is served.
-pub type ServedWire = HoldingWire<RepeatingWire<UdpWire>>;
+pub type ServedWire = HoldingWire<RepeatingWire<UdpWire<UdpSocket>>>;
 
 /// A line that is served, and all of them.
-pub type ServedLine = Line<HoldingWire<RepeatingWire<UdpWire>>>;
+pub type ServedLine = Line<HoldingWire<RepeatingWire<UdpWire<UdpSocket>>>>;
 
-pub type ServedLines = Lines<HoldingWire<RepeatingWire<UdpWire>>>;
+pub type ServedLines = Lines<HoldingWire<RepeatingWire<UdpWire<UdpSocket>>>>;
 
 /// The most of the packets before its own that a datagram has.
 const MOST_REDUNDANCY: u16 = 8;
@@ -106,7 +106,7 @@ fn open_line<N: Net>(
 ) -> Result<ServedLine, ServeFault>
     ensures begins { IfOk result (λ line. BeginsWith (map call_shown calls.items) line) }
     ensures fresh { IfOk result (λ line. HasDoneOn [] line.holding) }
-    ensures asks { IfOk result (λ line. line.gateway.settings.asks ≡ asks_by config.now) }
+    ensures settings { IfOk result (λ line. line.gateway.settings ≡ settings_by config.now) }
 {
     let wire = open_wire(net, alloc, config)?;
     let wire = RepeatingWire::new(wire, policy_of(config.repeat));
@@ -115,12 +115,16 @@ fn open_line<N: Net>(
 }
 
 /// Opens the sockets of both legs of a line.
-fn open_wire<N: Net>(net: &N, alloc: Global, config: &LineConfig) -> Result<UdpWire, ServeFault> {
-    let calling = match open_leg(net, &config.calling) {
+fn open_wire<N: Net>(
+    net: &N,
+    alloc: Global,
+    config: &LineConfig,
+) -> Result<UdpWire<UdpSocket>, ServeFault> {
+    let calling = match open_leg(net, &config.calling, config.redundancy) {
         Ok(leg) => leg,
         Err(error) => return Err(leg_fault(alloc, config, Leg::Calling, error)),
     };
-    match open_leg(net, &config.called) {
+    match open_leg(net, &config.called, config.redundancy) {
         Ok(called) => Ok(UdpWire::new(calling, called)),
         Err(error) => Err(leg_fault(alloc, config, Leg::Called, error)),
     }
@@ -134,9 +138,34 @@ fn leg_fault(alloc: Global, config: &LineConfig, leg: Leg, error: io::Error) -> 
     }
 }
 
-/// Opens the socket of a leg, and connects it where its peer is known.
-fn open_leg<N: Net>(net: &N, config: &LegConfig) -> io::Result<LegSocket> {
-    let mut leg = LegSocket::new(net.bind_udp(config.local)?)?;
+/// A wire of a line whose legs are sockets.
+pub trait SocketLegs: LineWire {
+    /// The socket of a leg.
+    fn leg(&self, side: Side) -> &LegSocket<UdpSocket>;
+
+    /// Whether nothing goes out on the calling leg, since a page could not be kept.
+    fn is_mute(&self) -> bool;
+}
+
+impl SocketLegs for HoldingWire<RepeatingWire<UdpWire<UdpSocket>>> {
+    fn leg(&self, side: Side) -> &LegSocket<UdpSocket> {
+        self.wire().wire().leg(side)
+    }
+
+    fn is_mute(&self) -> bool {
+        HoldingWire::is_mute(self)
+    }
+}
+
+/// Opens the socket of a leg, and connects it where its peer is known. Where no word says otherwise, its datagrams have so many packets
+/// before their own.
+fn open_leg<N: Net>(
+    net: &N,
+    config: &LegConfig,
+    redundancy: u16,
+) -> io::Result<LegSocket<UdpSocket>> {
+    let redundancy = redundancy.min(MOST_REDUNDANCY) as u8;
+    let mut leg = LegSocket::new(net.bind_udp(config.local)?, redundancy)?;
     if let Some(peer) = config.peer {
         leg.fix_peer(peer)?;
     }
@@ -152,25 +181,19 @@ fn policy_of(repeat: Repeat) -> RepeatPolicy {
     }
 }
 
-/// The settings of a line's gateway, which asks for the calls of its jobs where the configuration gives the called leg no peer. Those
-/// beyond the limits, which no configuration has, would be the defaults.
+/// The settings of a line's gateway, which asks for the calls of its jobs where the configuration gives the called leg no peer. A
+/// datagram of it has as many packets before its own as any call may have: its leg sends those that the call has. A pause beyond
+/// the limits, which no configuration has, reads as the limit.
 fn settings_of(config: &LineConfig) -> Settings
     ensures allowed { AreAllowed result }
-    ensures asks { result.asks ≡ asks_by config.now }
+    ensures settings { result ≡ settings_by config.now }
 {
-    let asks = config.called.peer.is_none();
-    let is_pause = LEAST_PREAMBLE_MS <= config.preamble_ms
-        && config.preamble_ms <= MOST_PREAMBLE_MS;
-    if config.redundancy <= MOST_REDUNDANCY && is_pause {
-        Settings {
-            redundancy: config.redundancy as u8,
-            preamble_ms: config.preamble_ms,
-            asks,
-        }
-    } else {
-        Settings {
-            asks,
-            ..Settings::default()
-        }
+    Settings {
+        redundancy: MOST_REDUNDANCY as u8,
+        preamble_ms: config
+            .preamble_ms
+            .max(LEAST_PREAMBLE_MS)
+            .min(MOST_PREAMBLE_MS),
+        asks: config.called.peer.is_none(),
     }
 }

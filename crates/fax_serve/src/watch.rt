@@ -1,13 +1,13 @@
 //! Which legs have datagrams, as the system tells it.
-use crate::answers::leg_of;
-use crate::sockets::{ServedLine, ServedLines};
+use crate::sockets::SocketLegs;
 use fax_gateway::Side;
 use fax_legs::LegSocket;
+use fax_line::{Line, Lines};
 use mio::unix::SourceFd;
 use mio::{Events, Interest, Poll, Token};
 use std::alloc::Global;
 use std::io;
-use std::net::Net;
+use std::net::{Net, UdpSocket};
 use std::time::Duration;
 
 /// The most lines that are watched: as many as a configuration has.
@@ -26,7 +26,11 @@ pub struct Watch {
 
 impl Watch {
     /// Watches these lines. An `Err` is that of the system: then no leg is watched, and each is asked each time.
-    pub fn new(net: &impl Net, alloc: Global, lines: &ServedLines) -> io::Result<Self> {
+    pub fn new<W: SocketLegs + Drop>(
+        net: &impl Net,
+        alloc: Global,
+        lines: &Lines<W>,
+    ) -> io::Result<Self> {
         let poll = Poll::new(net)?;
         let events = Events::with_capacity(alloc, MOST_EVENTS)?;
         match watch_lines(&poll, lines) {
@@ -39,7 +43,7 @@ impl Watch {
     }
 
     /// Wakes each leg on which a datagram came since this was asked last, and adds its line to those that are to be woken.
-    pub fn look(&mut self, lines: &ServedLines, woken: &mut Vec<usize>) {
+    pub fn look<W: SocketLegs + Drop>(&mut self, lines: &Lines<W>, woken: &mut Vec<usize>) {
         if self
             .poll
             .poll(&mut self.events, Some(Duration::ZERO))
@@ -56,7 +60,7 @@ impl Watch {
             };
             let i = token / 2;
             if let Some(line) = lines.line(i) {
-                leg_of(line, side).wake();
+                line.wire().leg(side).wake();
                 let _ = woken.push(i);
             }
         }
@@ -64,39 +68,39 @@ impl Watch {
 }
 
 /// Both legs of a line are asked in its next turn, whatever the system told.
-pub(crate) fn wake_legs(line: &ServedLine) {
-    leg_of(line, Side::Calling).wake();
-    leg_of(line, Side::Called).wake();
+pub(crate) fn wake_legs<W: SocketLegs + Drop>(line: &Line<W>) {
+    line.wire().leg(Side::Calling).wake();
+    line.wire().leg(Side::Called).wake();
 }
 
 /// Whether one of the legs of a line may have something for it.
-pub(crate) fn asks(line: &ServedLine) -> bool {
-    leg_of(line, Side::Calling).asks() || leg_of(line, Side::Called).asks()
+pub(crate) fn asks<W: SocketLegs + Drop>(line: &Line<W>) -> bool {
+    line.wire().leg(Side::Calling).asks() || line.wire().leg(Side::Called).asks()
 }
 
 /// The legs of all lines are watched from now on.
-fn watch_lines(poll: &Poll, lines: &ServedLines) -> io::Result<()> {
+fn watch_lines<W: SocketLegs + Drop>(poll: &Poll, lines: &Lines<W>) -> io::Result<()> {
     for i in 0..lines.len().min(MOST_LINES) {
         if let Some(line) = lines.line(i) {
-            watch_leg(poll, leg_of(line, Side::Calling), Token(2 * i))?;
-            watch_leg(poll, leg_of(line, Side::Called), Token(2 * i + 1))?;
+            watch_leg(poll, line.wire().leg(Side::Calling), Token(2 * i))?;
+            watch_leg(poll, line.wire().leg(Side::Called), Token(2 * i + 1))?;
         }
     }
     Ok(())
 }
 
 /// No leg is watched.
-fn leave_lines(lines: &ServedLines) {
+fn leave_lines<W: SocketLegs + Drop>(lines: &Lines<W>) {
     for i in 0..lines.len() {
         if let Some(line) = lines.line(i) {
-            leg_of(line, Side::Calling).set_watched(false);
-            leg_of(line, Side::Called).set_watched(false);
+            line.wire().leg(Side::Calling).set_watched(false);
+            line.wire().leg(Side::Called).set_watched(false);
         }
     }
 }
 
 /// A leg is watched from now on.
-fn watch_leg(poll: &Poll, leg: &LegSocket, token: Token) -> io::Result<()> {
+fn watch_leg(poll: &Poll, leg: &LegSocket<UdpSocket>, token: Token) -> io::Result<()> {
     let descriptor = leg.descriptor();
     poll.registry()
         .register(&mut SourceFd(&descriptor), token, Interest::READABLE)?;

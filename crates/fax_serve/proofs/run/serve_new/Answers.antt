@@ -1,5 +1,5 @@
-use Rattle.fax_line.specs.Runs.{deeds_of, latest}
 use Rattle.std.proofs.Common.{[], refl}
+use Rattle.fax_serve.proofs.Desking.{paces_do_words}
 use Rattle.fax_serve.proofs.run.serve_new.Goals as goal
 
 pub returns : goal.returns
@@ -8,12 +8,13 @@ returns g c =
     record {
       begun = c.args.lines.lines;
       left = c.serve.new.lines.lines;
-      deeds = deeds_of c.args.lines.slot done;
-      last = latest done;
+      first = c.args.lines.slot;
+      done = done;
       as_many = refl;
-      restored = λ k d low. ([], c.requires k d low);
-      new = λ _. c.requires;
+      restored = λ k d low. ([], c.requires.new k d low);
+      new = λ _. c.requires.new;
       went = c.serve.ensures.1;
       rising = c.serve.ensures.3;
-      out = λ _. (c.args.lines.slot, done, c.serve.ensures.5.1);
+      words = paces_do_words done c.args.pace.now c.serve.new.pace c.requires.idle c.serve.ensures.6;
+      out = λ _. c.serve.ensures.5.1;
     }

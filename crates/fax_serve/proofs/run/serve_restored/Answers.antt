@@ -1,5 +1,5 @@
 use Rattle.std.proofs.Common.{refl}
-use Rattle.fax_line.specs.Runs.{deeds_of, latest}
+use Rattle.fax_serve.proofs.Desking.{paces_do_words}
 use Rattle.fax_serve.proofs.run.serve_restored.Goals as goal
 
 pub returns-clause-alone : goal.returns-clause-alone
@@ -8,13 +8,14 @@ returns-clause-alone g c =
     record {
       begun = c.args.lines.lines;
       left = c.serve.new.lines.lines;
-      deeds = deeds_of c.args.lines.slot done;
-      last = latest done;
+      first = c.args.lines.slot;
+      done = done;
       as_many = refl;
       restored = c.requires.begun;
       new = λ no. cc no;
       went = c.serve.ensures.1;
       rising = c.serve.ensures.3;
+      words = paces_do_words done c.args.pace.now c.serve.new.pace c.requires.idle c.serve.ensures.6;
       out = λ no. cc no;
     }
 
@@ -28,5 +29,6 @@ returns-clause-kept g c =
       settled = ran.2;
       first = c.args.lines.slot;
       first_is = c.requires.first;
+      words = paces_do_words c.serve.ensures.0 c.args.pace.now c.serve.new.pace c.requires.idle c.serve.ensures.6;
       ran = ran.3;
     }

@@ -4,7 +4,7 @@ use Rattle.fax_line.specs.Actions.{BeginsWith, LineValue}
 use Rattle.fax_shelf.specs.OnLeg.{HasDoneOn}
 use Rattle.fax_shelf.specs.Restorations.{Restores}
 use Rattle.fax_shelf.proofs.Calls.{no_calls}
-use Rattle.fax_serve.specs.Openings.{asks_by}
+use Rattle.fax_serve.specs.Openings.{settings_by}
 use Rattle.fax_serve.proofs.sockets.add_line.Goals as goal
 
 pub returns-clause-begun : goal.returns-clause-begun
@@ -27,7 +27,7 @@ returns-clause-restored g c =
         restores = subst (λ (name : List ℕ). Restores name c.args.pages.now c.in_ok-calls.field-0) c.as_str.ensures.value c.in_ok-calls.ensures;
         begins = subst (λ (line : LineValue). BeginsWith (map call_shown c.in_ok-calls.field-0.calls.items) line) (sym is_added.line_is) c.in_ok-line.ensures.begins;
         fresh = subst (λ (line : LineValue). HasDoneOn [] line.holding) (sym is_added.line_is) c.in_ok-line.ensures.fresh;
-        asks = subst (λ (line : LineValue). line.gateway.settings.asks ≡ asks_by c.args.config.now) (sym is_added.line_is) c.in_ok-line.ensures.asks;
+        settings = subst (λ (line : LineValue). line.gateway.settings ≡ settings_by c.args.config.now) (sym is_added.line_is) c.in_ok-line.ensures.settings;
         shelf_is = refl;
       };
     }

@@ -1,0 +1,56 @@
+-- What the desk sees of a line (this project's profile).
+use Rattle.std.specs.Prelude.{ℕ, false, true, List, length, Option, Some, None, option_map, slice_get, if◌then◌else◌}
+use Rattle.fax_desk.specs.Tags.{tag_of_text}
+use Rattle.fax_desk.specs.declared.tag.Tag.{Tag}
+use Rattle.fax_desk.specs.declared.view.AskedView.{AskedView}
+use Rattle.fax_desk.specs.declared.view.FirstJob.{FirstJob}
+use Rattle.fax_desk.specs.declared.view.LegView.{LegView}
+use Rattle.fax_desk.specs.declared.view.LineView.{LineView}
+use Rattle.fax_gateway.specs.Sides.{job_asked}
+use Rattle.fax_gateway.specs.Turns.{call_kept}
+use Rattle.fax_gateway.specs.declared.side.Side.TheVariants as side
+use Rattle.fax_jobs.specs.Jobs.{JobValue}
+use Rattle.fax_line.specs.Actions.{LineValue}
+use Rattle.fax_line.specs.Places.{PlaceValue}
+use Rattle.fax_repeat.specs.Peers.{peer_on, state_of}
+use Rattle.fax_repeat.specs.declared.peers.LegState.{LegState}
+use Rattle.fax_shelf.specs.Shelves.{ShelfValue, first_tag, is_of_earlier_life}
+
+abbrev pub leg_seen : LegState → LegView
+leg_seen leg = record { has_peer = leg.has_peer; is_fixed = leg.is_fixed; is_heard = leg.is_heard }
+
+abbrev pub job_seen : JobValue → AskedView
+job_seen job = record { call = job.call; pages = length job.pages }
+
+-- THE DESK SEES A LINE AS IT IS: the call that is on, the job that is being sent and the one whose call is asked for, and what its legs are.
+abbrev pub line_seen : LineValue → FirstJob → LineView
+line_seen line first = record {
+  call = call_kept line.gateway.calling;
+  sending = option_map (λ job. job.call) line.gateway.book.sending;
+  asked = option_map job_seen (job_asked line.gateway.settings.asks line.gateway.book);
+  calling = leg_seen (state_of (peer_on side.Calling line.peers));
+  called = leg_seen (state_of (peer_on side.Called line.peers));
+  first = first;
+}
+
+-- ---- the job that is first in turn on a line: one that was confirmed in an earlier life has the tag that it had there
+
+abbrev pub of_this_life : FirstJob
+of_this_life = record { is_restored = false; tag = None }
+
+abbrev pub tag_if : Option (List ℕ) → Option Tag
+tag_if None = None
+tag_if (Some text) = tag_of_text text
+
+abbrev pub first_on : ℕ → Option ShelfValue → FirstJob
+first_on life None = of_this_life
+first_on life (Some shelf) = if is_of_earlier_life life shelf.waits then record { is_restored = true; tag = tag_if (first_tag shelf) } else of_this_life
+
+-- where something keeps the pages of the lines
+abbrev pub first_if : {K : Type 0} → Option K → (K → FirstJob) → FirstJob
+first_if None first = of_this_life
+first_if (Some keeper) first = first keeper
+
+-- line i, counted from 0
+abbrev pub line_at : List PlaceValue → (ℕ → FirstJob) → ℕ → Option LineView
+line_at lines first i = option_map (λ place. line_seen place.line (first i)) (slice_get lines i)

@@ -1,0 +1,148 @@
+//! What is told of turns.
+ghost use Rattle.std.specs.Prelude.{◌≡◌};
+
+use super::{BETWEEN_LATE_MS, RealPace};
+use crate::keeper::SpoolKeeper;
+use crate::sockets::SocketLegs;
+use crate::telling::Teller;
+use crate::view::first_job;
+use crate::watch::{asks, wake_legs};
+use fax_desk::{Desk, Turn, tell_turn};
+use fax_events::What;
+use fax_gateway::Side;
+use fax_line::{Line, Lines, SLOTS};
+use fax_shelf::Shelf;
+use fax_spool::WaitingPage;
+use sqlite_disk::Disk;
+use std::io::{Read, Write};
+use std::rt::Clock;
+
+impl<'a, C: Clock, I: Read + Drop, O: Write + Drop> RealPace<'a, C, I, O> {
+    /// Tells what the spool was found to hold that is not sent: so many damaged records, pages whose texts mean none, and of the
+    /// pages that waited those of lines that are not served.
+    pub(crate) fn tell_aside(&mut self, damaged: usize, pages: &[WaitingPage], shelves: &[Shelf])
+        ensures { self.new ≡ self.old }
+    {
+        self.teller.counters.records_damaged = damaged as u64;
+        tell_shelves_aside(&mut self.teller, shelves);
+        tell_pages_aside(&mut self.teller, &self.desk, pages);
+    }
+
+    /// Tells what the turn that was ordered came to, of each line that was not left at rest in it.
+    pub(super) fn tell_turned<W: SocketLegs + Drop, D: Disk>(
+        &mut self,
+        lines: &Lines<W>,
+        keeper: Option<&SpoolKeeper<D>>,
+    )
+        ensures { self.new ≡ self.old }
+    {
+        let Some(slot) = self.turned.take() else {
+            return;
+        };
+        let looks = self.looks(slot);
+        let rounds = lines.len() / SLOTS + 1;
+        for round in 0..rounds {
+            let i = round.saturating_mul(SLOTS).saturating_add(slot);
+            if let Some(line) = lines.line(i) {
+                self.tell_line(i, line, lines.has_turned(i), looks, keeper);
+            }
+        }
+    }
+
+    /// Tells what the turn of line i came to, where it had one. Where something may come over its legs still, and where they are to be
+    /// asked, it is to be woken; and where its question is to be looked at, that is noted.
+    fn tell_line<W: SocketLegs + Drop, D: Disk>(
+        &mut self,
+        i: usize,
+        line: &Line<W>,
+        has_turned: bool,
+        looks: bool,
+        keeper: Option<&SpoolKeeper<D>>,
+    )
+        ensures { self.new ≡ self.old }
+    {
+        if has_turned {
+            self.tell_turn(i, line, keeper);
+        }
+        if looks {
+            wake_legs(line);
+        }
+        if asks(line) {
+            let _ = self.woken.push(i);
+        }
+        let asks_for_a_call = (has_turned || looks) && line.asked().is_some();
+        if self.desk.is_due(i, asks_for_a_call) {
+            let _ = self.to_ask.push(i);
+        }
+    }
+
+    /// Tells what the turn of line i came to.
+    fn tell_turn<W: SocketLegs + Drop, D: Disk>(
+        &mut self,
+        i: usize,
+        line: &Line<W>,
+        keeper: Option<&SpoolKeeper<D>>,
+    )
+        ensures { self.new ≡ self.old }
+    {
+        let turn = Turn {
+            turned: line.turned(),
+            is_kept: !self.not_kept.contains(&i),
+            is_mute: line.wire().is_mute(),
+            is_hung_up: line.leg_state(Side::Calling).is_gone,
+            first: first_job(keeper, i),
+        };
+        tell_turn(&mut self.desk, i, turn, self.now, &mut self.teller);
+        if let Some(name) = self.desk.name(i) {
+            self.teller.tell_failures(i, name, line, self.now);
+        }
+    }
+
+    /// Counts a turn that is late, and tells it of the first line of its slot, once a second at most.
+    pub(super) fn tell_late(&mut self, slot: usize, late: u64)
+        ensures { self.new ≡ self.old }
+    {
+        let counters = &mut self.teller.counters;
+        counters.turns_late = counters.turns_late.saturating_add(1);
+        counters.skipped_ms = self.schedule.skipped();
+        if self.now < self.late_from {
+            return;
+        }
+        if let Some(name) = self.desk.name(slot) {
+            self.late_from = self.now.saturating_add(BETWEEN_LATE_MS);
+            self.teller.tell_event(name, self.now, What::Late(late));
+        }
+    }
+}
+
+/// Tells the pages of these shelves whose texts mean none.
+fn tell_shelves_aside<I: Read + Drop, O: Write + Drop>(
+    teller: &mut Teller<I, O>,
+    shelves: &[Shelf],
+) {
+    for shelf in shelves {
+        tell_shelf_aside(teller, shelf);
+    }
+}
+
+/// Tells those of a shelf.
+fn tell_shelf_aside<I: Read + Drop, O: Write + Drop>(teller: &mut Teller<I, O>, shelf: &Shelf) {
+    for (call, number) in shelf.aside() {
+        teller.tell_aside(shelf.line(), *call, *number);
+    }
+}
+
+/// Tells the pages of lines that are not served.
+fn tell_pages_aside<I: Read + Drop, O: Write + Drop>(
+    teller: &mut Teller<I, O>,
+    desk: &Desk,
+    pages: &[WaitingPage],
+) {
+    for page in pages {
+        if let Ok(line) = std::str::from_utf8(page.line.as_slice())
+            && desk.find(line).is_none()
+        {
+            teller.tell_aside(line, page.call, page.number);
+        }
+    }
+}

@@ -1,0 +1,233 @@
+//! What clients say: each word comes in at the desk, which says what it comes to.
+ghost use Rattle.std.specs.Prelude.{◌≡◌, [], ◌∷◌, None, Some};
+ghost use Rattle.fax_serve.specs.Desking.{GivesOrder, Hears, asked_by, given_by};
+
+use super::RealPace;
+use crate::answers::{answer_text, counters_of, report_text, state_text, status_text};
+use crate::keeper::SpoolKeeper;
+use crate::sockets::SocketLegs;
+use crate::view::{Seen, first_job, view_of};
+use fax_bits::NoMemory;
+use fax_clients::Asker;
+use fax_control::{Answer, Heard, Refusal, Word, read_word};
+use fax_desk::{Desk, Done, LineView, Looked, Next, Order as DeskOrder, tell_at};
+use fax_events::write_metrics;
+use fax_hold::LineWire;
+use fax_line::{Answered, Lines, Order};
+use sqlite_disk::Disk;
+use std::alloc::AllocError;
+use std::io::{Read, Write};
+use std::rt::Clock;
+
+impl<'a, C: Clock, I: Read + Drop, O: Write + Drop> RealPace<'a, C, I, O> {
+    /// Waits for a word, for so many milliseconds at most. It answers what the word orders of a line.
+    pub(super) fn wait<W: SocketLegs + Drop, D: Disk>(
+        &mut self,
+        most: u64,
+        lines: &Lines<W>,
+        keeper: Option<&SpoolKeeper<D>>,
+    ) -> Option<Order>
+        requires { self.old.waits ≡ None }
+        ensures { GivesOrder result self.old self.new }
+    {
+        self.teller.clients.wait(most.min(1_000) as i32);
+        self.read_clock();
+        let (asker, heard) = self.teller.clients.hear()?;
+        match heard {
+            Heard::TooLong => {
+                self.answer(asker, Answer::Refused(Refusal::TooLong));
+                None
+            }
+            Heard::Line(octets) => match read_word(octets.as_slice()) {
+                Some(word) => self.obey(asker, word, lines, keeper),
+                None => {
+                    self.answer(asker, Answer::Refused(Refusal::NoWord));
+                    None
+                }
+            },
+        }
+    }
+
+    /// Does what a word says. It answers what the word orders of a line.
+    fn obey<W: SocketLegs + Drop, D: Disk>(
+        &mut self,
+        asker: Asker,
+        word: Word<'_>,
+        lines: &Lines<W>,
+        keeper: Option<&SpoolKeeper<D>>,
+    ) -> Option<Order>
+        requires { self.old.waits ≡ None }
+        ensures { GivesOrder result self.old self.new }
+    {
+        let seen = Seen { lines, keeper };
+        let next = self.desk.step(asker, word, &seen, self.now);
+        match next {
+            Next::Orders(order) => return Some(ask(order, self.now)),
+            Next::Replies(reply) => {
+                let text = answer_text(self.alloc, self.desk.answer(reply));
+                self.put_line(asker, text);
+            }
+            Next::Reports(i) => self.report(asker, i, lines),
+            Next::Status => {
+                let text = status_text(self.alloc, &self.desk, &seen);
+                self.put(asker, text);
+            }
+            Next::Metrics => self.tell_metrics(asker, lines, keeper),
+            Next::Events => self.want_events(asker, &seen),
+        }
+        None
+    }
+
+    /// The last reports of line i are told.
+    fn report<W: LineWire + Drop>(&mut self, asker: Asker, i: usize, lines: &Lines<W>)
+        ensures { self.new ≡ self.old }
+    {
+        if let Some(line) = lines.line(i) {
+            let text = report_text(self.alloc, &self.desk, i, line, self.now);
+            self.put(asker, text);
+        } else {
+            self.answer(asker, Answer::Refused(Refusal::NoLine));
+        }
+    }
+
+    /// The counts are told.
+    fn tell_metrics<W: SocketLegs + Drop, D: Disk>(
+        &mut self,
+        asker: Asker,
+        lines: &Lines<W>,
+        keeper: Option<&SpoolKeeper<D>>,
+    )
+        ensures { self.new ≡ self.old }
+    {
+        let mut counters = counters_of(self.teller.counters(), lines);
+        if let Some(keeper) = keeper {
+            counters.pages_kept = keeper.keeping.kept();
+        }
+        let text = match write_metrics(self.alloc, &counters) {
+            Ok(text) => Ok(text.into_bytes()),
+            Err(NoMemory) => Err(NoMemory),
+        };
+        self.put(asker, text);
+    }
+
+    /// From now on a client is told events, behind how the lines are. The calls that lines ask for are asked of it.
+    fn want_events<W: LineWire + Drop, D: Disk>(&mut self, asker: Asker, seen: &Seen<'_, W, D>)
+        ensures { self.new ≡ self.old }
+    {
+        let text = match self.teller.clients.want_events(asker) {
+            Ok(()) => {
+                ask_all(&mut self.desk, seen);
+                state_text(self.alloc, self.teller.aside(), &self.desk, seen, self.now)
+            }
+            Err(NoMemory) => Err(NoMemory),
+        };
+        self.put(asker, text);
+    }
+
+    /// Looks at the questions that are to be looked at, and asks those that are not open. It answers the order for one whose time is
+    /// over: the call could not be placed.
+    pub(super) fn look_at_questions<W: LineWire + Drop, D: Disk>(
+        &mut self,
+        lines: &Lines<W>,
+        keeper: Option<&SpoolKeeper<D>>,
+    ) -> Option<Order>
+        requires { self.old.waits ≡ None }
+        ensures { GivesOrder result self.old self.new }
+    {
+        for _ in 0..self.to_ask.len() {
+            let i = self.to_ask.pop()?;
+            if let Some(line) = lines.line(i)
+                && let Some(order) = self.look_at_question(i, view_of(line, first_job(keeper, i)))
+            {
+                return Some(order);
+            }
+        }
+        None
+    }
+
+    /// The same of the question of line i, which is so.
+    fn look_at_question(&mut self, i: usize, line: LineView) -> Option<Order>
+        requires { self.old.waits ≡ None }
+        ensures { GivesOrder result self.old self.new }
+    {
+        match self.desk.look(i, line) {
+            Looked::Nothing => None,
+            Looked::Asks(asks) => {
+                tell_at(&self.desk, i, asks, self.now, &mut self.teller);
+                None
+            }
+            Looked::Orders(order) => Some(ask(order, self.now)),
+        }
+    }
+
+    /// What a line answered to what was asked of it by an order answers who gave that.
+    pub(super) fn tell_done(&mut self, answered: Option<Answered>)
+        ensures { Hears answered self.old self.new }
+    {
+        if let Some(done) = self.desk.done(answered) {
+            self.tell_end(done);
+        }
+    }
+
+    /// An order has ended so: who gave it is answered, and what happened is told.
+    fn tell_end(&mut self, done: Done)
+        ensures { self.new ≡ self.old }
+    {
+        if let Some(asker) = done.asker {
+            let text = answer_text(self.alloc, self.desk.answer(done.reply));
+            self.put_line(asker, text);
+        }
+        if let Some(happened) = done.happened {
+            tell_at(&self.desk, done.line, happened, self.now, &mut self.teller);
+        }
+    }
+
+    /// A client is answered by a line. Without memory for it there is no answer.
+    fn answer(&mut self, asker: Asker, answer: Answer<'_>)
+        ensures { self.new ≡ self.old }
+    {
+        let text = answer_text(self.alloc, answer);
+        self.put_line(asker, text);
+    }
+
+    /// The same, by its text.
+    fn put_line(&mut self, asker: Asker, text: Result<Vec<u8>, AllocError>)
+        ensures { self.new ≡ self.old }
+    {
+        if let Ok(text) = text {
+            self.teller.clients.answer(asker, text);
+        }
+    }
+
+    /// A client is answered by a text, or told that memory lacks for it.
+    fn put(&mut self, asker: Asker, text: Result<Vec<u8>, NoMemory>)
+        ensures { self.new ≡ self.old }
+    {
+        match text {
+            Ok(text) => self.teller.clients.answer(asker, text),
+            Err(NoMemory) => self.answer(asker, Answer::Refused(Refusal::NoMemory)),
+        }
+    }
+}
+
+/// The question of each line that asks for a call is open from now on, since a client is told of it.
+fn ask_all<W: LineWire + Drop, D: Disk>(desk: &mut Desk, seen: &Seen<'_, W, D>)
+    ensures { desk.new.waits ≡ desk.old.waits }
+{
+    for i in 0..seen.lines.len() {
+        if let Some(line) = seen.lines.line(i) {
+            desk.ask_at(i, view_of(line, first_job(seen.keeper, i)));
+        }
+    }
+}
+
+/// The order of the loop that the desk gave, at this moment.
+fn ask(order: DeskOrder, now: u64) -> Order
+    ensures { given_by (Some result) ≡ asked_by order ∷ [] }
+{
+    Order::Ask {
+        line: order.line,
+        now,
+        what: order.what,
+    }
+}

@@ -1,0 +1,103 @@
+//! The lines, as the desk sees them.
+ghost use Rattle.std.specs.Prelude.{◌≡◌, option_map, slice_get};
+ghost use Rattle.fax_gateway.specs.Sides.{job_asked};
+ghost use Rattle.fax_repeat.specs.Peers.{peer_on, state_of};
+ghost use Rattle.fax_serve.specs.Views.{first_if, first_on, job_seen, leg_seen, line_seen, tag_if};
+
+use crate::keeper::SpoolKeeper;
+use fax_desk::{AskedView, FirstJob, LegView, LineView, Tag, View};
+use fax_gateway::Side;
+use fax_hold::LineWire;
+use fax_line::{Line, Lines};
+use sqlite_disk::Disk;
+
+/// The lines, and what keeps their pages.
+#[derive(Drop)]
+pub(crate) struct Seen<'a, W: LineWire + Drop, D: Disk> {
+    pub lines: &'a Lines<W>,
+    pub keeper: Option<&'a SpoolKeeper<D>>,
+}
+
+impl<'a, W: LineWire + Drop, D: Disk> View for Seen<'a, W, D> {
+    ghost use Rattle.std.specs.Prelude.{slice_get};
+    ghost use Rattle.fax_serve.specs.Views.{first_if, first_on, line_at};
+
+    ghost line = { λ seen i. line_at seen.lines.now.lines (λ i. first_if seen.keeper (λ keeper. first_on keeper.now.keeping.life (slice_get keeper.now.keeping.shelves.items i))) i };
+
+    fn line(&self, i: usize) -> Option<LineView> {
+        let line = self.lines.line(i)?;
+        Some(view_of(line, first_job(self.keeper, i)))
+    }
+}
+
+/// What a line is, the job that is first in turn on which was confirmed so.
+pub(crate) fn view_of<W: LineWire + Drop>(line: &Line<W>, first: FirstJob) -> LineView
+    ensures { result ≡ line_seen line.now first }
+{
+    LineView {
+        call: line.call(),
+        sending: sending(line),
+        asked: asked(line),
+        calling: leg_view(line, Side::Calling),
+        called: leg_view(line, Side::Called),
+        first,
+    }
+}
+
+/// The call whose job is being sent.
+fn sending<W: LineWire + Drop>(line: &Line<W>) -> Option<u32>
+    ensures { result ≡ option_map (λ job. job.call) line.now.gateway.book.sending }
+{
+    match line.sending() {
+        Some(job) => Some(job.call()),
+        None => None,
+    }
+}
+
+/// The job whose call is asked for.
+fn asked<W: LineWire + Drop>(line: &Line<W>) -> Option<AskedView>
+    ensures { result ≡ option_map job_seen (job_asked line.now.gateway.settings.asks line.now.gateway.book) }
+{
+    match line.job_asked() {
+        Some(job) => Some(AskedView {
+            call: job.call(),
+            pages: job.page_count(),
+        }),
+        None => None,
+    }
+}
+
+/// What a leg is.
+fn leg_view<W: LineWire + Drop>(line: &Line<W>, side: Side) -> LegView
+    ensures { result ≡ leg_seen (state_of (peer_on side line.now.peers)) }
+{
+    let leg = line.leg_state(side);
+    LegView {
+        has_peer: leg.has_peer,
+        is_fixed: leg.is_fixed,
+        is_heard: leg.is_heard,
+    }
+}
+
+/// The job of line i that is first in turn: whether it was confirmed in an earlier life, and the tag that it has then.
+pub(crate) fn first_job<D: Disk>(keeper: Option<&SpoolKeeper<D>>, i: usize) -> FirstJob
+    ensures { result ≡ first_if keeper.entry (λ keeper. first_on keeper.now.keeping.life (slice_get keeper.now.keeping.shelves.items i)) }
+{
+    match keeper {
+        Some(keeper) if keeper.keeping.is_restored(i) => FirstJob {
+            is_restored: true,
+            tag: tag_of(keeper.keeping.restored_tag(i)),
+        },
+        Some(_) | None => FirstJob {
+            is_restored: false,
+            tag: None,
+        },
+    }
+}
+
+/// A tag by value.
+fn tag_of(text: Option<&str>) -> Option<Tag>
+    ensures { result ≡ tag_if (option_map (λ text. text.now) text.entry) }
+{
+    Tag::of(text?)
+}
