@@ -357,9 +357,10 @@ class Elements(Asked):
 
     def run_element(self, called):
         """samples/element.py, which says this of the called machine, while a machine calls and has a page of three rows confirmed."""
-        words = [self.server.control, "a1", address(self.a1.calling_peer), called]
+        words = [self.server.control, address(self.a1.calling_peer), called]
         words = [sys.executable, str(TOP / "samples" / "element.py"), *words]
         caller = Caller(self.peer(self.a1, "calling"))
+        caller.newest = -1  # the call begins before the line knows its peer
         element = subprocess.Popen(words, stdout=subprocess.PIPE, text=True)
         self.addCleanup(element.stdout.close)
         self.addCleanup(element.wait)
