@@ -8,10 +8,11 @@ use Rattle.fax_spool.specs.RecordOctets as spool
 use Rattle.fax_gateway.specs.Restored.{RestoredCall, call_shown, confirmation_shown}
 use Rattle.fax_gateway.specs.declared.restored.RestoredCall as shown
 use Rattle.std.proofs.lemmas.List.{append-nil, map-append}
-use Rattle.fax_shelf.specs.Shelves.{TagValue}
+use Rattle.fax_shelf.specs.Shelves.{AreInOrder, TagValue}
 use Rattle.fax_shelf.specs.declared.shelf.Waiting.{Waiting}
 use Rattle.fax_shelf.specs.declared.restored.Restored.{Restored}
 use Rattle.fax_shelf.specs.Restorations.{AreAside, AreIn, AreRead, Means, MeansNone, ReadPage, Restores, before, before_all, begins, begun, call_with, calls_of, confirmation_of, in_one_call, onto_last, own_pages, own_tag, tags_behind, tags_of, waiting_of}
+use Rattle.fax_shelf.proofs.Naming.{in_order_front}
 
 -- ---- the calls
 
@@ -167,14 +168,18 @@ tags_more before (x ∷ read) r =
     ∙ ap (λ (l : List Waiting). (first ++ tags_behind (before ++ waiting_of x ∷ []) read) ++ (if begins l r.waits then own_tag r.waits else [])) (append_assoc before (waiting_of x ∷ []) (map waiting_of read))
 
 pub in_more : (line : List ℕ) (read : List ReadPage) (r : ReadPage) (old new : Restored) (b : Bool) (between : List RestoredCall) → b ≡ begins old.shelf.waits r.waits → between ≡ with_begun b r.waits (map call_shown old.calls.items)
-    → map call_shown new.calls.items ≡ onto_last (confirmation_of r) between → new.shelf.waits ≡ old.shelf.waits ++ waiting_of r ∷ [] → new.shelf.line ≡ old.shelf.line → new.shelf.tags ≡ old.shelf.tags ++ (if b then own_tag r.waits else []) → AreIn line read old → AreIn line (read ++ r ∷ []) new
-in_more line read r old new b between tells begun_is calls waits same tags are = record {
+    → map call_shown new.calls.items ≡ onto_last (confirmation_of r) between → new.shelf.waits ≡ old.shelf.waits ++ waiting_of r ∷ [] → new.shelf.line ≡ old.shelf.line → new.shelf.tags ≡ old.shelf.tags ++ (if b then own_tag r.waits else [])
+    → (old.shelf.is_whole ≡ true → AreInOrder (old.shelf.waits ++ waiting_of r ∷ []) → new.shelf.is_whole ≡ true) → AreIn line read old → AreIn line (read ++ r ∷ []) new
+in_more line read r old new b between tells begun_is calls waits same tags stays are = record {
   named = same ∙ are.named;
   calls =
       calls
       ∙ ap (λ (l : List RestoredCall). onto_last (confirmation_of r) l) (begun_is ∙ ap (λ (t : Bool). with_begun t r.waits (map call_shown old.calls.items)) (tells ∙ ap (λ (l : List Waiting). begins l r.waits) are.waits) ∙ ap (λ (l : List RestoredCall). with_begun (begins (map waiting_of read) r.waits) r.waits l) are.calls)
       ∙ sym (calls_more read r);
   waits = waits ∙ ap (λ (l : List Waiting). l ++ waiting_of r ∷ []) are.waits ∙ sym (map-append waiting_of read (r ∷ []));
+  whole = λ order.
+      let all : AreInOrder (old.shelf.waits ++ waiting_of r ∷ []) = subst (λ (l : List Waiting). AreInOrder l) waits order in
+      stays (are.whole (in_order_front old.shelf.waits (waiting_of r) all)) all;
   tags =
       tags
       ∙ ap (λ (l : List TagValue). l ++ (if b then own_tag r.waits else [])) are.tags
@@ -204,9 +209,9 @@ restores_more line pages w page old new is means more same was = record {
 }
 
 pub restores_aside : (line : List ℕ) (pages : List spool.PageValue) (w : spool.PageValue) (old new : Restored) → bytes_eq w.line line ≡ true → MeansNone w
-    → map call_shown new.calls.items ≡ map call_shown old.calls.items → new.shelf.line ≡ old.shelf.line → new.shelf.waits ≡ old.shelf.waits → new.shelf.tags ≡ old.shelf.tags → new.shelf.aside ≡ old.shelf.aside ++ (w.call, w.number) ∷ []
+    → map call_shown new.calls.items ≡ map call_shown old.calls.items → new.shelf.line ≡ old.shelf.line → new.shelf.waits ≡ old.shelf.waits → new.shelf.is_whole ≡ old.shelf.is_whole → new.shelf.tags ≡ old.shelf.tags → new.shelf.aside ≡ old.shelf.aside ++ (w.call, w.number) ∷ []
     → Restores line pages old → Restores line (pages ++ w ∷ []) new
-restores_aside line pages w old new is none calls named waits tags aside was = record {
+restores_aside line pages w old new is none calls named waits whole tags aside was = record {
   read = was.read;
   own = subst (λ (l : List spool.PageValue). AreRead l was.read) (sym (own_more line pages w ∙ ap (λ (l : List spool.PageValue). own_pages line pages ++ l) (own_one line w true is)))
       (read_aside (own_pages line pages) was.read w was.own none);
@@ -214,6 +219,7 @@ restores_aside line pages w old new is none calls named waits tags aside was = r
     named = named ∙ was.are.named;
     calls = calls ∙ was.are.calls;
     waits = waits ∙ was.are.waits;
+    whole = λ order. whole ∙ was.are.whole (subst (λ (l : List Waiting). AreInOrder l) waits order);
     tags = tags ∙ was.are.tags;
   };
   aside = subst (λ (l : List spool.PageValue). AreAside l new.shelf.aside) (sym (own_more line pages w ∙ ap (λ (l : List spool.PageValue). own_pages line pages ++ l) (own_one line w true is)))
@@ -238,10 +244,10 @@ taken (Ok u) line w page old new is means more same = λ pages was. restores_mor
 taken (Err e) line w page old new is means more same = tt
 
 pub put_aside : {E : Type 0} (answer : Result (Unit {0}) E) (line : List ℕ) (w : spool.PageValue) (old new : Restored) → bytes_eq w.line line ≡ true → MeansNone w
-    → map call_shown new.calls.items ≡ map call_shown old.calls.items → new.shelf.line ≡ old.shelf.line → new.shelf.waits ≡ old.shelf.waits → new.shelf.tags ≡ old.shelf.tags
+    → map call_shown new.calls.items ≡ map call_shown old.calls.items → new.shelf.line ≡ old.shelf.line → new.shelf.waits ≡ old.shelf.waits → new.shelf.is_whole ≡ old.shelf.is_whole → new.shelf.tags ≡ old.shelf.tags
     → OnOk answer (new.shelf.aside ≡ old.shelf.aside ++ (w.call, w.number) ∷ []) → OnOk answer ((pages : List spool.PageValue) → Restores line pages old → Restores line (pages ++ w ∷ []) new)
-put_aside (Ok u) line w old new is none calls named waits tags aside = λ pages was. restores_aside line pages w old new is none calls named waits tags aside was
-put_aside (Err e) line w old new is none calls named waits tags aside = tt
+put_aside (Ok u) line w old new is none calls named waits whole tags aside = λ pages was. restores_aside line pages w old new is none calls named waits whole tags aside was
+put_aside (Err e) line w old new is none calls named waits whole tags aside = tt
 
 -- where no page waits there is no call
 pub no_calls : (line : List ℕ) (pages : List spool.PageValue) (restored : Restored) → Restores line pages restored → pages ≡ [] → map call_shown restored.calls.items ≡ []

@@ -8,6 +8,7 @@ pub mod Calls
 mod Cut
 mod Lives
 mod Naming
+mod NotedPasts
 mod Packing
 mod PastEnds
 mod PastLegs
@@ -20,4 +21,5 @@ mod Shelving
 mod Slots
 mod Waits
 mod Refusing
+mod Tagging
 mod Tags

@@ -1,12 +1,12 @@
 -- What a job's end names, of pages that are in the order in which they came.
-use Rattle.std.proofs.Common.{◌≡◌, ◌∙◌, ℕ, zero, suc, ◌+◌, ◌<◌, ◌≤◌, ◌⊎◌, inl, inr, Bool, true, false, not, cond, List, [], ◌∷◌, ◌++◌, length, take, drop, count_by, Some, slice_get, refl, sym, ap, subst, ◌-◌, arith, bytes_eq}
+use Rattle.std.proofs.Common.{◌≡◌, ◌∙◌, ℕ, zero, suc, ◌+◌, ◌^◌, ◌<◌, ◌≤◌, ◌⊎◌, inl, inr, Bool, true, false, not, cond, List, [], ◌∷◌, ◌++◌, length, take, drop, count_by, Some, slice_get, refl, sym, ap, subst, ◌-◌, arith, bytes_eq}
 use Rattle.std.proofs.lemmas.Bool.Decides.{nat_tests}
 use Rattle.std.proofs.lemmas.Slice.Eq.{bytes_eq-Decides}
 use Rattle.fax_spool.specs.RecordOctets.{EndedValue}
 use Rattle.fax_spool.specs.Waits.{PageName, ends}
 use Rattle.fax_shelf.specs.declared.shelf.Waiting.{Waiting}
 use Rattle.fax_shelf.specs.declared.shelf.Ended.{Ended}
-use Rattle.fax_shelf.specs.Shelves.{AreBehind, AreInOrder, IsBehind, NamesFirst, left_by, name_in}
+use Rattle.fax_shelf.specs.Shelves.{AreBehind, AreInOrder, IsBehind, IsFirstJob, NamesFirst, left_by, name_in}
 
 -- ---- one page
 
@@ -103,6 +103,41 @@ names_first waits first last n ended order begins at life call a b d low end cou
   leaves = λ line e is. all_leave e line waits first last n order begins at life call (is.life ∙ a) (is.call ∙ b) is.line_is (is.first ∙ d) (let f : e.first ≡ ended.first = is.first in let p : e.pages ≡ ended.pages = is.pages in omega arith) low;
 }
 
+-- ---- the job that is first
+
+same_page : (a b : Waiting) → Some a ≡ Some b → a ≡ b
+same_page a b same = cc
+
+-- the last page of one call came behind the first
+rises : (waits : List Waiting) (first last : Waiting) (n : ℕ) → AreInOrder waits → slice_get waits 0 ≡ Some first → slice_get waits n ≡ Some last → first.life ≡ last.life → first.call ≡ last.call → first.number ≤ last.number
+rises [] first last n order begins at life call = cc
+rises (page ∷ pages) first last zero order begins at life call = let same : first ≡ last = same_page first last (sym begins ∙ at) in let e : first.number ≡ last.number = ap (λ (w : Waiting). w.number) same in omega arith
+rises (page ∷ pages) first last (suc n) order begins at life call =
+    let same : page ≡ first = same_page page first begins in
+    let behind : IsBehind last first = subst (λ (w : Waiting). IsBehind last w) same (behind_at pages page last n order.0 at) in
+    let low : first.number < last.number = grind arith in omega arith
+
+-- What a job that is first says of the pages that are there: none is lacking, they came in one call, and a record can count them.
+pub record SaysOf (pages : ℕ) (first last : Waiting) : Type 0 where
+  pub some : 0 < pages
+  pub one_life : first.life ≡ last.life
+  pub one_call : first.call ≡ last.call
+  pub low : first.number ≤ last.number
+  pub counted : last.number + 1 < first.number + 2 ^ 32
+
+pub says_of : (pages : ℕ) (waits : List Waiting) (first last : Waiting) → AreInOrder waits → slice_get waits 0 ≡ Some first → slice_get waits (pages - 1) ≡ Some last → IsFirstJob pages waits → SaysOf pages first last
+says_of pages waits first last order begins at is =
+    let a : is.first ≡ first = same_page is.first first (sym is.begins ∙ begins) in
+    let b : is.last ≡ last = same_page is.last last (sym is.ends ∙ at) in
+    let life : first.life ≡ last.life = ap (λ (w : Waiting). w.life) (sym a) ∙ sym is.one_life ∙ ap (λ (w : Waiting). w.life) b in
+    let call : first.call ≡ last.call = ap (λ (w : Waiting). w.call) (sym a) ∙ sym is.one_call ∙ ap (λ (w : Waiting). w.call) b in record {
+      some = is.some;
+      one_life = life;
+      one_call = call;
+      low = rises waits first last (pages - 1) order begins at life call;
+      counted = subst (λ (w : Waiting). w.number + 1 < first.number + 2 ^ 32) b (subst (λ (w : Waiting). is.last.number + 1 < w.number + 2 ^ 32) a is.counted);
+    }
+
 -- ---- the order
 
 behind_too : (page other last : Waiting) → IsBehind page last → IsBehind last other → IsBehind page other
@@ -119,6 +154,26 @@ in_order_more (p ∷ []) last page (suc n) end at is order = cc
 in_order_more (p ∷ q ∷ pages) last page zero end at is order = absurd (omega arith)
 in_order_more (p ∷ q ∷ pages) last page (suc n) end at is order =
     (behind_more (q ∷ pages) p page order.0 (behind_too page p last is (behind_at (q ∷ pages) p last n order.0 at)), in_order_more (q ∷ pages) last page n (omega arith) at is order.1)
+
+front_behind : (pages : List Waiting) (page other : Waiting) → AreBehind (pages ++ page ∷ []) other → AreBehind pages other
+front_behind [] page other are = tt
+front_behind (p ∷ pages) page other are = (are.0, front_behind pages page other are.1)
+
+-- those in front are in order too
+pub in_order_front : (pages : List Waiting) (page : Waiting) → AreInOrder (pages ++ page ∷ []) → AreInOrder pages
+in_order_front [] page order = tt
+in_order_front (p ∷ pages) page order = (front_behind pages page p order.0, in_order_front pages page order.1)
+
+-- where they are in order the last one came behind the one before it
+last_behind : (pages : List Waiting) (page last : Waiting) (n : ℕ) → n ≡ length pages - 1 → slice_get pages n ≡ Some last → AreInOrder (pages ++ page ∷ []) → IsBehind page last
+last_behind [] page last n end at order = cc
+last_behind (p ∷ []) page last zero end at order = let same : p ≡ last = cc in subst (λ (w : Waiting). IsBehind page w) same order.0.0
+last_behind (p ∷ []) page last (suc n) end at order = cc
+last_behind (p ∷ q ∷ pages) page last zero end at order = absurd (omega arith)
+last_behind (p ∷ q ∷ pages) page last (suc n) end at order = last_behind (q ∷ pages) page last n (omega arith) at order.1
+
+pub not_in_order : (pages : List Waiting) (page last : Waiting) (n : ℕ) → n ≡ length pages - 1 → slice_get pages n ≡ Some last → (IsBehind page last → ⊥) → AreInOrder (pages ++ page ∷ []) → ⊥
+not_in_order pages page last n end at unlike order = unlike (last_behind pages page last n end at order)
 
 pub in_order_behind : (n : ℕ) (pages : List Waiting) → AreInOrder pages → AreInOrder (drop n pages)
 in_order_behind zero pages order = order

@@ -10,15 +10,15 @@ use Rattle.fax_spool.specs.declared.spool.Spool.{Spool}
 use Rattle.fax_shelf.specs.Restorations.{own_pages}
 use Rattle.fax_shelf.specs.Shelves.{IsShelved, ShelfValue, left_by, lines_of}
 use Rattle.fax_shelf.specs.declared.shelf.Waiting.{Waiting}
-use Rattle.fax_shelf.specs.Jobs.{EndsJob, EndsJobAt}
+use Rattle.fax_shelf.specs.Jobs.{EndsJob, EndsJobAt, WaitSo}
 use Rattle.fax_shelf.specs.Keeping.{AddsTo, placed_as}
 use Rattle.fax_shelf.specs.Lives.{NotesStill, state_of}
-use Rattle.fax_shelf.specs.Refusals.{EndsSomehow, EndsSomehowAt, IsAnEnd, WaitSo, notes_of}
+use Rattle.fax_shelf.specs.Refusals.{EndsSomehow, EndsSomehowAt, IsAnEnd, notes_of}
 use Rattle.fax_shelf.specs.SpoolKeeping.{EndsJobIf, NotesPage}
 use Rattle.fax_gateway.specs.Restored.{CallPage}
 use Rattle.fax_shelf.specs.Book.{Tiding, Reports}
 use Rattle.fax_shelf.proofs.Lives.{others_are_beside}
-use Rattle.fax_shelf.proofs.Pasts.{PastAs, past_beside, past_ends, past_refuses, wait_map}
+use Rattle.fax_shelf.proofs.Pasts.{PastAs, past_beside, past_ends, past_noted, past_refuses, wait_map}
 use Rattle.fax_shelf.proofs.PastPuts.{AreOtherNames, IsConfirmed, line_at, notes_before, notes_so, set_line, still_refuses}
 use Rattle.fax_shelf.proofs.Refusing.{refusing}
 use Rattle.fax_shelf.proofs.Shelving.{set_at}
@@ -42,12 +42,12 @@ low_place (s ∷ shelves) (n ∷ names) (suc place) are low =
 -- ---- what is held of a line
 
 -- the shelf of this line at its place, under these names, and its past, whatever crash follows
-pub record Held {D : Type 0} (seen : D → List ℕ) (may_leave : D → List ℕ → Type 0) (is_usable : D → Bool) (number : ℕ) (line : List ℕ) (names : List (List ℕ)) (t : List Tiding) (q : List CallPage) (shelves : List ShelfValue) (spool : Spool D) : Type 0 where
+pub record Held {D : Type 0} (seen : D → List ℕ) (may_leave : D → List ℕ → Type 0) (is_usable : D → Bool) (A : Type 0) (number : ℕ) (line : List ℕ) (names : List (List ℕ)) (t : List Tiding) (q : List CallPage) (shelves : List ShelfValue) (spool : Spool D) : Type 0 where
   pub shelf : ShelfValue
   pub there : slice_get shelves number ≡ Some shelf
   pub named : shelf.line ≡ line
   pub lines : lines_of shelves ≡ names
-  pub waits : WaitSo seen may_leave is_usable spool (PastAs line t q shelf (notes_of spool shelf))
+  pub waits : WaitSo seen may_leave is_usable spool (PastAs A line t q shelf (notes_of spool shelf))
 
 module _ {D : Type 0} (seen : D → List ℕ) (may_leave : D → List ℕ → Type 0) (is_usable : D → Bool) where
   -- ---- what each crash tells behind the end of a job
@@ -55,7 +55,8 @@ module _ {D : Type 0} (seen : D → List ℕ) (may_leave : D → List ℕ → Ty
   ends_ok :
       (pages : ℕ) (old new : ShelfValue) (before after : Spool D) (P Q : List PageValue → Type 0) (job : EndsJob seen may_leave is_usable pages old new before after) → (Refuses before → ⊥)
       → ((told : List PageValue) → P told → Q (without job.ended told)) → WaitSo seen may_leave is_usable before P → WaitSo seen may_leave is_usable after Q
-  ends_ok pages old new before after P Q job accepts step (inl is) = inl (without job.ended is.0, job.wait is.0 is.1, step is.0 is.2)
+  ends_ok pages old new before after P Q job accepts step (inl is) =
+      wait_map seen may_leave is_usable after (λ told. told ≡ without job.ended is.0) Q (λ told same. subst Q (sym same) (step is.0 is.2)) (job.wait is.0 is.1)
   ends_ok pages old new before after P Q job accepts step (inr is) = absurd (accepts is.0)
 
   ends_err :
@@ -76,9 +77,9 @@ module _ {D : Type 0} (seen : D → List ℕ) (may_leave : D → List ℕ → Ty
   own_by_end line other pages old new shelf a b told more unlike (inr (inl is)) = ap (λ (l : List PageValue). own_pages line l) is.0
   own_by_end line other pages old new shelf a b told more unlike (inr (inr is)) = ap (λ (l : List PageValue). own_pages line l) is.same
 
-  module _ (number : ℕ) (line : List ℕ) (names : List (List ℕ)) (other : AreOtherNames number line names) (low_number : number < length names) (t : List Tiding) (q : List CallPage) where
+  module _ (A : Type 0) (number : ℕ) (line : List ℕ) (names : List (List ℕ)) (other : AreOtherNames number line names) (low_number : number < length names) (t : List Tiding) (q : List CallPage) where
     abbrev pub Holds : List Tiding → List ShelfValue → Spool D → Type 0
-    Holds u shelves spool = Held seen may_leave is_usable number line names u q shelves spool
+    Holds u shelves spool = Held seen may_leave is_usable A number line names u q shelves spool
 
     -- the shelf at another place has another name
     unlike_name : (place : ℕ) (shelves : List ShelfValue) (old : ShelfValue) → lines_of shelves ≡ names → place ≢ number → slice_get shelves place ≡ Some old → old.line ≢ line
@@ -86,7 +87,7 @@ module _ {D : Type 0} (seen : D → List ℕ) (may_leave : D → List ℕ → Ty
 
     -- one shelf of another line changes
     stays_at : (place : ℕ) (olds news : List ShelfValue) (old new : ShelfValue) (before after : Spool D) (held : Holds t olds before) → place ≢ number → slice_get olds place ≡ Some old → news ≡ slice_set olds place new
-        → new.line ≡ old.line → WaitSo seen may_leave is_usable after (PastAs line t q held.shelf (notes_of after held.shelf)) → Holds t news after
+        → new.line ≡ old.line → WaitSo seen may_leave is_usable after (PastAs A line t q held.shelf (notes_of after held.shelf)) → Holds t news after
     stays_at place olds news old new before after held unlike was are same waits = record {
       shelf = held.shelf;
       there = ap (λ (l : List ShelfValue). slice_get l number) are ∙ set_other olds place number new unlike ∙ held.there;
@@ -106,8 +107,8 @@ module _ {D : Type 0} (seen : D → List ℕ) (may_leave : D → List ℕ → Ty
             let differ : at.old.line ≢ line = unlike_name place olds at.old held.lines unlike at.was in
             let accepts : Refuses before → ⊥ = λ refuses. no_both ends.noted on (ends.refuses refuses).0 in
             stays_at place olds news at.old at.new before after held unlike at.was at.are job.line_is
-            (ends_ok report.pages at.old at.new before after (PastAs line t q held.shelf (notes_of before held.shelf)) (PastAs line t q held.shelf (notes_of after held.shelf)) job accepts
-            (λ told past. past_beside line t q held.shelf held.shelf (notes_of before held.shelf) (notes_of after held.shelf) told (without job.ended told) refl
+            (ends_ok report.pages at.old at.new before after (PastAs A line t q held.shelf (notes_of before held.shelf)) (PastAs A line t q held.shelf (notes_of after held.shelf)) job accepts
+            (λ told past. past_beside A line t q held.shelf held.shelf (notes_of before held.shelf) (notes_of after held.shelf) told (without job.ended told) refl
             ((others_are_beside line held.shelf true told).1 job.ended (λ same. differ (sym job.named ∙ same))).same
             (notes_before seen may_leave is_usable before after held.shelf (λ refuses. (ends.refuses refuses).1)) past) held.waits)
         by false off =
@@ -116,15 +117,15 @@ module _ {D : Type 0} (seen : D → List ℕ) (may_leave : D → List ℕ → Ty
             let same : Refuses before → after ≡ before = λ refuses. (ends.refuses refuses).1 in
             let still : notes_of after held.shelf ≡ true → notes_of before held.shelf ≡ true = notes_before seen may_leave is_usable before after held.shelf same in
             stays_at place olds news some.old some.new before after held unlike some.was some.are some.ends.line_is
-            (ends_err report.pages some.old some.new before after (PastAs line t q held.shelf (notes_of before held.shelf)) (PastAs line t q held.shelf (notes_of after held.shelf)) some.ends same
-            (λ told more is past. past_beside line t q held.shelf held.shelf (notes_of before held.shelf) (notes_of after held.shelf) told more refl
+            (ends_err report.pages some.old some.new before after (PastAs A line t q held.shelf (notes_of before held.shelf)) (PastAs A line t q held.shelf (notes_of after held.shelf)) some.ends same
+            (λ told more is past. past_beside A line t q held.shelf held.shelf (notes_of before held.shelf) (notes_of after held.shelf) told more refl
             (own_by_end line some.old.line report.pages some.old some.new held.shelf (notes_of before some.old) (notes_of after some.new) told more differ is) still past)
-            (λ refuses told past. past_beside line t q held.shelf held.shelf (notes_of before held.shelf) (notes_of after held.shelf) told told refl refl still past) held.waits)
+            (λ refuses told past. past_beside A line t q held.shelf held.shelf (notes_of before held.shelf) (notes_of after held.shelf) told told refl refl still past) held.waits)
 
     -- ---- of the line itself
 
     changes_at : (u : List Tiding) (olds news : List ShelfValue) (old new : ShelfValue) (before after : Spool D) (held : Holds t olds before) → slice_get olds number ≡ Some old → news ≡ slice_set olds number new
-        → new.line ≡ old.line → WaitSo seen may_leave is_usable after (PastAs line u q new (notes_of after new)) → Holds u news after
+        → new.line ≡ old.line → WaitSo seen may_leave is_usable after (PastAs A line u q new (notes_of after new)) → Holds u news after
     changes_at u olds news old new before after held was are same waits = record {
       shelf = new;
       there = ap (λ (l : List ShelfValue). slice_get l number) are ∙ set_at olds number new (slice_get_within olds number old was);
@@ -134,15 +135,15 @@ module _ {D : Type 0} (seen : D → List ℕ) (may_leave : D → List ℕ → Ty
     }
 
     -- its past, by the shelf that is there
-    past_of : (olds : List ShelfValue) (before : Spool D) (old : ShelfValue) (held : Holds t olds before) → slice_get olds number ≡ Some old → WaitSo seen may_leave is_usable before (PastAs line t q old (notes_of before old))
+    past_of : (olds : List ShelfValue) (before : Spool D) (old : ShelfValue) (held : Holds t olds before) → slice_get olds number ≡ Some old → WaitSo seen may_leave is_usable before (PastAs A line t q old (notes_of before old))
     past_of olds before old held was =
-        subst (λ (s : ShelfValue). WaitSo seen may_leave is_usable before (PastAs line t q s (notes_of before s))) (same_shelf held.shelf old (sym held.there ∙ was)) held.waits
+        subst (λ (s : ShelfValue). WaitSo seen may_leave is_usable before (PastAs A line t q s (notes_of before s))) (same_shelf held.shelf old (sym held.there ∙ was)) held.waits
 
     name_of_old : (olds : List ShelfValue) (before : Spool D) (old : ShelfValue) (held : Holds t olds before) → slice_get olds number ≡ Some old → old.line ≡ line
     name_of_old olds before old held was = ap (λ (s : ShelfValue). s.line) (same_shelf old held.shelf (sym was ∙ held.there)) ∙ held.named
 
-    pub own_ended : (report : Report) (olds news : List ShelfValue) (before after : Spool D) → EndsJobIf seen may_leave is_usable number report olds news before after → Holds t olds before → Holds (Reports report.pages ∷ t) news after
-    own_ended report olds news before after ends held = by ends.noted refl
+    pub own_ended : (report : Report) (olds news : List ShelfValue) (before after : Spool D) → (ends : EndsJobIf seen may_leave is_usable number report olds news before after) → (A → ends.noted ≡ true) → Holds t olds before → Holds (Reports report.pages ∷ t) news after
+    own_ended report olds news before after ends sure held = by ends.noted refl
       where
         u : List Tiding
         u = Reports report.pages ∷ t
@@ -154,25 +155,25 @@ module _ {D : Type 0} (seen : D → List ℕ) (may_leave : D → List ℕ → Ty
             let named : at.old.line ≡ line = name_of_old olds before at.old held at.was in
             let accepts : Refuses before → ⊥ = λ refuses. no_both ends.noted on (ends.refuses refuses).0 in
             changes_at u olds news at.old at.new before after held at.was at.are job.line_is
-            (ends_ok report.pages at.old at.new before after (PastAs line t q at.old (notes_of before at.old)) (PastAs line u q at.new (notes_of after at.new)) job accepts
-            (λ told past. past_ends line t q report.pages at.old at.new (notes_of before at.old) (notes_of after at.new) told (without job.ended told)
-            (inl (record {
+            (ends_ok report.pages at.old at.new before after (PastAs A line t q at.old (notes_of before at.old)) (PastAs A line u q at.new (notes_of after at.new)) job accepts
+            (λ told past. past_noted A line t q report.pages at.old at.new (notes_of before at.old) (notes_of after at.new) told (without job.ended told)
+            (record {
               ended = job.ended;
               named = job.named ∙ named;
               sure = ends.sure on at.old at.was;
               leaves = subst (λ (l : List ℕ). left_by job.ended l at.old.waits ≡ drop report.pages at.old.waits) named (job.leaves ∙ job.first);
               gone = refl;
               shelved = λ still. job.first;
-            })) past) (past_of olds before at.old held at.was))
+            }) past) (past_of olds before at.old held at.was))
         by false off =
             let some : EndsSomehowAt seen may_leave is_usable report.pages number olds news before after = ends.left off (low_place olds names number held.lines low_number) in
             let named : some.old.line ≡ line = name_of_old olds before some.old held some.was in
             let same : Refuses before → after ≡ before = λ refuses. (ends.refuses refuses).1 in
             changes_at u olds news some.old some.new before after held some.was some.are some.ends.line_is
-            (ends_err report.pages some.old some.new before after (PastAs line t q some.old (notes_of before some.old)) (PastAs line u q some.new (notes_of after some.new)) some.ends same
-            (λ told more is past. past_ends line t q report.pages some.old some.new (notes_of before some.old) (notes_of after some.new) told more
+            (ends_err report.pages some.old some.new before after (PastAs A line t q some.old (notes_of before some.old)) (PastAs A line u q some.new (notes_of after some.new)) some.ends same
+            (λ told more is past. past_ends A (λ a. no_both ends.noted (sure a) off) line t q report.pages some.old some.new (notes_of before some.old) (notes_of after some.new) told more
             (subst (λ (l : List ℕ). IsAnEnd l report.pages (state_of some.old (notes_of before some.old) told) (state_of some.new (notes_of after some.new) more)) named is) past)
-            (λ refuses told past. past_ends line t q report.pages some.old some.new (notes_of before some.old) (notes_of after some.new) told told
+            (λ refuses told past. past_ends A (λ a. no_both ends.noted (sure a) off) line t q report.pages some.old some.new (notes_of before some.old) (notes_of after some.new) told told
             (inr (inl (refl, refusing seen may_leave is_usable after some.new (still_refuses seen may_leave is_usable before after same refuses)))) past)
             (past_of olds before some.old held some.was))
 
@@ -181,8 +182,8 @@ module _ {D : Type 0} (seen : D → List ℕ) (may_leave : D → List ℕ → Ty
     pub other_noted : (place call : ℕ) (olds news : List ShelfValue) (before after : Spool D) → place ≢ number → NotesPage place call olds news before after → Holds t olds before → Holds t news after
     other_noted place call olds news before after unlike notes held = by (slice_get olds place) refl notes.waits.2
       where
-        waits : WaitSo seen may_leave is_usable after (PastAs line t q held.shelf (notes_of after held.shelf))
-        waits = subst (λ (s : Spool D). WaitSo seen may_leave is_usable s (PastAs line t q held.shelf (notes_of s held.shelf))) (sym notes.spool) held.waits
+        waits : WaitSo seen may_leave is_usable after (PastAs A line t q held.shelf (notes_of after held.shelf))
+        waits = subst (λ (s : Spool D). WaitSo seen may_leave is_usable s (PastAs A line t q held.shelf (notes_of s held.shelf))) (sym notes.spool) held.waits
 
         by : (o : Option ShelfValue) → slice_get olds place ≡ o → AddsTo (record { life = notes.waits.0; call = call; number = notes.waits.1; is_kept = false }) place olds news o → Holds t news after
         by None was adds = record {
@@ -195,10 +196,10 @@ module _ {D : Type 0} (seen : D → List ℕ) (may_leave : D → List ℕ → Ty
         by (Some old) was adds = stays_at place olds news old adds.0 before after held unlike was adds.1 adds.2.line waits
 
     -- a page of the line that is noted, under some number of some life, is told as one that is not on the disk
-    pub own_noted : (R : List Tiding → Type 0) (call : ℕ) (olds news : List ShelfValue) (before after : Spool D)
+    pub own_noted : (A → ⊥) → (R : List Tiding → Type 0) (call : ℕ) (olds news : List ShelfValue) (before after : Spool D)
         → ((life its_number : ℕ) → (u : List Tiding) × R u × (value : PageValue) × (value.line ≡ line) × (value.life ≡ life) × (value.call ≡ call) × (value.number ≡ its_number) × IsConfirmed seen may_leave is_usable t u value)
         → NotesPage number call olds news before after → Holds t olds before → (u : List Tiding) × R u × Holds u news after
-    own_noted R call olds news before after tell notes held =
+    own_noted never R call olds news before after tell notes held =
         let life : ℕ = notes.waits.0 in
         let its : ℕ = notes.waits.1 in
         let page : Waiting = record { life = life; call = call; number = its; is_kept = false } in
@@ -212,10 +213,10 @@ module _ {D : Type 0} (seen : D → List ℕ) (may_leave : D → List ℕ → Ty
           told.0,
           told.1,
           changes_at told.0 olds news held.shelf new before after held held.there adds.1 adds.2.line
-              (subst (λ (s : Spool D). WaitSo seen may_leave is_usable s (PastAs line told.0 q new (notes_of s new))) (sym notes.spool)
-              (wait_map seen may_leave is_usable before (PastAs line t q held.shelf (notes_of before held.shelf)) (PastAs line told.0 q new (notes_of before new))
-              (λ l past. subst (λ (x : List Tiding). PastAs line x q new (notes_of before new) l) (sym is.tells)
-              (past_refuses line t q is.given is.page held.shelf new (notes_of before held.shelf) (notes_of before new) l (ap (λ (v : PageValue). v.line) is.waits ∙ told.3) is.means shelved notes_are past)) held.waits)),
+              (subst (λ (s : Spool D). WaitSo seen may_leave is_usable s (PastAs A line told.0 q new (notes_of s new))) (sym notes.spool)
+              (wait_map seen may_leave is_usable before (PastAs A line t q held.shelf (notes_of before held.shelf)) (PastAs A line told.0 q new (notes_of before new))
+              (λ l past. subst (λ (x : List Tiding). PastAs A line x q new (notes_of before new) l) (sym is.tells)
+              (past_refuses A never line t q is.given is.page held.shelf new (notes_of before held.shelf) (notes_of before new) l (ap (λ (v : PageValue). v.line) is.waits ∙ told.3) is.means shelved notes_are past)) held.waits)),
         )
       where
         as_page : (value : PageValue) (life call its : ℕ) → value.life ≡ life → value.call ≡ call → value.number ≡ its → placed_as value false ≡ record { life = life; call = call; number = its; is_kept = false }

@@ -10,9 +10,10 @@ use Rattle.fax_spool.specs.declared.spool.Spool.{Spool}
 use Rattle.fax_spool.specs.declared.kept_record.KeptRecord.TheVariants.{Page}
 use Rattle.fax_shelf.specs.Restorations.{Means, ReadPage}
 use Rattle.fax_shelf.specs.Shelves.{IsShelved, ShelfValue, lines_of}
+use Rattle.fax_shelf.specs.Jobs.{WaitSo}
 use Rattle.fax_shelf.specs.Keeping.{AllArePlaced, ArePut, IsPlaced, IsRecordOf, placed_as}
 use Rattle.fax_shelf.specs.Lives.{EachIsPlaced, IsPlacedOf, NotesStill}
-use Rattle.fax_shelf.specs.Refusals.{AreRefused, WaitSo, notes_of}
+use Rattle.fax_shelf.specs.Refusals.{AreRefused, notes_of}
 use Rattle.fax_shelf.specs.SpoolKeeping.{PutsPages}
 use Rattle.fax_gateway.specs.Restored.{CallPage}
 use Rattle.fax_runcodes.specs.declared.format.Coding.TheVariants as codings
@@ -229,21 +230,21 @@ module _ {D : Type 0} (seen : D → List ℕ) (may_leave : D → List ℕ → Ty
 
   -- of a line that has no page among them
   pub puts_others :
-      (number : ℕ) (line : List ℕ) (t : List Tiding) (q : List CallPage) (shelf : ShelfValue) (pages : List PageToKeep) (is_kept : Bool) (olds news : List ShelfValue) (before after : Spool D)
+      (A : Type 0) (number : ℕ) (line : List ℕ) (t : List Tiding) (q : List CallPage) (shelf : ShelfValue) (pages : List PageToKeep) (is_kept : Bool) (olds news : List ShelfValue) (before after : Spool D)
       → PutsPages seen may_leave is_usable pages is_kept olds news before after → All (λ page. page.line < length olds) pages → AreOtherNames number line (lines_of olds) → has_page pages number ≡ false
-      → WaitSo seen may_leave is_usable before (PastAs line t q shelf (notes_of before shelf)) → WaitSo seen may_leave is_usable after (PastAs line t q shelf (notes_of after shelf))
-  puts_others number line t q shelf pages true olds news before after puts low other none was =
+      → WaitSo seen may_leave is_usable before (PastAs A line t q shelf (notes_of before shelf)) → WaitSo seen may_leave is_usable after (PastAs A line t q shelf (notes_of after shelf))
+  puts_others A number line t q shelf pages true olds news before after puts low other none was =
       let put = puts.put refl in
       let others = others_of number line (lines_of olds) pages put.values other (none_of number pages none) (are_named true pages put.values olds news put.shelved) in
-      puts_ok pages olds news before after (PastAs line t q shelf (notes_of before shelf)) (PastAs line t q shelf (notes_of after shelf)) put (λ refuses. not_both true refl (puts.refuses refuses).0)
-      (λ told past. past_beside line t q shelf shelf (notes_of before shelf) (notes_of after shelf) told (told ++ put.values) refl (own_same line told put.values others) (notes_before before after shelf (λ refuses. (puts.refuses refuses).1)) past) was
-  puts_others number line t q shelf pages false olds news before after puts low other none was =
+      puts_ok pages olds news before after (PastAs A line t q shelf (notes_of before shelf)) (PastAs A line t q shelf (notes_of after shelf)) put (λ refuses. not_both true refl (puts.refuses refuses).0)
+      (λ told past. past_beside A line t q shelf shelf (notes_of before shelf) (notes_of after shelf) told (told ++ put.values) refl (own_same line told put.values others) (notes_before before after shelf (λ refuses. (puts.refuses refuses).1)) past) was
+  puts_others A number line t q shelf pages false olds news before after puts low other none was =
       let refused = puts.refused refl low in
       let same : Refuses before → after ≡ before = λ refuses. (puts.refuses refuses).1 in
       let others = others_of number line (lines_of olds) pages refused.values other (none_of number pages none) (are_named false pages refused.values olds news refused.shelved) in
-      puts_err pages olds news before after (PastAs line t q shelf (notes_of before shelf)) (PastAs line t q shelf (notes_of after shelf)) refused same
-      (λ told past. past_beside line t q shelf shelf (notes_of before shelf) (notes_of after shelf) told told refl refl (notes_before before after shelf same) past)
-      (λ refuses told past. past_beside line t q shelf shelf (notes_of before shelf) (notes_of after shelf) told (told ++ refused.values) refl (own_same line told refused.values others) (notes_before before after shelf same) past)
+      puts_err pages olds news before after (PastAs A line t q shelf (notes_of before shelf)) (PastAs A line t q shelf (notes_of after shelf)) refused same
+      (λ told past. past_beside A line t q shelf shelf (notes_of before shelf) (notes_of after shelf) told told refl refl (notes_before before after shelf same) past)
+      (λ refuses told past. past_beside A line t q shelf shelf (notes_of before shelf) (notes_of after shelf) told (told ++ refused.values) refl (own_same line told refused.values others) (notes_before before after shelf same) past)
       was
 
   -- its shelf stays then
@@ -264,18 +265,18 @@ module _ {D : Type 0} (seen : D → List ℕ) (may_leave : D → List ℕ → Ty
 
   -- its deed, between those of the others
   around_past :
-      (line : List ℕ) (t u : List Tiding) (q r : List CallPage) (shelf new : ShelfValue) (before after : Bool) (told front behind values : List PageValue) (value : PageValue) (given : Option (List ℕ)) (page : ReadPage)
-      → (PastAs line t q shelf before (told ++ front) → PastAs line (Confirms given (page_of page) page.waits.closes ∷ t) r new after ((told ++ front) ++ page.waits ∷ []))
+      (A : Type 0) (line : List ℕ) (t u : List Tiding) (q r : List CallPage) (shelf new : ShelfValue) (before after : Bool) (told front behind values : List PageValue) (value : PageValue) (given : Option (List ℕ)) (page : ReadPage)
+      → (PastAs A line t q shelf before (told ++ front) → PastAs A line (Confirms given (page_of page) page.waits.closes ∷ t) r new after ((told ++ front) ++ page.waits ∷ []))
       → AreOthers line front → AreOthers line behind → values ≡ front ++ value ∷ behind → page.waits ≡ value → u ≡ Confirms given (page_of page) page.waits.closes ∷ t
-      → PastAs line t q shelf before told → PastAs line u r new after (told ++ values)
-  around_past line t u q r shelf new before after told front behind values value given page deed in_front are_behind are is tells past =
-      let first : PastAs line t q shelf before (told ++ front) = past_beside line t q shelf shelf before before told (told ++ front) refl (own_same line told front in_front) (λ on. on) past in
-      let mine : PastAs line (Confirms given (page_of page) page.waits.closes ∷ t) r new after ((told ++ front) ++ page.waits ∷ []) = deed first in
+      → PastAs A line t q shelf before told → PastAs A line u r new after (told ++ values)
+  around_past A line t u q r shelf new before after told front behind values value given page deed in_front are_behind are is tells past =
+      let first : PastAs A line t q shelf before (told ++ front) = past_beside A line t q shelf shelf before before told (told ++ front) refl (own_same line told front in_front) (λ on. on) past in
+      let mine : PastAs A line (Confirms given (page_of page) page.waits.closes ∷ t) r new after ((told ++ front) ++ page.waits ∷ []) = deed first in
       let mid : List PageValue = (told ++ front) ++ page.waits ∷ [] in
-      let last : PastAs line (Confirms given (page_of page) page.waits.closes ∷ t) r new after (mid ++ behind) =
-      past_beside line (Confirms given (page_of page) page.waits.closes ∷ t) r new new after after mid (mid ++ behind) refl (own_same line mid behind are_behind) (λ on. on) mine in
-      subst (λ (l : List Tiding). PastAs line l r new after (told ++ values)) (sym tells)
-      (subst (λ (l : List PageValue). PastAs line (Confirms given (page_of page) page.waits.closes ∷ t) r new after l)
+      let last : PastAs A line (Confirms given (page_of page) page.waits.closes ∷ t) r new after (mid ++ behind) =
+      past_beside A line (Confirms given (page_of page) page.waits.closes ∷ t) r new new after after mid (mid ++ behind) refl (own_same line mid behind are_behind) (λ on. on) mine in
+      subst (λ (l : List Tiding). PastAs A line l r new after (told ++ values)) (sym tells)
+      (subst (λ (l : List PageValue). PastAs A line (Confirms given (page_of page) page.waits.closes ∷ t) r new after l)
       (ap (λ (v : PageValue). ((told ++ front) ++ v ∷ []) ++ behind) is ∙ around line told front behind values value are) last)
 
   -- what is told of a page that was put as this
@@ -290,7 +291,7 @@ module _ {D : Type 0} (seen : D → List ℕ) (may_leave : D → List ℕ → Ty
   same_shelf a b same = cc
 
   -- the shelf of the line has the page, and it is told
-  pub record HasPage (number : ℕ) (line : List ℕ) (q : List CallPage) (pages : List PageToKeep) (R : List Tiding → Type 0) (olds news : List ShelfValue) (after : Spool D) : Type 0 where
+  pub record HasPage (A : Type 0) (number : ℕ) (line : List ℕ) (q : List CallPage) (pages : List PageToKeep) (R : List Tiding → Type 0) (olds news : List ShelfValue) (after : Spool D) : Type 0 where
     pub tidings : List Tiding
     pub right : R tidings
     pub puts : List CallPage
@@ -299,10 +300,10 @@ module _ {D : Type 0} (seen : D → List ℕ) (may_leave : D → List ℕ → Ty
     pub there : slice_get news number ≡ Some shelf
     pub named : shelf.line ≡ line
     pub lines : lines_of news ≡ lines_of olds
-    pub waits : WaitSo seen may_leave is_usable after (PastAs line tidings (q ++ puts) shelf (notes_of after shelf))
+    pub waits : WaitSo seen may_leave is_usable after (PastAs A line tidings (q ++ puts) shelf (notes_of after shelf))
 
   module _
-      (number : ℕ) (line : List ℕ) (t : List Tiding) (q : List CallPage) (shelf : ShelfValue) (pages : List PageToKeep) (olds news : List ShelfValue) (before after : Spool D) (R : List Tiding → Type 0)
+      (A : Type 0) (number : ℕ) (line : List ℕ) (t : List Tiding) (q : List CallPage) (shelf : ShelfValue) (pages : List PageToKeep) (olds news : List ShelfValue) (before after : Spool D) (R : List Tiding → Type 0)
       (low : All (λ page. page.line < length olds) pages) (other : AreOtherNames number line (lines_of olds)) (there : slice_get olds number ≡ Some shelf) (named : shelf.line ≡ line)
       (rising : AllPairs (λ page behind. page.line < behind.line) pages) (has : has_page pages number ≡ true)
       (tell : (at : ℕ) (page : PageToKeep) (value : PageValue) → at < length pages → ((other : PageToKeep) → slice_index_or pages at other ≡ page) → page.line ≡ number → IsRecordOf page (Page value)
@@ -318,7 +319,7 @@ module _ {D : Type 0} (seen : D → List ℕ) (may_leave : D → List ℕ → Ty
         subst (λ (v : PageValue). IsShelved (placed_as v b) shelf own.placed.new) (sym is) (subst (λ (s : ShelfValue). IsShelved (placed_as own.value b) s own.placed.new) (its_shelf b values own) own.placed.shelved)
 
     has_own : (b : Bool) (values : List PageValue) (own : Own number line b pages values olds news) (u : List Tiding) → R u → (puts : List CallPage) → AreKeptOf number (kept_if b pages) puts → lines_of news ≡ lines_of olds
-        → WaitSo seen may_leave is_usable after (PastAs line u (q ++ puts) own.placed.new (notes_of after own.placed.new)) → HasPage number line q (kept_if b pages) R olds news after
+        → WaitSo seen may_leave is_usable after (PastAs A line u (q ++ puts) own.placed.new (notes_of after own.placed.new)) → HasPage A number line q (kept_if b pages) R olds news after
     has_own b values own u right puts are_put lines waits = record {
       tidings = u;
       right = right;
@@ -341,7 +342,7 @@ module _ {D : Type 0} (seen : D → List ℕ) (may_leave : D → List ℕ → Ty
           subst (λ (f : Format). MeansPage f codings.Mr page.text r.page) format (subst (λ (x : List ℕ). MeansPage r.waits.format codings.Mr x r.page) text means),
         )
 
-    pub own_ok : (put : ArePut seen may_leave is_usable pages olds news before after) → (Refuses before → ⊥) → WaitSo seen may_leave is_usable before (PastAs line t q shelf (notes_of before shelf)) → HasPage number line q pages R olds news after
+    pub own_ok : (put : ArePut seen may_leave is_usable pages olds news before after) → (Refuses before → ⊥) → WaitSo seen may_leave is_usable before (PastAs A line t q shelf (notes_of before shelf)) → HasPage A number line q pages R olds news after
     own_ok put accepts was =
         let own : Own number line true pages put.values olds news =
         own_of number line (lines_of olds) true pages put.values olds news other (are_named true pages put.values olds news put.shelved) rising ((slots_are_puts pages put.values olds news put.shelved).0 rising) has in
@@ -352,13 +353,13 @@ module _ {D : Type 0} (seen : D → List ℕ) (may_leave : D → List ℕ → Ty
         let notes : NotesStill (notes_of before shelf) (notes_of after new) new = notes_so true before after page.waits shelf new (λ refuses. absurd (accepts refuses)) shelved in
         let name : page.waits.line ≡ line = ap (λ (v : PageValue). v.line) told.2.waits ∙ its_name true put.values own in
         has_own true put.values own told.0 told.1 (page_of page ∷ []) (own.kept (page_of page) (is_kept own.page own.value page own.placed.is_record told.2.waits told.2.means)) (all_lines true pages put.values olds news put.shelved)
-        (puts_ok pages olds news before after (PastAs line t q shelf (notes_of before shelf)) (PastAs line told.0 (q ++ page_of page ∷ []) new (notes_of after new)) put accepts
-        (λ l past. around_past line t told.0 q (q ++ page_of page ∷ []) shelf new (notes_of before shelf) (notes_of after new) l own.front own.behind put.values own.value told.2.given page
-        (λ first. past_keeps line t q told.2.given page shelf new (notes_of before shelf) (notes_of after new) (l ++ own.front) name told.2.means shelved notes first) own.in_front own.are_behind own.values_are
+        (puts_ok pages olds news before after (PastAs A line t q shelf (notes_of before shelf)) (PastAs A line told.0 (q ++ page_of page ∷ []) new (notes_of after new)) put accepts
+        (λ l past. around_past A line t told.0 q (q ++ page_of page ∷ []) shelf new (notes_of before shelf) (notes_of after new) l own.front own.behind put.values own.value told.2.given page
+        (λ first. past_keeps A line t q told.2.given page shelf new (notes_of before shelf) (notes_of after new) (l ++ own.front) name told.2.means shelved notes first) own.in_front own.are_behind own.values_are
         told.2.waits told.2.tells past) was)
 
-    pub own_err : (refused : AreRefused seen may_leave is_usable pages olds news before after) → (Refuses before → after ≡ before) → WaitSo seen may_leave is_usable before (PastAs line t q shelf (notes_of before shelf)) → HasPage number line q [] R olds news after
-    own_err refused same was =
+    pub own_err : (A → ⊥) → (refused : AreRefused seen may_leave is_usable pages olds news before after) → (Refuses before → after ≡ before) → WaitSo seen may_leave is_usable before (PastAs A line t q shelf (notes_of before shelf)) → HasPage A number line q [] R olds news after
+    own_err never refused same was =
         let own : Own number line false pages refused.values olds news =
         own_of number line (lines_of olds) false pages refused.values olds news other (are_named false pages refused.values olds news refused.shelved) rising
         ((slots_are_refusals pages refused.values olds news refused.shelved).0 rising) has in
@@ -369,10 +370,10 @@ module _ {D : Type 0} (seen : D → List ℕ) (may_leave : D → List ℕ → Ty
         let notes : NotesStill (notes_of before shelf) (notes_of after new) new = notes_so false before after page.waits shelf new same shelved in
         let name : page.waits.line ≡ line = ap (λ (v : PageValue). v.line) told.2.waits ∙ its_name false refused.values own in
         has_own false refused.values own told.0 told.1 [] refl (all_lines false pages refused.values olds news refused.shelved)
-        (subst (λ (p : List CallPage). WaitSo seen may_leave is_usable after (PastAs line told.0 p new (notes_of after new))) (sym (append-nil q))
-        (puts_err pages olds news before after (PastAs line t q shelf (notes_of before shelf)) (PastAs line told.0 q new (notes_of after new)) refused same
-        (λ l past. subst (λ (x : List Tiding). PastAs line x q new (notes_of after new) l) (sym told.2.tells)
-        (past_refuses line t q told.2.given page shelf new (notes_of before shelf) (notes_of after new) l name told.2.means shelved notes past))
-        (λ refuses l past. around_past line t told.0 q q shelf new (notes_of before shelf) (notes_of after new) l own.front own.behind refused.values own.value told.2.given page
-        (λ first. past_refused_there line t q told.2.given page shelf new (notes_of before shelf) (notes_of after new) (l ++ own.front) name told.2.means (refusing seen may_leave is_usable after new refuses) first) own.in_front
+        (subst (λ (p : List CallPage). WaitSo seen may_leave is_usable after (PastAs A line told.0 p new (notes_of after new))) (sym (append-nil q))
+        (puts_err pages olds news before after (PastAs A line t q shelf (notes_of before shelf)) (PastAs A line told.0 q new (notes_of after new)) refused same
+        (λ l past. subst (λ (x : List Tiding). PastAs A line x q new (notes_of after new) l) (sym told.2.tells)
+        (past_refuses A never line t q told.2.given page shelf new (notes_of before shelf) (notes_of after new) l name told.2.means shelved notes past))
+        (λ refuses l past. around_past A line t told.0 q q shelf new (notes_of before shelf) (notes_of after new) l own.front own.behind refused.values own.value told.2.given page
+        (λ first. past_refused_there A line t q told.2.given page shelf new (notes_of before shelf) (notes_of after new) (l ++ own.front) name told.2.means (refusing seen may_leave is_usable after new refuses) first) own.in_front
         own.are_behind own.values_are told.2.waits told.2.tells past) was))

@@ -13,6 +13,7 @@ use Rattle.fax_gateway.specs.Origins.{JobsAreOfTheirCalls}
 use Rattle.fax_gateway.specs.Restored.{CallPage, RestoredCall}
 use Rattle.fax_gateway.specs.Setups.{Setup}
 use Rattle.fax_gateway.specs.Events.{Event, Placed, Ring}
+use Rattle.fax_gateway.specs.Lives.{Life}
 use Rattle.fax_gateway.specs.Reached.{GatewayValue, IsReachedBy}
 use Rattle.fax_gateway.specs.Driving.{Accepts, DriverValue, Entry, HasMade, RefusesRing, events}
 use Rattle.fax_hold.specs.Holding.{HoldingValue, StaysWhere}
@@ -36,12 +37,14 @@ use Rattle.fax_spool.specs.declared.kept_record.KeptRecord.TheVariants.{Page}
 use Rattle.fax_shelf.specs.Restorations.{Restores, calls_of}
 use Rattle.fax_shelf.specs.Shelves.{ShelfValue, lines_of}
 use Rattle.fax_shelf.specs.Keeping.{IsRecordOf}
-use Rattle.fax_shelf.specs.Lives.{Goes as GoesOn, OwedIsRestored, Stops, closed_read, owed, state_of}
+use Rattle.fax_shelf.specs.Lives.{Goes as GoesOn, OwedIsRestored, State, Stops, closed_read, owed, state_of}
 use Rattle.fax_shelf.specs.Refusals.{notes_of}
-use Rattle.fax_shelf.specs.Book.{Confirms, Restores as RestoresCalls, Tiding, page_of, reports, told_by, told_in, told_over}
+use Rattle.fax_shelf.specs.Book.{AllIsPut, Confirms, Restores as RestoresCalls, Tiding, page_of, reports, told_by, told_in, told_over}
 use Rattle.fax_shelf.specs.TurnsTold.{EndsIn, IsPutAs, TellsBoth, TurnsTellBoth}
 use Rattle.fax_shelf.specs.SpoolKeeping.{EndsJobIf, IsUnchanged, NotesPage, PutsPages}
-use Rattle.fax_shelf.specs.Histories.{AreKeptOf, HasPast, RunsMakeHistory}
+use Rattle.fax_shelf.specs.Histories.{AreKeptOf, BeginsRun, HasPast, LeavesRun, RunsMakeHistory}
+use Rattle.fax_shelf.specs.Jobs.{WaitSo}
+use Rattle.fax_shelf.specs.NotedRuns.{EndsNoted, HasWholePast, NotesOther, PutsWithOk, RunsNoteAll}
 use Rattle.fax_shelf.specs.OnLeg.{AreOnLeg, HasDoneOn}
 use Rattle.fax_shelf.proofs.BookTurns.{deed_of_turn, turn_has_page}
 use Rattle.fax_shelf.proofs.PastLegs.{Leg, kept_once, leg_ended, leg_fresh, leg_placed, leg_rung, leg_still}
@@ -260,28 +263,32 @@ kept_if_none number pages false none = refl
 
 -- ---- a slot's turn
 
+-- what a keeper makes of its shelves and its spool; and where this holds each answer is an Ok, and no page is left out
+abbrev PutsAre : {D K : Type 0} → (D → List ℕ) → (D → List ℕ → Type 0) → (D → Bool) → (K → List ShelfValue) → (K → Spool D) → ℕ → Type 0 → (List PageToKeep → Bool → K → K → Type 0) → Type 0
+PutsAre {D} {K} seen may_leave is_usable shelves_of spool_of number A Puts =
+    (pages : List PageToKeep) (is_kept : Bool) (k l : K) → Puts pages is_kept k l → PutsPages seen may_leave is_usable pages is_kept (shelves_of k) (shelves_of l) (spool_of k) (spool_of l) × (A → has_page pages number ≡ true → is_kept ≡ true)
+
+abbrev NotesAre : {D K : Type 0} → (K → List ShelfValue) → (K → Spool D) → ℕ → Type 0 → (ℕ → ℕ → K → K → Type 0) → Type 0
+NotesAre {D} {K} shelves_of spool_of number A Notes = (place call : ℕ) (k l : K) → Notes place call k l → NotesPage place call (shelves_of k) (shelves_of l) (spool_of k) (spool_of l) × (A → place ≢ number)
+
+abbrev EndsAre : {D K : Type 0} → (D → List ℕ) → (D → List ℕ → Type 0) → (D → Bool) → (K → List ShelfValue) → (K → Spool D) → ℕ → Type 0 → (ℕ → Report → K → K → Type 0) → Type 0
+EndsAre {D} {K} seen may_leave is_usable shelves_of spool_of number A Ends =
+    (place : ℕ) (report : Report) (k l : K) → Ends place report k l → (is : EndsJobIf seen may_leave is_usable place report (shelves_of k) (shelves_of l) (spool_of k) (spool_of l)) × (A → place ≡ number → is.noted ≡ true)
+
 module _
     {D K : Type 0} (seen : D → List ℕ) (may_leave : D → List ℕ → Type 0) (is_usable : D → Bool) (shelves_of : K → List ShelfValue) (spool_of : K → Spool D) (number : ℕ) (line : List ℕ) (names : List (List ℕ))
-    (alone : AreOtherNames number line names) (low_number : number < length names) where
+    (alone : AreOtherNames number line names) (low_number : number < length names) (A : Type 0) (Puts : List PageToKeep → Bool → K → K → Type 0) (Notes : ℕ → ℕ → K → K → Type 0) (Ends : ℕ → Report → K → K → Type 0)
+    (puts_are : PutsAre seen may_leave is_usable shelves_of spool_of number A Puts) (notes_are : NotesAre shelves_of spool_of number A Notes) (ends_are : EndsAre seen may_leave is_usable shelves_of spool_of number A Ends) where
   abbrev Holds : List Tiding → List CallPage → K → Type 0
-  Holds t q k = Held seen may_leave is_usable number line names t q (shelves_of k) (spool_of k)
+  Holds t q k = Held seen may_leave is_usable A number line names t q (shelves_of k) (spool_of k)
 
   abbrev Same : K → K → Type 0
   Same old new = IsUnchanged (shelves_of old) (shelves_of new) (spool_of old) (spool_of new)
 
-  abbrev Puts : List PageToKeep → Bool → K → K → Type 0
-  Puts pages is_kept old new = PutsPages seen may_leave is_usable pages is_kept (shelves_of old) (shelves_of new) (spool_of old) (spool_of new)
-
-  abbrev Notes : ℕ → ℕ → K → K → Type 0
-  Notes place call old new = NotesPage place call (shelves_of old) (shelves_of new) (spool_of old) (spool_of new)
-
-  abbrev Ends : ℕ → Report → K → K → Type 0
-  Ends place report old new = EndsJobIf seen may_leave is_usable place report (shelves_of old) (shelves_of new) (spool_of old) (spool_of new)
-
   holds_still : (t : List Tiding) (q : List CallPage) (k l : K) → Same k l → Holds t q k → Holds t q l
   holds_still t q k l is held =
-      subst (λ (s : List ShelfValue). Held seen may_leave is_usable number line names t q s (spool_of l)) (sym is.shelves)
-      (subst (λ (p : Spool D). Held seen may_leave is_usable number line names t q (shelves_of k) p) (sym is.spool) held)
+      subst (λ (s : List ShelfValue). Held seen may_leave is_usable A number line names t q s (spool_of l)) (sym is.shelves)
+      (subst (λ (p : Spool D). Held seen may_leave is_usable A number line names t q (shelves_of k) p) (sym is.spool) held)
 
   holds_same : (t : List Tiding) (q : List CallPage) (k l : K) → l ≡ k → Holds t q k → Holds t q l
   holds_same t q k l is held = subst (λ (m : K). Holds t q m) (sym is) held
@@ -301,11 +308,11 @@ module _
       noted : (o : Option Kept) (b : Bool) → NotesIf Notes place o b k between → Holds t q between
       noted None b is = holds_same t q k between is held
       noted (Some page) true is = holds_same t q k between is held
-      noted (Some page) false is = other_noted seen may_leave is_usable number line names alone low_number t q place page.call (shelves_of k) (shelves_of between) (spool_of k) (spool_of between) unlike is held
+      noted (Some page) false is = other_noted seen may_leave is_usable A number line names alone low_number t q place page.call (shelves_of k) (shelves_of between) (spool_of k) (spool_of between) unlike (notes_are place page.call k between is).0 held
 
       ended : (o : Option Report) → EndsIf Ends place o between l → Holds t q between → Holds t q l
       ended None is was = holds_same t q between l is was
-      ended (Some r) is was = other_ended seen may_leave is_usable number line names alone low_number t q place r (shelves_of between) (shelves_of l) (spool_of between) (spool_of l) unlike low is was
+      ended (Some r) is was = other_ended seen may_leave is_usable A number line names alone low_number t q place r (shelves_of between) (shelves_of l) (spool_of between) (spool_of l) unlike low (ends_are place r between l is).0 was
 
   other_place : (t : List Tiding) (q : List CallPage) (slot : ℕ) (pages : List PageToKeep) (place : ℕ) (o : Option PlaceValue) (k l : K) → place ≢ number → ((p : PlaceValue) → o ≡ Some p → place < length names)
       → TellsPlace Notes Ends slot pages place o k l → Holds t q k → Holds t q l
@@ -348,12 +355,13 @@ module _
   put_others : (t : List Tiding) (q : List CallPage) (pages : List PageToKeep) (is_kept : Bool) (k l : K) → PutsIf Puts pages is_kept k l → All (λ page. page.line < length (shelves_of k)) pages → has_page pages number ≡ false → Holds t q k → Holds t q l
   put_others t q [] is_kept k l put low none held = holds_same t q k l put.1 held
   put_others t q (page ∷ pages) is_kept k l put low none held =
-      let stay = puts_stay seen may_leave is_usable number (page ∷ pages) is_kept (shelves_of k) (shelves_of l) (spool_of k) (spool_of l) put low none in record {
+      let is = (puts_are (page ∷ pages) is_kept k l put).0 in
+      let stay = puts_stay seen may_leave is_usable number (page ∷ pages) is_kept (shelves_of k) (shelves_of l) (spool_of k) (spool_of l) is low none in record {
         shelf = held.shelf;
         there = stay.0 ∙ held.there;
         named = held.named;
         lines = stay.1 ∙ held.lines;
-        waits = puts_others seen may_leave is_usable number line t q held.shelf (page ∷ pages) is_kept (shelves_of k) (shelves_of l) (spool_of k) (spool_of l) put low
+        waits = puts_others seen may_leave is_usable A number line t q held.shelf (page ∷ pages) is_kept (shelves_of k) (shelves_of l) (spool_of k) (spool_of l) is low
             (subst (λ (n : List (List ℕ)). AreOtherNames number line n) (sym held.lines) alone) none held.waits;
       }
 
@@ -367,16 +375,22 @@ module _
       → (u : List Tiding) × R u × IsConfirmed seen may_leave is_usable t u value) → Holds t q k → HoldsSo R q (kept_if is_kept pages) l
   put_own t q R [] is_kept k l put low rising has tell held = let no : false ≡ true = has in cc
   put_own t q R (page ∷ pages) true k l put low rising has tell held =
-      as_so (own_ok seen may_leave is_usable number line t q held.shelf (page ∷ pages) (shelves_of k) (shelves_of l) (spool_of k) (spool_of l) R low
-      (subst (λ (n : List (List ℕ)). AreOtherNames number line n) (sym held.lines) alone) held.there held.named rising has tell (put.put refl) (λ refuses. let no : true ≡ false = (put.refuses refuses).0 in cc) held.waits)
+      as_so (own_ok seen may_leave is_usable A number line t q held.shelf (page ∷ pages) (shelves_of k) (shelves_of l) (spool_of k) (spool_of l) R low
+      (subst (λ (n : List (List ℕ)). AreOtherNames number line n) (sym held.lines) alone) held.there held.named rising has tell (is.put refl) (λ refuses. let no : true ≡ false = (is.refuses refuses).0 in cc) held.waits)
     where
-      as_so : HasPage seen may_leave is_usable number line q (page ∷ pages) R (shelves_of k) (shelves_of l) (spool_of l) → HoldsSo R q (page ∷ pages) l
+      is : PutsPages seen may_leave is_usable (page ∷ pages) true (shelves_of k) (shelves_of l) (spool_of k) (spool_of l)
+      is = (puts_are (page ∷ pages) true k l put).0
+
+      as_so : HasPage seen may_leave is_usable A number line q (page ∷ pages) R (shelves_of k) (shelves_of l) (spool_of l) → HoldsSo R q (page ∷ pages) l
       as_so it = (it.tidings, it.puts, it.right, it.are_put, record { shelf = it.shelf; there = it.there; named = it.named; lines = it.lines ∙ held.lines; waits = it.waits })
   put_own t q R (page ∷ pages) false k l put low rising has tell held =
-      as_so (own_err seen may_leave is_usable number line t q held.shelf (page ∷ pages) (shelves_of k) (shelves_of l) (spool_of k) (spool_of l) R low
-      (subst (λ (n : List (List ℕ)). AreOtherNames number line n) (sym held.lines) alone) held.there held.named rising has tell (put.refused refl low) (λ refuses. (put.refuses refuses).1) held.waits)
+      as_so (own_err seen may_leave is_usable A number line t q held.shelf (page ∷ pages) (shelves_of k) (shelves_of l) (spool_of k) (spool_of l) R low
+      (subst (λ (n : List (List ℕ)). AreOtherNames number line n) (sym held.lines) alone) held.there held.named rising has tell (λ a. let no : false ≡ true = (puts_are (page ∷ pages) false k l put).1 a has in cc) (is.refused refl low) (λ refuses. (is.refuses refuses).1) held.waits)
     where
-      as_so : HasPage seen may_leave is_usable number line q [] R (shelves_of k) (shelves_of l) (spool_of l) → HoldsSo R q [] l
+      is : PutsPages seen may_leave is_usable (page ∷ pages) false (shelves_of k) (shelves_of l) (spool_of k) (spool_of l)
+      is = (puts_are (page ∷ pages) false k l put).0
+
+      as_so : HasPage seen may_leave is_usable A number line q [] R (shelves_of k) (shelves_of l) (spool_of l) → HoldsSo R q [] l
       as_so it = (it.tidings, it.puts, it.right, it.are_put, record { shelf = it.shelf; there = it.there; named = it.named; lines = it.lines ∙ held.lines; waits = it.waits })
 
   -- ---- the end of a slot's turn, of a line that had none
@@ -479,7 +493,7 @@ module _
           by None is ends = subst (λ (x : List Tiding). Holds x q b) (sym is) (holds_same u q a b ends held)
           by (Some report) is ends =
               subst (λ (x : List Tiding). Holds x q b) (sym is)
-              (own_ended seen may_leave is_usable number line names alone low_number u q report (shelves_of a) (shelves_of b) (spool_of a) (spool_of b) ends held)
+              (own_ended seen may_leave is_usable A number line names alone low_number u q report (shelves_of a) (shelves_of b) (spool_of a) (spool_of b) (ends_are number report a b ends).0 (λ x. (ends_are number report a b ends).1 x refl) held)
 
       ended_so : EndsTurn (is_kept_in end number) own_line (slice_index_or lines number other).line × ((slice_index_or lines number other).turned ≡ (slice_index_or turned number other).turned)
       ended_so = subst (λ (b : Bool). EndsWhere b (is_kept_in end number) (slice_index_or turned number other) (slice_index_or lines number other)) on (ends_where other)
@@ -543,7 +557,8 @@ module _
               let it = told_line a b told in
               let notes : Notes number kept.call a it.0 =
               subst (λ (o : Option Kept). NotesIf Notes number o false a it.0) is (subst (λ (c : Bool). NotesIf Notes number own_line.turned.kept c a it.0) has it.1) in
-              let noted = own_noted seen may_leave is_usable number line names alone low_number t q IsTold kept.call (shelves_of a) (shelves_of it.0) (spool_of a) (spool_of it.0) (told_noted kept is) notes was in
+              let noted = own_noted seen may_leave is_usable A number line names alone low_number t q (λ x. (notes_are number kept.call a it.0 notes).1 x refl) IsTold kept.call (shelves_of a) (shelves_of it.0) (spool_of a) (spool_of it.0) (told_noted kept is)
+              (notes_are number kept.call a it.0 notes).0 was in
               told_report noted.0 q it.0 b noted.1 it.2 noted.2)
               (put_none has))
 
@@ -703,6 +718,11 @@ module _
 
 -- ---- a run makes history
 
+-- a line has this past; and where this holds all was put and noted
+record PastIf (A : Type 0) (writes : Writing) (line : List ℕ) (lives : List Life) (puts : List CallPage) (told : List spool.PageValue) : Type 0 where
+  past : HasPast writes line lives puts told
+  all : A → AllIsPut past.deeds
+
 module _ {D K : Type 0} (seen : D → List ℕ) (may_leave : D → List ℕ → Type 0) (is_usable : D → Bool) (shelves_of : K → List ShelfValue) (spool_of : K → Spool D) where
   same_names : (number : ℕ) (line : List ℕ) (shelves : List ShelfValue) → ((place : ℕ) (shelf : ShelfValue) → slice_get shelves place ≡ Some shelf → place ≢ number → shelf.line ≢ line)
       → AreOtherNames number line (lines_of shelves)
@@ -720,8 +740,18 @@ module _ {D K : Type 0} (seen : D → List ℕ) (may_leave : D → List ℕ → 
       by place name at None is unlike = let no : None ≡ Some name = sym (none_at shelves place is) ∙ at in absurd (cc)
       by place name at (Some shelf) is unlike = λ same. alone place shelf is unlike (same_some shelf.line name (sym (line_at shelves place shelf is) ∙ at) ∙ same)
 
-  pub runs_make_history : TurnsTellBoth → ConfirmsTheNewest → JobsAreOfTheirCalls → PagesAreWritten → WrittenPagesMean → PagesAreUnique → OwedIsRestored → RunsMakeHistory seen may_leave is_usable shelves_of spool_of
-  runs_make_history tell_both newest origins written mean unique owed_is writes number line pages lives puts setup first done settled begun left k l writing past begins ran =
+  -- what a run leaves; and where this holds all is put and noted
+  record LeavesAs (A : Type 0) (writes : Writing) (number : ℕ) (line : List ℕ) (lives : List Life) (puts : List CallPage) (setup : Setup) (settled : List SlotEnd) (lines : List PlaceValue) (spool : Spool D) : Type 0 where
+    leaves : LeavesRun seen may_leave is_usable writes number line lives puts setup settled lines spool
+    whole : WaitSo seen may_leave is_usable spool (PastIf A writes line (record { setup = setup; trace = leaves.trace } ∷ lives) (puts ++ leaves.kept))
+
+  leaves_as : (A : Type 0) (number : ℕ) (Puts : List PageToKeep → Bool → K → K → Type 0) (Notes : ℕ → ℕ → K → K → Type 0) (Ends : ℕ → Report → K → K → Type 0) → PutsAre seen may_leave is_usable shelves_of spool_of number A Puts
+      → NotesAre shelves_of spool_of number A Notes → EndsAre seen may_leave is_usable shelves_of spool_of number A Ends → TurnsTellBoth → ConfirmsTheNewest → JobsAreOfTheirCalls → PagesAreWritten → WrittenPagesMean → PagesAreUnique → OwedIsRestored
+      → (writes : Writing) (line : List ℕ) (pages : List spool.PageValue) (lives : List Life) (puts : List CallPage) (setup : Setup) (first : ℕ) (done : List Done) (settled : List SlotEnd) (begun left : List PlaceValue) (k l : K)
+      → IsWriting writes → (past : HasPast writes line lives puts pages) → (A → AllIsPut past.deeds) → BeginsRun seen may_leave is_usable number line pages setup begun (shelves_of k) (spool_of k)
+      → Ran (λ (old new : K). IsUnchanged (shelves_of old) (shelves_of new) (spool_of old) (spool_of new)) Puts Notes Ends first done settled begun left k l
+      → LeavesAs A writes number line lives puts setup settled left (spool_of l)
+  leaves_as A number Puts Notes Ends puts_are notes_are ends_are tell_both newest origins written mean unique owed_is writes line pages lives puts setup first done settled begun left k l writing past all begins ran =
       let names : List (List ℕ) = lines_of (shelves_of k) in
       let alone : AreOtherNames number line names = same_names number line (shelves_of k) begins.alone in
       let named : begins.restored.shelf.line ≡ line = begins.restores.are.named in
@@ -731,7 +761,7 @@ module _ {D K : Type 0} (seen : D → List ℕ) (may_leave : D → List ℕ → 
       begins.set.restored ∙ owed_is line past.deeds past.state begins.restored past.done (subst (λ (p : List spool.PageValue). Restores line (closed p) begins.restored) (sym past.there) begins.restores) in
       let many_names : length names ≡ length (shelves_of k) = length_map (shelves_of k) in
       let low : number < length names = low_so number names begun many_names begins.as_many (get_low begun number begins.place begins.there) in
-      let held : Held seen may_leave is_usable number line names first_told (puts ++ []) (shelves_of k) (spool_of k) = record {
+      let held : Held seen may_leave is_usable A number line names first_told (puts ++ []) (shelves_of k) (spool_of k) = record {
         shelf = begins.restored.shelf;
         there = begins.shelved;
         named = named;
@@ -749,6 +779,7 @@ module _ {D K : Type 0} (seen : D → List ℕ) (may_leave : D → List ℕ → 
                   (subst (λ (p : List spool.PageValue). Restores line (closed p) begins.restored) (sym past.there) begins.restores)),
             );
             put = past.put ∙ sym (append-nil puts);
+            all = all;
             tells = ap (λ (c : List RestoredCall). RestoresCalls c ∷ told_by past.deeds) (sym calls) ∙ ap (λ (t : List Tiding). RestoresCalls setup.restored ∷ t) past.are.same;
           },
         );
@@ -762,29 +793,36 @@ module _ {D K : Type 0} (seen : D → List ℕ) (may_leave : D → List ℕ → 
         told = refl;
         leg = leg_fresh setup (slice_index_or begun number begins.place).line.holding (subst (λ (p : PlaceValue). HasDoneOn [] p.line.holding) (sym place_is) begins.fresh);
       } in
-      let stands = run_on seen may_leave is_usable shelves_of spool_of number line names alone low tell_both newest origins written mean setup writes before writing begins.place puts first done settled begun left k l ran
+      let stands = run_on seen may_leave is_usable shelves_of spool_of number line names alone low A Puts Notes Ends puts_are notes_are ends_are tell_both newest origins written mean setup writes before writing begins.place puts first done settled begun left k l ran
       (record { many = sym begins.as_many ∙ sym many_names; tidings = first_told; puts = []; are_put = refl; on_leg = []; are_on_leg = refl; reaches = reaches; held = held }) in
       let once : stands.on_leg ≡ stands.puts = kept_once unique number (kept_pages settled) stands.on_leg stands.puts stands.are_on_leg stands.are_put in
+      let life : Life = record { setup = setup; trace = stands.reaches.trace } in
+      let its_state : List spool.PageValue → State = λ told. state_of stands.held.shelf (notes_of (spool_of l) stands.held.shelf) told in
+      let its_past : (told : List spool.PageValue) → PastAs A line stands.tidings (puts ++ stands.puts) stands.held.shelf (notes_of (spool_of l) stands.held.shelf) told → HasPast writes line (life ∷ lives) (puts ++ stands.puts) told =
+      λ told p. record {
+        deeds = p.deeds;
+        state = its_state told;
+        done = p.done;
+        there = refl;
+        are = record { traces = (stands.reaches.reached.is_trace, past.are.traces); same = p.tells ∙ sym stands.reaches.told };
+        put = p.put;
+      } in
       record {
-        place = slice_index_or left number begins.place;
-        there = get_or left number begins.place (low_left number names left stands.many low);
-        trace = stands.reaches.trace;
-        reached = stands.reaches.reached;
-        kept = stands.puts;
-        are_kept = stands.are_put;
-        leg = stands.reaches.leg.deeds;
-        did = stands.reaches.leg.did;
-        on_leg = subst (λ (p : List CallPage). AreOnLeg setup stands.reaches.leg.deeds stands.reaches.trace p) once stands.reaches.leg.on_leg;
-        past = wait_map seen may_leave is_usable (spool_of l) (PastAs line stands.tidings (puts ++ stands.puts) stands.held.shelf (notes_of (spool_of l) stands.held.shelf))
-            (HasPast writes line (record { setup = setup; trace = stands.reaches.trace } ∷ lives) (puts ++ stands.puts))
-            (λ told p. record {
-              deeds = p.deeds;
-              state = state_of stands.held.shelf (notes_of (spool_of l) stands.held.shelf) told;
-              done = p.done;
-              there = refl;
-              are = record { traces = (stands.reaches.reached.is_trace, past.are.traces); same = p.tells ∙ sym stands.reaches.told };
-              put = p.put;
-            }) stands.held.waits;
+        leaves = record {
+          place = slice_index_or left number begins.place;
+          there = get_or left number begins.place (low_left number names left stands.many low);
+          trace = stands.reaches.trace;
+          reached = stands.reaches.reached;
+          kept = stands.puts;
+          are_kept = stands.are_put;
+          leg = stands.reaches.leg.deeds;
+          did = stands.reaches.leg.did;
+          on_leg = subst (λ (p : List CallPage). AreOnLeg setup stands.reaches.leg.deeds stands.reaches.trace p) once stands.reaches.leg.on_leg;
+          past = wait_map seen may_leave is_usable (spool_of l) (PastAs A line stands.tidings (puts ++ stands.puts) stands.held.shelf (notes_of (spool_of l) stands.held.shelf))
+              (HasPast writes line (life ∷ lives) (puts ++ stands.puts)) its_past stands.held.waits;
+        };
+        whole = wait_map seen may_leave is_usable (spool_of l) (PastAs A line stands.tidings (puts ++ stands.puts) stands.held.shelf (notes_of (spool_of l) stands.held.shelf))
+            (PastIf A writes line (life ∷ lives) (puts ++ stands.puts)) (λ told p. record { past = its_past told p; all = p.all }) stands.held.waits;
       }
     where
       length_map : (shelves : List ShelfValue) → length (lines_of shelves) ≡ length shelves
@@ -799,3 +837,22 @@ module _ {D K : Type 0} (seen : D → List ℕ) (may_leave : D → List ℕ → 
 
       low_left : (number : ℕ) (names : List (List ℕ)) (lines : List PlaceValue) → length lines ≡ length names → number < length names → number < length lines
       low_left number names lines many low = omega (arith, many, low)
+
+  pub runs_make_history : TurnsTellBoth → ConfirmsTheNewest → JobsAreOfTheirCalls → PagesAreWritten → WrittenPagesMean → PagesAreUnique → OwedIsRestored → RunsMakeHistory seen may_leave is_usable shelves_of spool_of
+  runs_make_history tell_both newest origins written mean unique owed_is writes number line pages lives puts setup first done settled begun left k l writing past begins ran =
+      let it =
+      leaves_as ⊥ number (λ (pages : List PageToKeep) (is_kept : Bool) (old new : K). PutsPages seen may_leave is_usable pages is_kept (shelves_of old) (shelves_of new) (spool_of old) (spool_of new))
+      (λ (place call : ℕ) (old new : K). NotesPage place call (shelves_of old) (shelves_of new) (spool_of old) (spool_of new))
+      (λ (place : ℕ) (report : Report) (old new : K). EndsJobIf seen may_leave is_usable place report (shelves_of old) (shelves_of new) (spool_of old) (spool_of new)) (λ p b o n is. (is, λ no. absurd no)) (λ p c o n is. (is, λ no. absurd no))
+      (λ p r o n is. (is, λ no. absurd no)) tell_both newest origins written mean unique owed_is writes line pages lives puts setup first done settled begun left k l writing past (λ no. absurd no) begins ran in it.leaves
+
+  pub runs_note_all : TurnsTellBoth → ConfirmsTheNewest → JobsAreOfTheirCalls → PagesAreWritten → WrittenPagesMean → PagesAreUnique → OwedIsRestored → RunsNoteAll seen may_leave is_usable shelves_of spool_of
+  runs_note_all tell_both newest origins written mean unique owed_is writes number line pages lives puts setup first done settled begun left k l writing past begins ran =
+      let it =
+      leaves_as (Unit {0}) number (λ (pages : List PageToKeep) (is_kept : Bool) (old new : K). PutsWithOk seen may_leave is_usable number pages is_kept (shelves_of old) (shelves_of new) (spool_of old) (spool_of new)) (λ (place call : ℕ) (old new : K). NotesOther number place call (shelves_of old) (shelves_of new) (spool_of old) (spool_of new))
+      (λ (place : ℕ) (report : Report) (old new : K). EndsNoted seen may_leave is_usable number place report (shelves_of old) (shelves_of new) (spool_of old) (spool_of new)) (λ p b o n is. (is.1, λ a. is.0)) (λ p c o n is. (is.1, λ a. is.0))
+      (λ p r o n is. (is.0, λ a. is.1)) tell_both newest origins written mean unique owed_is writes line pages lives puts setup first done settled begun left k l writing past.past (λ a. past.all) begins ran in record {
+        leaves = it.leaves;
+        whole = wait_map seen may_leave is_usable (spool_of l) (PastIf (Unit {0}) writes line (record { setup = setup; trace = it.leaves.trace } ∷ lives) (puts ++ it.leaves.kept))
+            (HasWholePast writes line (record { setup = setup; trace = it.leaves.trace } ∷ lives) (puts ++ it.leaves.kept)) (λ told p. record { past = p.past; all = p.all tt }) it.whole;
+      }

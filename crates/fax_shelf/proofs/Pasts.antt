@@ -5,49 +5,53 @@ use Rattle.fax_spool.specs.RecordOctets as spool
 use Rattle.fax_spool.specs.declared.spool.Spool.{Spool}
 use Rattle.fax_shelf.specs.Restorations.{Means, ReadPage, own_pages}
 use Rattle.fax_shelf.specs.Shelves.{IsShelved, ShelfValue}
+use Rattle.fax_shelf.specs.Jobs.{WaitSo}
 use Rattle.fax_shelf.specs.Keeping.{placed_as}
 use Rattle.fax_shelf.specs.Lives as lives
 use Rattle.fax_shelf.specs.Lives.{Deed, Goes, NotesStill, State, WasDone, state_of}
-use Rattle.fax_shelf.specs.Refusals.{IsAnEnd, WaitSo}
+use Rattle.fax_shelf.specs.Refusals.{IsAnEnd}
 use Rattle.fax_gateway.specs.Restored.{CallPage}
-use Rattle.fax_shelf.specs.Book.{Tiding, Confirms, Reports, page_of, pages_put, told_by}
+use Rattle.fax_shelf.specs.Book.{AllIsPut, Tiding, Confirms, Reports, page_of, pages_put, told_by}
 
 -- Deeds that were done, behind which the line has this shelf, and these pages wait on the disk; by which this is told, and by which
--- these pages were put.
-pub record PastAs (line : List ℕ) (tidings : List Tiding) (puts : List CallPage) (shelf : ShelfValue) (notes : Bool) (told : List spool.PageValue) : Type 0 where
+-- these pages were put; and where this holds all is put and noted.
+pub record PastAs (A : Type 0) (line : List ℕ) (tidings : List Tiding) (puts : List CallPage) (shelf : ShelfValue) (notes : Bool) (told : List spool.PageValue) : Type 0 where
   pub deeds : List Deed
   pub done : WasDone line deeds (state_of shelf notes told)
   pub tells : told_by deeds ≡ tidings
   pub put : pages_put deeds ≡ puts
+  pub all : A → AllIsPut deeds
 
 -- nothing is done with the line's own pages
 pub past_beside :
-    (line : List ℕ) (t : List Tiding) (q : List CallPage) (old new : ShelfValue) (before after : Bool) (told more : List spool.PageValue) → new ≡ old → own_pages line more ≡ own_pages line told → (after ≡ true → before ≡ true)
-    → PastAs line t q old before told → PastAs line t q new after more
-past_beside line t q old new before after told more same own still past = record {
+    (A : Type 0) (line : List ℕ) (t : List Tiding) (q : List CallPage) (old new : ShelfValue) (before after : Bool) (told more : List spool.PageValue) → new ≡ old → own_pages line more ≡ own_pages line told → (after ≡ true → before ≡ true)
+    → PastAs A line t q old before told → PastAs A line t q new after more
+past_beside A line t q old new before after told more same own still past = record {
   deeds = lives.Beside ∷ past.deeds;
   done = (state_of old before told, past.done, record { same = own; shelved = λ on. (still on, ap (λ (s : ShelfValue). s.waits) same) });
   tells = past.tells;
   put = past.put;
+  all = past.all;
 }
 
 pub past_keeps :
-    (line : List ℕ) (t : List Tiding) (q : List CallPage) (given : Option (List ℕ)) (page : ReadPage) (old new : ShelfValue) (before after : Bool) (told : List spool.PageValue) → page.waits.line ≡ line → Means page.waits page.page
-    → IsShelved (placed_as page.waits true) old new → NotesStill before after new → PastAs line t q old before told
-    → PastAs line (Confirms given (page_of page) page.waits.closes ∷ t) (q ++ page_of page ∷ []) new after (told ++ page.waits ∷ [])
-past_keeps line t q given page old new before after told named means shelved notes past = record {
+    (A : Type 0) (line : List ℕ) (t : List Tiding) (q : List CallPage) (given : Option (List ℕ)) (page : ReadPage) (old new : ShelfValue) (before after : Bool) (told : List spool.PageValue) → page.waits.line ≡ line → Means page.waits page.page
+    → IsShelved (placed_as page.waits true) old new → NotesStill before after new → PastAs A line t q old before told
+    → PastAs A line (Confirms given (page_of page) page.waits.closes ∷ t) (q ++ page_of page ∷ []) new after (told ++ page.waits ∷ [])
+past_keeps A line t q given page old new before after told named means shelved notes past = record {
   deeds = lives.Keeps given page ∷ past.deeds;
   done = (state_of old before told, past.done, record { line_is = named; means = means; there = refl; shelved = λ still. ((notes still).0, (shelved.whole (notes still).1).1) });
   tells = ap (λ (l : List Tiding). Confirms given (page_of page) page.waits.closes ∷ l) past.tells;
   put = ap (λ (l : List CallPage). l ++ page_of page ∷ []) past.put;
+  all = past.all;
 }
 
 -- a page is refused, and is not on the disk
 pub past_refuses :
-    (line : List ℕ) (t : List Tiding) (q : List CallPage) (given : Option (List ℕ)) (page : ReadPage) (old new : ShelfValue) (before after : Bool) (told : List spool.PageValue) → page.waits.line ≡ line → Means page.waits page.page
-    → IsShelved (placed_as page.waits false) old new → NotesStill before after new → PastAs line t q old before told
-    → PastAs line (Confirms given (page_of page) page.waits.closes ∷ t) q new after told
-past_refuses line t q given page old new before after told named means shelved notes past = record {
+    (A : Type 0) (never : A → ⊥) (line : List ℕ) (t : List Tiding) (q : List CallPage) (given : Option (List ℕ)) (page : ReadPage) (old new : ShelfValue) (before after : Bool) (told : List spool.PageValue) → page.waits.line ≡ line → Means page.waits page.page
+    → IsShelved (placed_as page.waits false) old new → NotesStill before after new → PastAs A line t q old before told
+    → PastAs A line (Confirms given (page_of page) page.waits.closes ∷ t) q new after told
+past_refuses A never line t q given page old new before after told named means shelved notes past = record {
   deeds = lives.Refuses given page false ∷ past.deeds;
   done = (
     state_of old before told,
@@ -59,6 +63,7 @@ past_refuses line t q given page old new before after told named means shelved n
   );
   tells = ap (λ (l : List Tiding). Confirms given (page_of page) page.waits.closes ∷ l) past.tells;
   put = past.put;
+  all = λ a. absurd (never a);
 }
 
 no_true : (b : Bool) → b ≡ true → b ≡ false → ⊥
@@ -66,9 +71,9 @@ no_true b on none = let no : true ≡ false = sym on ∙ none in cc
 
 -- or it is there all the same
 pub past_refused_there :
-    (line : List ℕ) (t : List Tiding) (q : List CallPage) (given : Option (List ℕ)) (page : ReadPage) (old new : ShelfValue) (before after : Bool) (told : List spool.PageValue) → page.waits.line ≡ line → Means page.waits page.page
-    → after ≡ false → PastAs line t q old before told → PastAs line (Confirms given (page_of page) page.waits.closes ∷ t) q new after (told ++ page.waits ∷ [])
-past_refused_there line t q given page old new before after told named means none past = record {
+    (A : Type 0) (line : List ℕ) (t : List Tiding) (q : List CallPage) (given : Option (List ℕ)) (page : ReadPage) (old new : ShelfValue) (before after : Bool) (told : List spool.PageValue) → page.waits.line ≡ line → Means page.waits page.page
+    → after ≡ false → PastAs A line t q old before told → PastAs A line (Confirms given (page_of page) page.waits.closes ∷ t) q new after (told ++ page.waits ∷ [])
+past_refused_there A line t q given page old new before after told named means none past = record {
   deeds = lives.Refuses given page true ∷ past.deeds;
   done = (
     state_of old before told,
@@ -77,29 +82,45 @@ past_refused_there line t q given page old new before after told named means non
   );
   tells = ap (λ (l : List Tiding). Confirms given (page_of page) page.waits.closes ∷ l) past.tells;
   put = past.put;
+  all = λ a. (refl, past.all a);
 }
 
--- a job ends
-pub past_ends :
-    (line : List ℕ) (t : List Tiding) (q : List CallPage) (pages : ℕ) (old new : ShelfValue) (before after : Bool) (told more : List spool.PageValue) → IsAnEnd line pages (state_of old before told) (state_of new after more)
-    → PastAs line t q old before told → PastAs line (Reports pages ∷ t) q new after more
-past_ends line t q pages old new before after told more (inl is) past = record {
+-- a job ends, which is noted
+pub past_noted :
+    (A : Type 0) (line : List ℕ) (t : List Tiding) (q : List CallPage) (pages : ℕ) (old new : ShelfValue) (before after : Bool) (told more : List spool.PageValue) → Goes line (lives.Ends pages) (state_of old before told) (state_of new after more)
+    → PastAs A line t q old before told → PastAs A line (Reports pages ∷ t) q new after more
+past_noted A line t q pages old new before after told more is past = record {
   deeds = lives.Ends pages ∷ past.deeds;
   done = (state_of old before told, past.done, is);
   tells = ap (λ (l : List Tiding). Reports pages ∷ l) past.tells;
   put = past.put;
+  all = past.all;
 }
-past_ends line t q pages old new before after told more (inr (inl is)) past = record {
+
+-- or somehow
+pub past_ends :
+    (A : Type 0) (never : A → ⊥) (line : List ℕ) (t : List Tiding) (q : List CallPage) (pages : ℕ) (old new : ShelfValue) (before after : Bool) (told more : List spool.PageValue) → IsAnEnd line pages (state_of old before told) (state_of new after more)
+    → PastAs A line t q old before told → PastAs A line (Reports pages ∷ t) q new after more
+past_ends A never line t q pages old new before after told more (inl is) past = record {
+  deeds = lives.Ends pages ∷ past.deeds;
+  done = (state_of old before told, past.done, is);
+  tells = ap (λ (l : List Tiding). Reports pages ∷ l) past.tells;
+  put = past.put;
+  all = past.all;
+}
+past_ends A never line t q pages old new before after told more (inr (inl is)) past = record {
   deeds = lives.Leaves pages ∷ past.deeds;
   done = (state_of old before told, past.done, is);
   tells = ap (λ (l : List Tiding). Reports pages ∷ l) past.tells;
   put = past.put;
+  all = λ a. absurd (never a);
 }
-past_ends line t q pages old new before after told more (inr (inr is)) past = record {
+past_ends A never line t q pages old new before after told more (inr (inr is)) past = record {
   deeds = lives.Lets pages ∷ past.deeds;
   done = (state_of old before told, past.done, is);
   tells = ap (λ (l : List Tiding). Reports pages ∷ l) past.tells;
   put = past.put;
+  all = past.all;
 }
 
 -- ---- pages of other lines

@@ -8,7 +8,9 @@ use Rattle.fax_spool.specs.RecordOctets.{PageValue}
 use Rattle.fax_spool.specs.Spools.{Keeps}
 use Rattle.fax_spool.specs.declared.kept_record.KeptRecord.{KeptRecord}
 use Rattle.fax_spool.specs.declared.spool.Spool.{Spool}
+use Rattle.fax_shelf.specs.CallTags.{CallTagValue}
 use Rattle.fax_shelf.specs.Keeping.{AreRecordsOf, AreRecordsUnder, IsRecordUnder, KeepsPages, PutsRecords}
+use Rattle.fax_shelf.specs.Tags.{AreTagged, tag_of}
 
 records_both : (pages more : List PageToKeep) (records others : List KeptRecord) → AreRecordsOf pages records → AreRecordsOf more others → AreRecordsOf (pages ++ more) (records ++ others)
 records_both [] more [] others are then = then
@@ -30,6 +32,21 @@ under_more life lines (p ∷ pages) [] values page number value at line is are =
 under_more life lines (p ∷ pages) (n ∷ numbers) [] page number value at line is are = absurd are
 under_more life lines (p ∷ pages) (n ∷ numbers) (v ∷ values) page number value at line is are = (are.0, are.1, under_more life lines pages numbers values page number value at line is are.2)
 
+-- ---- records under tags
+
+tagged_more : (tags : List CallTagValue) (pages : List PageToKeep) (values : List PageValue) (page : PageToKeep) (value : PageValue) → value.tag ≡ tag_of tags page.line → AreTagged tags pages values
+    → AreTagged tags (pages ++ page ∷ []) (values ++ value ∷ [])
+tagged_more tags [] [] page value is are = (is, tt)
+tagged_more tags [] (v ∷ values) page value is are = absurd are
+tagged_more tags (p ∷ pages) [] page value is are = absurd are
+tagged_more tags (p ∷ pages) (v ∷ values) page value is are = (are.0, tagged_more tags pages values page value is are.1)
+
+pub next_tagged : (tags : List CallTagValue) (pages : List PageToKeep) (values : List PageValue) (k : ℕ) (page : PageToKeep) (value : PageValue) → k < length pages → page ≡ slice_index_or pages k page
+    → value.tag ≡ tag_of tags page.line → AreTagged tags (take k pages) values → AreTagged tags (take (k + 1) pages) (values ++ value ∷ [])
+next_tagged tags pages values k page value low got is are =
+    subst (λ (l : List PageToKeep). AreTagged tags l (values ++ value ∷ [])) (sym (take_more pages k page low))
+    (subst (λ (p : PageToKeep). AreTagged tags (take k pages ++ p ∷ []) (values ++ value ∷ [])) got (tagged_more tags (take k pages) values page value is are))
+
 -- the record of the page that is next
 pub next_under :
     (life : ℕ) (lines : List (List ℕ)) (pages : List PageToKeep) (numbers : List ℕ) (values : List PageValue) (k : ℕ) (page : PageToKeep) (number : ℕ) (value : PageValue)
@@ -40,7 +57,7 @@ next_under life lines pages numbers values k page number value low got at line i
     (subst (λ (p : PageToKeep). AreRecordsUnder life lines (take k pages ++ p ∷ []) numbers (values ++ value ∷ [])) got
     (under_more life lines (take k pages) numbers values page number value (ap (λ (j : ℕ). slice_get numbers j) (length-take-le k pages (omega (arith, low))) ∙ at) line is are))
 
-are_records : (life : ℕ) (lines : List (List ℕ)) (pages : List PageToKeep) (numbers : List ℕ) (values : List PageValue) → AreRecordsUnder life lines pages numbers values → AreRecordsOf pages (map kept_of values)
+pub are_records : (life : ℕ) (lines : List (List ℕ)) (pages : List PageToKeep) (numbers : List ℕ) (values : List PageValue) → AreRecordsUnder life lines pages numbers values → AreRecordsOf pages (map kept_of values)
 are_records life lines [] [] [] are = tt
 are_records life lines [] (n ∷ numbers) [] are = tt
 are_records life lines [] [] (v ∷ values) are = absurd are

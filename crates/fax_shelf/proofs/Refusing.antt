@@ -11,11 +11,11 @@ use Rattle.fax_spool.specs.declared.spool.Spool.{Spool}
 use Rattle.fax_shelf.specs.declared.shelf.Ended.{Ended}
 use Rattle.fax_shelf.specs.declared.shelf.Waiting.{Waiting}
 use Rattle.fax_shelf.specs.Shelves.{IsEndOf, NamesFirst, ShelfValue, left_by, lines_of}
-use Rattle.fax_shelf.specs.Jobs.{EndsJob, PagesWait}
+use Rattle.fax_shelf.specs.Jobs.{EndsJob, PagesWait, WaitSo}
 use Rattle.fax_shelf.specs.Keeping.{AddAll, AddsTo, AllArePlaced, AreRecordsUnder, IsPlaced, noted_as}
 use Rattle.fax_shelf.specs.Lives.{State, state_of}
 use Rattle.fax_shelf.specs.Lives.{Turns, Begins, Keeps, Refuses as RefusesDeed, Ends, Leaves, Lets, Beside, Stops}
-use Rattle.fax_shelf.specs.Refusals.{AreRefused, EndsSomehow, IsAnEnd, MayHavePut, NoneIsNoted, NotesStay, PutsEnd, RefusalsAreDeeds, WaitSo, notes_of}
+use Rattle.fax_shelf.specs.Refusals.{AreRefused, EndsSomehow, IsAnEnd, MayHavePut, NoneIsNoted, NotesStay, PutsEnd, RefusalsAreDeeds, notes_of}
 use Rattle.fax_shelf.proofs.Shelving.{all_placed}
 
 pub on_err : {T E : Type 0} {P : Type 0} (r : Result T E) → P → OnErr r P
@@ -199,15 +199,16 @@ module _ {D : Type 0} (seen : D → List ℕ) (may_leave : D → List ℕ → Ty
 
   -- its record was put
   pub job_is_ended : (pages : ℕ) (old new : ShelfValue) (before after : Spool D) (ended : Ended) (line : List ℕ) → line ≡ old.line → new.line ≡ old.line → NamesFirst pages ended old.waits → new.waits ≡ drop pages old.waits
-      → PutsEnd seen may_leave is_usable ended line true before after → EndsJob seen may_leave is_usable pages old new before after
-  job_is_ended pages old new before after ended line same new_line names gone puts =
+      → new.is_whole ≡ true → PutsEnd seen may_leave is_usable ended line true before after → EndsJob seen may_leave is_usable pages old new before after
+  job_is_ended pages old new before after ended line same new_line names gone whole puts =
       let is : IsEndOf ended old.line puts.kept = subst (λ (l : List ℕ). IsEndOf ended l puts.kept) same puts.is_end in record {
         ended = puts.kept;
         line_is = new_line;
         named = is.line_is;
         first = gone;
+        whole = whole;
         leaves = names.leaves old.line puts.kept is ∙ sym gone;
-        wait = λ waits was. puts.does.done refl waits was;
+        wait = λ waits was. inl (without puts.kept waits, puts.does.done refl waits was, refl);
       }
 
   accepted : (b : Bool) (call : Call) (before after : Spool D) → refuses_now before ≡ b → Does seen may_leave is_usable call true before after → refuses_now before ≡ false
@@ -224,22 +225,6 @@ module _ {D : Type 0} (seen : D → List ℕ) (may_leave : D → List ℕ → Ty
     | inl refuses ↦ inr (refuses, λ older newer left. let it = does.left refl waits was older newer left in (it.0, it.1, elim it.2 [ inl same ↦ same | inr same ↦ same ]))
     | inr same ↦ inl (waits, rest_still before after waits same was, refl)
   ]
-
-  -- the job's end was noted, and the disk failed behind it
-  pub ends_noted : (pages : ℕ) (old new : ShelfValue) (before between after : Spool D) → EndsJob seen may_leave is_usable pages old new before between → notes_of before old ≡ true
-      → ((waits : List PageValue) → PagesWait seen may_leave is_usable between waits → WaitSo seen may_leave is_usable after (λ told. told ≡ waits)) → EndsSomehow seen may_leave is_usable pages old new before after
-  ends_noted pages old new before between after ends sure told = record {
-    line_is = ends.line_is;
-    left = λ waits was. elim (told (without ends.ended waits) (ends.wait waits was)) [
-      | inl rests ↦ inl (rests.0, rests.1, is_noted pages old new before after ends.ended waits rests.0 ends.named sure (ends.leaves ∙ ends.first) rests.2 (λ still. ends.first))
-      | inr refuses ↦ inr (
-        refuses.0,
-        λ older newer left.
-            let it = refuses.1 older newer left in
-            (it.0, it.1, is_noted pages old new before after ends.ended waits it.0 ends.named sure (ends.leaves ∙ ends.first) it.2 (λ still. ends.first)),
-      )
-    ];
-  }
 
 -- ---- laws
 

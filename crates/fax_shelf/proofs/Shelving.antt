@@ -9,6 +9,7 @@ use Rattle.std.proofs.lemmas.Slice.Eq.{bytes_eq-Decides}
 use Rattle.fax_hold.specs.declared.keeping.KeepFault.{KeepFault}
 use Rattle.fax_line.specs.declared.settling.PageToKeep.{PageToKeep}
 use Rattle.fax_spool.specs.RecordOctets.{EndedValue, PageValue}
+use Rattle.fax_spool.specs.Calls.{Accepts}
 use Rattle.fax_spool.specs.Spools.{Keeps}
 use Rattle.fax_spool.specs.KeptRecords.{kept_of}
 use Rattle.fax_spool.specs.Waits.{PageName, ends, name_of, waiting, without}
@@ -16,14 +17,14 @@ use Rattle.fax_spool.specs.declared.kept_record.KeptRecord.{KeptRecord}
 use Rattle.fax_spool.specs.declared.spool.Spool.{Spool}
 use Rattle.fax_shelf.specs.declared.shelf.Waiting.{Waiting}
 use Rattle.fax_shelf.specs.Shelves.{AreAmong, IsAmong, IsShelved, ShelfValue, left_by, lines_of, name_in}
-use Rattle.fax_shelf.specs.Jobs.{EndsJobAt, PagesWait}
+use Rattle.fax_shelf.specs.Jobs.{EndsJobAt, PagesWait, WaitSo}
 use Rattle.fax_shelf.specs.Keeping.{AddAll, AddsAt, AddsTo, Agree, AllAreAmong, AllArePlaced, AllArePut, ArePut, AreRecordsUnder, HaveOwnNames, IsOther, IsPlaced, IsPut, IsRecordUnder, PutsRecords, noted_as, placed_as}
 use Rattle.fax_spool.proofs.Order.{order_stays}
 use Rattle.fax_shelf.proofs.Waits.{ends_none_of, none_is_forgotten, put_behind}
 
 -- ---- what waits
 
-wait_put :
+pub wait_put :
     {D : Type 0} {seen : D → List ℕ} {may_leave : D → List ℕ → Type 0} {is_usable : D → Bool} (old new : Spool D) (values : List PageValue)
     → ((olds news : List KeptRecord) → Keeps seen may_leave is_usable old olds news → Keeps seen may_leave is_usable new olds (news ++ map kept_of values))
     → (waits : List PageValue) → PagesWait seen may_leave is_usable old waits → PagesWait seen may_leave is_usable new (waits ++ values)
@@ -229,13 +230,17 @@ ended_among ended (shelf ∷ shelves) (suc place) old new waits own at named lin
 
 pub end_agrees :
     {D : Type 0} (seen : D → List ℕ) (may_leave : D → List ℕ → Type 0) (is_usable : D → Bool) (pages place : ℕ) (olds news : List ShelfValue) (before after : Spool D)
-    → EndsJobAt seen may_leave is_usable pages place olds news before after → HaveOwnNames olds → Agree seen may_leave is_usable before olds → Agree seen may_leave is_usable after news
-end_agrees seen may_leave is_usable pages place olds news before after ends own was = record {
+    → EndsJobAt seen may_leave is_usable pages place olds news before after → HaveOwnNames olds → Agree seen may_leave is_usable before olds → Accepts after → Agree seen may_leave is_usable after news
+end_agrees seen may_leave is_usable pages place olds news before after ends own was accepts = record {
   pages = without ends.ends.ended was.pages;
-  wait = ends.ends.wait was.pages was.wait;
+  wait = as_told (without ends.ends.ended was.pages) (ends.ends.wait was.pages was.wait);
   among = subst (λ (l : List ShelfValue). AllAreAmong l (map name_of (without ends.ends.ended was.pages))) (sym ends.are)
       (ended_among ends.ends.ended olds place ends.old ends.new was.pages own ends.was ends.ends.named ends.ends.line_is ends.ends.leaves was.among);
 }
+  where
+    as_told : (left : List PageValue) → WaitSo seen may_leave is_usable after (λ told. told ≡ left) → PagesWait seen may_leave is_usable after left
+    as_told left (inl is) = subst (λ (l : List PageValue). PagesWait seen may_leave is_usable after l) is.2 is.1
+    as_told left (inr is) = let no : true ≡ false = sym is.0 ∙ accepts in absurd (cc)
 
 -- ---- where an answer is an `Ok`
 

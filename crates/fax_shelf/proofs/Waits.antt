@@ -1,18 +1,17 @@
 -- What waits on a disk, behind one more record or fewer.
-use Rattle.std.proofs.Common.{◌≡◌, ◌∙◌, ℕ, ◌+◌, ◌<◌, ◌&&◌, nat_eq, nat_le, nat_lt, bytes_eq, inl, inr, Bool, true, false, not, cond, List, [], ◌∷◌, ◌++◌, map, drop, refl, sym, ap, subst, append_assoc, append-nil}
+use Rattle.std.proofs.Common.{◌≡◌, ◌∙◌, ℕ, ◌+◌, ◌<◌, ◌&&◌, nat_eq, nat_le, nat_lt, bytes_eq, inl, inr, Bool, true, false, not, cond, List, [], ◌∷◌, ◌++◌, map, refl, sym, ap, subst, append_assoc, append-nil}
 use Rattle.std.specs.Bool.{MatchBool}
 use Rattle.fax_spool.specs.RecordOctets.{EndedValue, PageValue}
+use Rattle.fax_spool.specs.Calls.{Refuses}
 use Rattle.fax_spool.specs.KeptRecords.{kept_of}
 use Rattle.fax_spool.specs.Spools.{Keeps, NoneIsLeft, epoch_of}
 use Rattle.fax_spool.specs.Waits.{PageName, SharesWhatWaits, after, ends, name_of, waiting, waiting_behind, without}
 use Rattle.fax_spool.specs.declared.kept_record.KeptRecord.{KeptRecord}
-use Rattle.fax_spool.specs.declared.kept_record.KeptRecord.TheVariants.{Ended, Epoch}
+use Rattle.fax_spool.specs.declared.kept_record.KeptRecord.TheVariants.{Epoch}
 use Rattle.fax_spool.specs.declared.spool.Spool.{Spool}
-use Rattle.fax_spool.proofs.Order.{order_stays}
 use Rattle.fax_shelf.specs.declared.shelf.Waiting.{Waiting}
-use Rattle.fax_shelf.specs.declared.shelf.Ended as shelf
-use Rattle.fax_shelf.specs.Shelves.{AreAmong, IsAmong, IsEndOf, NamesFirst, NoneIsForgotten, ShelfValue, left_by, name_in}
-use Rattle.fax_shelf.specs.Jobs.{EndsJob, PagesWait}
+use Rattle.fax_shelf.specs.Shelves.{AreAmong, IsAmong, NoneIsForgotten, ShelfValue, left_by, name_in}
+use Rattle.fax_shelf.specs.Jobs.{EndsJob, PagesWait, WaitSo}
 
 -- ---- records
 
@@ -31,18 +30,6 @@ all_wait pages (v ∷ values) = all_wait (pages ++ v ∷ []) values ∙ append_a
 -- pages that are put wait behind the others
 pub put_behind : (pages : List PageValue) (records : List KeptRecord) (values : List PageValue) → waiting_behind pages (records ++ map kept_of values) ≡ waiting_behind pages records ++ values
 put_behind pages records values = behind_both pages records (map kept_of values) ∙ all_wait (waiting_behind pages records) values
-
-pub wait_ended :
-    {D : Type 0} {seen : D → List ℕ} {may_leave : D → List ℕ → Type 0} {is_usable : D → Bool} (old new : Spool D) (ended : EndedValue)
-    → ((olds news : List KeptRecord) → Keeps seen may_leave is_usable old olds news → Keeps seen may_leave is_usable new olds (news ++ Ended ended ∷ []))
-    → (waits : List PageValue) → PagesWait seen may_leave is_usable old waits → PagesWait seen may_leave is_usable new (without ended waits)
-wait_ended old new ended put waits was = record {
-  olds = was.olds;
-  news = was.news ++ Ended ended ∷ [];
-  kept = put was.olds was.news was.kept;
-  in_order = order_stays was.olds was.news (Ended ended ∷ []) was.in_order;
-  wait = ap waiting (sym (append_assoc was.olds was.news (Ended ended ∷ []))) ∙ one_more [] (was.olds ++ was.news) (Ended ended) ∙ ap (λ (l : List PageValue). without ended l) was.wait;
-}
 
 pub wait_cleared :
     {D : Type 0} {seen : D → List ℕ} {may_leave : D → List ℕ → Type 0} {is_usable : D → Bool} (old new : Spool D) (cleared : Bool) → SharesWhatWaits
@@ -76,32 +63,24 @@ wait_changed old new false number changed waits was = record { olds = was.olds; 
 
 -- ---- a job that ended
 
-pub job_ended :
-    {D : Type 0} {seen : D → List ℕ} {may_leave : D → List ℕ → Type 0} {is_usable : D → Bool} (pages : ℕ) (old new : ShelfValue) (before behind : Spool D) (ended : shelf.Ended) (kept : EndedValue)
-    → IsEndOf ended old.line kept → new.line ≡ old.line → NamesFirst pages ended old.waits → new.waits ≡ drop pages old.waits
-    → ((olds news : List KeptRecord) → Keeps seen may_leave is_usable before olds news → Keeps seen may_leave is_usable behind olds (news ++ Ended kept ∷ []))
-    → EndsJob seen may_leave is_usable pages old new before behind
-job_ended pages old new before behind ended kept is line names left put = record {
-  ended = kept;
-  line_is = line;
-  named = is.line_is;
-  first = left;
-  leaves = names.leaves old.line kept is ∙ sym left;
-  wait = wait_ended before behind kept put;
-}
-
 -- what is done with the files behind it changes nothing of what waits
 pub job_stays :
-    {D : Type 0} {seen : D → List ℕ} {may_leave : D → List ℕ → Type 0} {is_usable : D → Bool} (pages : ℕ) (old new : ShelfValue) (before between behind : Spool D) → EndsJob seen may_leave is_usable pages old new before between
-    → ((waits : List PageValue) → PagesWait seen may_leave is_usable between waits → PagesWait seen may_leave is_usable behind waits) → EndsJob seen may_leave is_usable pages old new before behind
-job_stays pages old new before between behind ends stays = record {
+    {D : Type 0} (seen : D → List ℕ) (may_leave : D → List ℕ → Type 0) (is_usable : D → Bool) (pages : ℕ) (old new : ShelfValue) (before between behind : Spool D) → EndsJob seen may_leave is_usable pages old new before between
+    → ((waits : List PageValue) → PagesWait seen may_leave is_usable between waits → WaitSo seen may_leave is_usable behind (λ told. told ≡ waits)) → (Refuses between → behind ≡ between)
+    → EndsJob seen may_leave is_usable pages old new before behind
+job_stays {D = D} seen may_leave is_usable pages old new before between behind ends told same = record {
   ended = ends.ended;
   line_is = ends.line_is;
   named = ends.named;
   first = ends.first;
+  whole = ends.whole;
   leaves = ends.leaves;
-  wait = λ waits was. stays (without ends.ended waits) (ends.wait waits was);
+  wait = λ waits was. still (without ends.ended waits) (ends.wait waits was);
 }
+  where
+    still : (left : List PageValue) → WaitSo seen may_leave is_usable between (λ t. t ≡ left) → WaitSo seen may_leave is_usable behind (λ t. t ≡ left)
+    still left (inl is) = subst (λ (l : List PageValue). WaitSo seen may_leave is_usable behind (λ t. t ≡ l)) is.2 (told is.0 is.1)
+    still left (inr is) = subst (λ (s : Spool D). WaitSo seen may_leave is_usable s (λ t. t ≡ left)) (sym (same is.0)) (inr is)
 
 -- ---- another line
 

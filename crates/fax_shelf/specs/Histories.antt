@@ -26,9 +26,8 @@ use Rattle.fax_spool.specs.declared.spool.Spool.{Spool}
 use Rattle.fax_shelf.specs.Shelves.{ShelfValue}
 use Rattle.fax_shelf.specs.Restorations.{Restores}
 use Rattle.fax_shelf.specs.declared.restored.Restored.{Restored}
-use Rattle.fax_shelf.specs.Jobs.{PagesWait}
+use Rattle.fax_shelf.specs.Jobs.{PagesWait, WaitSo}
 use Rattle.fax_shelf.specs.Lives.{Deed, State, WasDone}
-use Rattle.fax_shelf.specs.Refusals.{WaitSo}
 use Rattle.fax_shelf.specs.SpoolKeeping.{EndsJobIf, IsUnchanged, NotesPage, PutsPages}
 use Rattle.fax_shelf.specs.Book.{AreOfLives, pages_put}
 use Rattle.fax_shelf.specs.OnLeg.{AreOnLeg, HasDoneOn}

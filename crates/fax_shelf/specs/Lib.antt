@@ -1,11 +1,15 @@
 pub mod Book
+pub mod CallTags
+pub mod EndFaults
 pub mod Histories
 pub mod Jobs
 pub mod Keeping
 pub mod Lives
+pub mod NotedRuns
 pub mod OnLeg
 pub mod Refusals
 pub mod Restorations
 pub mod Shelves
 pub mod SpoolKeeping
+pub mod Tags
 pub mod TurnsTold

@@ -8,7 +8,7 @@ use Rattle.fax_spool.specs.Calls.{Puts as PutsCall, Ends as EndsCall}
 use Rattle.fax_spool.specs.declared.spool.Spool.{Spool}
 use Rattle.fax_shelf.specs.declared.shelf.Ended.{Ended}
 use Rattle.fax_shelf.specs.declared.shelf.Waiting.{Waiting}
-use Rattle.fax_shelf.specs.Jobs.{PagesWait}
+use Rattle.fax_shelf.specs.Jobs.{PagesWait, WaitSo}
 use Rattle.fax_shelf.specs.Keeping.{AllArePlaced, AreRecordsUnder, placed_as}
 use Rattle.fax_shelf.specs.Lives as lives
 use Rattle.fax_shelf.specs.Lives.{EachIsPlaced, Goes, NotesStill, State, state_of}
@@ -18,11 +18,6 @@ use Rattle.fax_shelf.specs.Shelves.{IsEndOf, IsShelved, ShelfValue}
 -- Whether the ends of a line's jobs are noted: its shelf is whole, and the spool does not refuse.
 abbrev pub notes_of : {D : Type 0} → Spool D → ShelfValue → Bool
 notes_of spool shelf = shelf.is_whole && not (refuses_now spool)
-
--- Pages wait on the disk of which this holds; or the spool refuses everything from now on, and each crash tells such pages.
-abbrev pub WaitSo : {D : Type 0} → (D → List ℕ) → (D → List ℕ → Type 0) → (D → Bool) → Spool D → (List spool.PageValue → Type 0) → Type 0
-WaitSo seen may_leave is_usable now P =
-    ((told : List spool.PageValue) × PagesWait seen may_leave is_usable now told × P told) ⊎ (Refuses now × EachCrashTells may_leave now P)
 
 -- ---- pages that are not put
 

@@ -9,7 +9,7 @@ use Rattle.fax_pagestore.specs.PageTexts.{MeansPage}
 use Rattle.fax_jobs.specs.Cuts.{Confirmation}
 use Rattle.fax_spool.specs.RecordOctets as spool
 use Rattle.fax_gateway.specs.Restored.{RestoredCall, call_shown}
-use Rattle.fax_shelf.specs.Shelves.{TagValue}
+use Rattle.fax_shelf.specs.Shelves.{AreInOrder, TagValue}
 use Rattle.fax_shelf.specs.declared.shelf.Waiting.{Waiting}
 use Rattle.fax_shelf.specs.declared.restored.Restored.{Restored}
 
@@ -85,11 +85,12 @@ AreAside [] aside = aside ≡ []
 AreAside (w ∷ waits) [] = ((page : PageValue) × Means w page) × AreAside waits []
 AreAside (w ∷ waits) (a ∷ aside) = (((page : PageValue) × Means w page) × AreAside waits (a ∷ aside)) ⊎ (MeansNone w × (a ≡ (w.call, w.number)) × AreAside waits aside)
 
--- these pages are in the calls, and on the shelf of the line, and no others
+-- These pages are in the calls, and on the shelf of the line, and no others. The shelf is whole where they are in their order.
 pub record AreIn (line : List ℕ) (read : List ReadPage) (restored : Restored) : Type 0 where
   pub named : restored.shelf.line ≡ line
   pub calls : map call_shown restored.calls.items ≡ calls_of read
   pub waits : restored.shelf.waits ≡ map waiting_of read
+  pub whole : AreInOrder restored.shelf.waits → restored.shelf.is_whole ≡ true
   pub tags : restored.shelf.tags ≡ tags_of read
 
 -- THE CALLS OF A LINE THAT IS RESTORED are those of its own pages that wait, and so are the pages of its shelf and the tags of

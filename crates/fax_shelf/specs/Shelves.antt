@@ -1,5 +1,5 @@
 -- What a server knows of the pages of a line that wait. Lists have the oldest first. (This project's profile.)
-use Rattle.std.specs.Prelude.{◌≡◌, ℕ, ◌<◌, ◌≤◌, ◌⊎◌, Bool, true, false, not, ◌&&◌, nat_eq, List, [], ◌∷◌, ◌++◌, length, map, take, drop, count_by, Option, None, Some, if◌then◌else◌}
+use Rattle.std.specs.Prelude.{◌≡◌, ℕ, ◌+◌, ◌-◌, ◌^◌, ◌<◌, ◌≤◌, ◌⊎◌, Bool, true, false, not, ◌&&◌, nat_eq, List, [], ◌∷◌, ◌++◌, length, map, take, drop, count_by, slice_get, Option, None, Some, if◌then◌else◌}
 use Rattle.std.specs.List.{filter}
 use Rattle.fax_spool.specs.RecordOctets.{EndedValue, PageValue}
 use Rattle.fax_spool.specs.Waits.{PageName, ends, name_of, without}
@@ -47,14 +47,6 @@ abbrev pub is_of_earlier_life : ℕ → List Waiting → Bool
 is_of_earlier_life life [] = false
 is_of_earlier_life life (page ∷ pages) = not (nat_eq page.life life)
 
--- One more page is on a shelf; or it could not be noted, and the shelf is not whole from then on.
-pub record IsShelved (page : Waiting) (old new : ShelfValue) : Type 0 where
-  pub line : new.line ≡ old.line
-  pub whole : new.is_whole ≡ true → (old.is_whole ≡ true) × (new.waits ≡ old.waits ++ page ∷ [])
-  pub waits : (new.waits ≡ old.waits ++ page ∷ []) ⊎ (new.waits ≡ old.waits)
-  pub tags : new.tags ≡ old.tags
-  pub aside : new.aside ≡ old.aside
-
 -- which page of all it is
 abbrev pub name_in : List ℕ → Waiting → PageName
 name_in line page = record { life = page.life; call = page.call; number = page.number; line = line }
@@ -72,6 +64,28 @@ AreBehind (other ∷ others) page = IsBehind other page × AreBehind others page
 abbrev pub AreInOrder : List Waiting → Type 0
 AreInOrder [] = Unit {0}
 AreInOrder (page ∷ pages) = AreBehind pages page × AreInOrder pages
+
+-- One more page is on a shelf, which stays whole where the page came behind those before it; or it could not be noted, and the shelf is
+-- not whole from then on.
+pub record IsShelved (page : Waiting) (old new : ShelfValue) : Type 0 where
+  pub line : new.line ≡ old.line
+  pub whole : new.is_whole ≡ true → (old.is_whole ≡ true) × (new.waits ≡ old.waits ++ page ∷ [])
+  pub waits : (new.waits ≡ old.waits ++ page ∷ []) ⊎ (new.waits ≡ old.waits)
+  pub stays : old.is_whole ≡ true → AreInOrder (old.waits ++ page ∷ []) → (new.is_whole ≡ true) ⊎ (new.waits ≡ old.waits)
+  pub tags : new.tags ≡ old.tags
+  pub aside : new.aside ≡ old.aside
+
+-- A JOB OF SO MANY PAGES IS FIRST of these: the first of them and the last came in one call of one life, and the numbers from the one
+-- to the other can be counted in a record.
+pub record IsFirstJob (pages : ℕ) (waits : List Waiting) : Type 0 where
+  pub first : Waiting
+  pub last : Waiting
+  pub begins : slice_get waits 0 ≡ Some first
+  pub ends : slice_get waits (pages - 1) ≡ Some last
+  pub some : 0 < pages
+  pub one_life : last.life ≡ first.life
+  pub one_call : last.call ≡ first.call
+  pub counted : last.number + 1 < first.number + 2 ^ 32
 
 -- the record of the end of these pages
 pub record IsEndOf (ended : Ended) (line : List ℕ) (kept : EndedValue) : Type 0 where

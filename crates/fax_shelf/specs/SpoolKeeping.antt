@@ -2,9 +2,11 @@
 use Rattle.std.specs.Prelude.{◌≡◌, ◌<◌, ℕ, Bool, true, false, List, length, All, Some, slice_get}
 use Rattle.fax_jobs.specs.declared.report.Report.{Report}
 use Rattle.fax_line.specs.declared.settling.PageToKeep.{PageToKeep}
-use Rattle.fax_spool.specs.Calls.{Refuses}
+use Rattle.fax_spool.specs.Calls.{Accepts, Refuses}
 use Rattle.fax_spool.specs.Waits.{PageName}
 use Rattle.fax_spool.specs.declared.spool.Spool.{Spool}
+use Rattle.fax_shelf.specs.declared.end_fault.EndFault.{EndFault}
+use Rattle.fax_shelf.specs.EndFaults.{IsWhyAt}
 use Rattle.fax_shelf.specs.Jobs.{EndsJobAt}
 use Rattle.fax_shelf.specs.Keeping.{AddsAt, Agree, AllAreAmong, ArePut, HaveOwnNames}
 use Rattle.fax_shelf.specs.Refusals.{AreRefused, EndsSomehowAt, notes_of}
@@ -32,12 +34,13 @@ pub record NotesPage {D : Type 0} (line call : ℕ) (olds news : List ShelfValue
   pub names : (names : List PageName) → AllAreAmong olds names → AllAreAmong news names
 
 -- The end of a job of a line was noted, as the job of so many pages as its report counts that is first on its line's shelf
--- (`EndsJobAt`); or it was not: then it has a record on the disk, or none, or none of its pages is there (`EndsSomehowAt`). A spool
--- that refuses notes none, and nothing changes in it.
+-- (`EndsJobAt`); or it was not, for one of these faults (`IsWhyAt`): then it has a record on the disk, or none, or none of its pages is
+-- there (`EndsSomehowAt`). A spool that refuses notes none, and nothing changes in it.
 pub record EndsJobIf {D : Type 0} (seen : D → List ℕ) (may_leave : D → List ℕ → Type 0) (is_usable : D → Bool) (line : ℕ) (report : Report) (olds news : List ShelfValue) (before after : Spool D) : Type 0 where
   pub noted : Bool
   pub ends : noted ≡ true → EndsJobAt seen may_leave is_usable report.pages line olds news before after
+  pub why : noted ≡ false → (fault : EndFault) × IsWhyAt fault report.pages line olds after
   pub left : noted ≡ false → line < length olds → EndsSomehowAt seen may_leave is_usable report.pages line olds news before after
-  pub agree : noted ≡ true → HaveOwnNames olds → Agree seen may_leave is_usable before olds → Agree seen may_leave is_usable after news
+  pub agree : noted ≡ true → HaveOwnNames olds → Agree seen may_leave is_usable before olds → Accepts after → Agree seen may_leave is_usable after news
   pub sure : noted ≡ true → (shelf : ShelfValue) → slice_get olds line ≡ Some shelf → notes_of before shelf ≡ true
   pub refuses : Refuses before → (noted ≡ false) × (after ≡ before)

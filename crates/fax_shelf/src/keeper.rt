@@ -1,6 +1,7 @@
 //! What keeps the pages of a run on a disk.
-ghost use Rattle.std.specs.Prelude.{◌≡◌};
+ghost use Rattle.std.specs.Prelude.{◌≡◌, []};
 ghost use Rattle.fax_shelf.specs.SpoolKeeping.{IsUnchanged};
+ghost use Rattle.fax_shelf.specs.Tags.{NotesTag};
 
 use crate::keeping::Keeping;
 use fax_hold::{KeepFault, Keeper};
@@ -17,14 +18,16 @@ pub struct SpoolKeeper<D: Disk> {
 impl<D: Disk> SpoolKeeper<D> {
     /// The pages of another turn of a slot are put next.
     pub fn begin_slot(&mut self)
-        ensures { IsUnchanged self.old.keeping.shelves.items self.new.keeping.shelves.items self.old.keeping.spool self.new.keeping.spool }
+        ensures tags { self.new.keeping.tags.items ≡ [] }
+        ensures unchanged { IsUnchanged self.old.keeping.shelves.items self.new.keeping.shelves.items self.old.keeping.spool self.new.keeping.spool }
     {
         self.keeping.begin_slot();
     }
 
     /// One of them came in a call of line i that has this tag.
     pub fn set_tag(&mut self, i: usize, tag: &str)
-        ensures { IsUnchanged self.old.keeping.shelves.items self.new.keeping.shelves.items self.old.keeping.spool self.new.keeping.spool }
+        ensures tags { NotesTag i tag.now self.old.keeping.tags.items self.new.keeping.tags.items }
+        ensures unchanged { IsUnchanged self.old.keeping.shelves.items self.new.keeping.shelves.items self.old.keeping.spool self.new.keeping.spool }
     {
         self.keeping.set_tag(i, tag);
     }

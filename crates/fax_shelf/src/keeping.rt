@@ -1,15 +1,18 @@
 //! The pages of a server that are kept on a disk.
-ghost use Rattle.std.specs.Prelude.{ℕ, ◌≡◌, ◌<◌, false, true, List, ◌++◌, All, IsErr, MatchOption, None, Some, OnErr, OnOk, is_ok, length, slice_get};
-ghost use Rattle.fax_spool.specs.Calls.{Refuses};
+ghost use Rattle.std.specs.Prelude.{ℕ, ◌≡◌, ◌<◌, false, true, List, [], ◌++◌, All, IfErr, IsErr, MatchOption, None, Some, OnErr, OnOk, is_ok, length, slice_get};
+ghost use Rattle.fax_spool.specs.Calls.{Accepts, Refuses};
 ghost use Rattle.fax_spool.specs.RecordOctets.{PageValue as SpoolPage};
 ghost use Rattle.fax_spool.specs.Spools.{epoch_now};
 ghost use Rattle.fax_spool.specs.Waits.{PageName};
 ghost use Rattle.fax_line.specs.declared.settling.PageToKeep.{PageToKeep as ToKeep};
-ghost use Rattle.fax_shelf.specs.Jobs.{EndsJob, EndsJobAt, PagesWait};
+ghost use Rattle.fax_shelf.specs.EndFaults.{IsWhy, IsWhyAt};
+ghost use Rattle.fax_shelf.specs.Jobs.{EndsJob, EndsJobAt, PagesWait, WaitSo};
 ghost use Rattle.fax_shelf.specs.Keeping.{AddAll, AddsAt, Agree, AllAreAmong, ArePut, HaveOwnNames, KeepsPages};
-ghost use Rattle.fax_shelf.specs.Refusals.{AreRefused, EndsSomehow, EndsSomehowAt, PutsEnd, WaitSo, notes_of};
+ghost use Rattle.fax_shelf.specs.Refusals.{AreRefused, EndsSomehow, EndsSomehowAt, PutsEnd, notes_of};
 ghost use Rattle.fax_shelf.specs.Shelves.{ShelfValue, first_tag, is_of_earlier_life};
+ghost use Rattle.fax_shelf.specs.Tags.{NotesTag, PutsTagged};
 
+use crate::end_fault::EndFault;
 use crate::putting::{CallTag, Names, put_pages};
 use crate::shelf::{Ended, Shelf, Waiting};
 use fax_hold::{KeepFault, Keeper};
@@ -69,6 +72,22 @@ impl<D: Disk> Keeping<D> {
         }
     }
 
+    /// Its spool, as its life ends.
+    pub fn into_spool(self) -> Spool<D>
+        ensures { result ≡ self.spool }
+    {
+        let Keeping {
+            alloc: _,
+            spool,
+            life: _,
+            shelves: _,
+            tags: _,
+            octets: _,
+            kept: _,
+        } = self;
+        spool
+    }
+
     /// What is known of the lines' pages.
     pub fn shelves(&self) -> &[Shelf]
         ensures { result.now ≡ self.now.shelves.items }
@@ -108,6 +127,7 @@ impl<D: Disk> Keeping<D> {
         ensures spool { self.new.spool ≡ self.old.spool }
         ensures life { self.new.life ≡ self.old.life }
         ensures shelves { self.new.shelves.items ≡ self.old.shelves.items }
+        ensures tags { self.new.tags.items ≡ [] }
     {
         self.tags.clear();
     }
@@ -117,6 +137,7 @@ impl<D: Disk> Keeping<D> {
         ensures spool { self.new.spool ≡ self.old.spool }
         ensures life { self.new.life ≡ self.old.life }
         ensures shelves { self.new.shelves.items ≡ self.old.shelves.items }
+        ensures tags { NotesTag i tag.now self.old.tags.items self.new.tags.items }
     {
         if let Ok(tag) = tag.as_bytes().to_vec(self.alloc) {
             let _ = self.tags.push(CallTag { line: i, tag });
@@ -138,6 +159,7 @@ impl<D: Disk> Keeping<D> {
         ensures spool { self.new.spool ≡ self.old.spool }
         ensures life { self.new.life ≡ self.old.life }
         ensures shelves { self.new.shelves.items ≡ self.old.shelves.items }
+        ensures tags { self.new.tags.items ≡ self.old.tags.items }
     {
         match self.shelves.get_mut(i) {
             Some(shelf) => shelf.number(call),
@@ -167,6 +189,7 @@ impl<D: Disk> Keeping<D> {
         ensures spool { self.new.spool ≡ self.old.spool }
         ensures life { self.new.life ≡ self.old.life }
         ensures shelves { self.new.shelves.items ≡ self.old.shelves.items }
+        ensures tags { self.new.tags.items ≡ self.old.tags.items }
     {
         let mut numbers = Vec::new(self.alloc);
         for page in pages {
@@ -207,55 +230,70 @@ impl<D: Disk> Keeping<D> {
         }
     }
 
-    /// The job of line i that was first in turn ended: its pages wait no more. An `Err`: that was not noted, since none of them is on
-    /// the disk; or it could not be, so that they are restored at the next start, and sent again, and no later end of the line is
-    /// noted in this life; or the disk failed, so that it is noted or not, and the spool refuses everything from then on.
-    pub fn end(&mut self, i: usize, report: Report) -> Result<(), KeepFault>
-        ensures agree { OnOk result (HaveOwnNames self.old.shelves.items → Agree D.seen D.may_leave D.is_usable self.old.spool self.old.shelves.items → Agree D.seen D.may_leave D.is_usable self.new.spool self.new.shelves.items) }
+    /// The job of line i that was first in turn ended: its pages wait no more, and at `Ok` that is noted, whatever crash follows. An
+    /// `Err` says why it is not: but for `NoneThere` the pages are restored at the next start, and sent again, and no later end of the
+    /// line is noted in this life; and at `DiskFailed` it is noted or not, and the spool refuses everything from then on. Where a file
+    /// could not be cleared or taken into use behind it, it is noted all the same.
+    pub fn end(&mut self, i: usize, report: Report) -> Result<(), EndFault>
+        ensures agree { OnOk result (HaveOwnNames self.old.shelves.items → Agree D.seen D.may_leave D.is_usable self.old.spool self.old.shelves.items
+            → Accepts self.new.spool → Agree D.seen D.may_leave D.is_usable self.new.spool self.new.shelves.items) }
         ensures ends { OnOk result (EndsJobAt D.seen D.may_leave D.is_usable report.pages i self.old.shelves.items self.new.shelves.items self.old.spool self.new.spool) }
         ensures sure { OnOk result ((shelf : ShelfValue) → slice_get self.old.shelves.items i ≡ Some shelf → notes_of self.old.spool shelf ≡ true) }
+        ensures unnoted { IfErr result (λ fault. IsWhyAt fault report.pages i self.old.shelves.items self.new.spool) }
         ensures deed { OnErr result (i < length self.old.shelves.items → EndsSomehowAt D.seen D.may_leave D.is_usable report.pages i self.old.shelves.items self.new.shelves.items self.old.spool self.new.spool) }
         ensures refuses { Refuses self.old.spool → IsErr result × (self.new.spool ≡ self.old.spool) }
     {
         if i >= self.shelves.len() {
-            return Err(KeepFault);
+            return Err(EndFault::NoLine);
         }
         let kept = put_end(self.alloc, &mut self.spool, &mut self.shelves[i], report)?;
         self.kept = self.kept.saturating_sub(kept);
-        self.octets = change_files(self.alloc, &mut self.spool, self.octets)?;
+        self.octets = change_files(self.alloc, &mut self.spool, self.octets);
         Ok(())
     }
 }
 
-/// The job of so many pages that is first in turn on a shelf ended: puts its record into a spool. It answers how many of its pages
-/// were on the disk; where none was, there is no record, and an `Err`.
+/// The job of so many pages that is first in turn on a shelf ended: puts its record into a spool, and answers how many of its pages
+/// were on the disk. An `Err` says why there is no record; at `DiskFailed` there may be one.
 fn put_end<D: Disk>(
     alloc: Global,
     spool: &mut Spool<D>,
     shelf: &mut Shelf,
     report: Report,
-) -> Result<u64, KeepFault>
+) -> Result<u64, EndFault>
     ensures ends { OnOk result (EndsJob D.seen D.may_leave D.is_usable report.pages shelf.old shelf.new spool.old spool.new) }
     ensures sure { OnOk result (notes_of spool.old shelf.old ≡ true) }
+    ensures unnoted { IfErr result (λ fault. IsWhy fault report.pages shelf.old spool.new) }
     ensures deed { OnErr result (EndsSomehow D.seen D.may_leave D.is_usable report.pages shelf.old shelf.new spool.old spool.new) }
     ensures refuses { Refuses spool.old → IsErr result × (spool.new ≡ spool.old) }
 {
     let Some(ended) = shelf.end(report.pages) else {
-        return Err(KeepFault);
+        return Err(EndFault::Unsure);
     };
     if ended.kept == 0 {
-        return Err(KeepFault);
+        return Err(EndFault::NoneThere);
     }
     if shelf.line().len() > MOST_NAME {
         shelf.doubt();
-        return Err(KeepFault);
+        return Err(EndFault::LongName);
     }
     match put_ended(alloc, spool, shelf.line(), &ended, report) {
         Ok(()) => Ok(ended.kept),
-        Err(fault) => {
+        Err(_) => {
             shelf.doubt();
-            Err(fault)
+            Err(not_put(spool))
         }
+    }
+}
+
+/// Why a record was not put into a spool, which is this behind that.
+fn not_put<D: Disk>(spool: &Spool<D>) -> EndFault
+    ensures { (pages : ℕ) (was : ShelfValue) → IsWhy result pages was spool.now }
+{
+    if spool.refuses() {
+        EndFault::DiskFailed
+    } else {
+        EndFault::NoMemory
     }
 }
 
@@ -287,23 +325,23 @@ fn put_ended<D: Disk>(
 }
 
 /// The older file is cleared where nothing in it waits; and where so many octets were put into the newer one that they are enough,
-/// the other is taken into use. It answers how many count from then on.
-fn change_files<D: Disk>(
-    alloc: Global,
-    spool: &mut Spool<D>,
-    octets: usize,
-) -> Result<usize, KeepFault>
-    ensures stays { OnOk result ((waits : List SpoolPage) → PagesWait D.seen D.may_leave D.is_usable spool.old waits
-        → PagesWait D.seen D.may_leave D.is_usable spool.new waits) }
-    ensures told { OnErr result ((waits : List SpoolPage) → PagesWait D.seen D.may_leave D.is_usable spool.old waits
-        → WaitSo D.seen D.may_leave D.is_usable spool.new (λ told. told ≡ waits)) }
+/// the other is taken into use. It answers how many count from then on. What fails is tried again behind the next end of a job.
+fn change_files<D: Disk>(alloc: Global, spool: &mut Spool<D>, octets: usize) -> usize
+    ensures told { (waits : List SpoolPage) → PagesWait D.seen D.may_leave D.is_usable spool.old waits
+        → WaitSo D.seen D.may_leave D.is_usable spool.new (λ told. told ≡ waits) }
+    ensures refuses { Refuses spool.old → spool.new ≡ spool.old }
 {
-    clear_older(spool)?;
+    let Ok(_) = clear_older(spool) else {
+        return octets;
+    };
     if octets < MOST_OCTETS {
-        return Ok(octets);
+        return octets;
     }
-    let was = change(alloc, spool)?;
-    Ok(if was { 0 } else { octets })
+    match change(alloc, spool) {
+        Ok(true) => 0,
+        Ok(false) => octets,
+        Err(_) => octets,
+    }
 }
 
 /// The older file is cleared where nothing in it waits.
@@ -312,6 +350,7 @@ fn clear_older<D: Disk>(spool: &mut Spool<D>) -> Result<bool, KeepFault>
         → PagesWait D.seen D.may_leave D.is_usable spool.new waits) }
     ensures told { OnErr result ((waits : List SpoolPage) → PagesWait D.seen D.may_leave D.is_usable spool.old waits
         → WaitSo D.seen D.may_leave D.is_usable spool.new (λ told. told ≡ waits)) }
+    ensures refuses { Refuses spool.old → IsErr result × (spool.new ≡ spool.old) }
 {
     files_share_what_waits();
     match spool.clear() {
@@ -326,6 +365,7 @@ fn change<D: Disk>(alloc: Global, spool: &mut Spool<D>) -> Result<bool, KeepFaul
         → PagesWait D.seen D.may_leave D.is_usable spool.new waits) }
     ensures told { OnErr result ((waits : List SpoolPage) → PagesWait D.seen D.may_leave D.is_usable spool.old waits
         → WaitSo D.seen D.may_leave D.is_usable spool.new (λ told. told ≡ waits)) }
+    ensures refuses { Refuses spool.old → IsErr result × (spool.new ≡ spool.old) }
 {
     match spool.change(alloc) {
         Ok(was) => Ok(was),
@@ -342,6 +382,7 @@ impl<D: Disk> Keeper<PageToKeep> for Keeping<D> {
     fn keep_all(&mut self, pages: &[PageToKeep]) -> Result<(), KeepFault>
         ensures kept { OnOk result ((before : List ToKeep) → KeepsPages D.seen D.may_leave D.is_usable self.old.spool before
             → KeepsPages D.seen D.may_leave D.is_usable self.new.spool (before ++ pages.now)) }
+        ensures tagged { OnOk result (PutsTagged D.seen D.may_leave D.is_usable self.old.tags.items pages.now self.old.spool self.new.spool) }
         ensures put { OnOk result (ArePut D.seen D.may_leave D.is_usable pages.now self.old.shelves.items self.new.shelves.items self.old.spool self.new.spool) }
         ensures agree { OnOk result (Agree D.seen D.may_leave D.is_usable self.old.spool self.old.shelves.items → Agree D.seen D.may_leave D.is_usable self.new.spool self.new.shelves.items) }
         ensures names { OnErr result ((names : List PageName) → AllAreAmong self.old.shelves.items names → AllAreAmong self.new.shelves.items names) }

@@ -2,6 +2,7 @@
 //! line is restored with behind a crash.
 #![tactic(auto)]
 
+mod end_fault;
 mod keeper;
 mod keeping;
 pub mod laws;
@@ -9,6 +10,7 @@ mod putting;
 mod restored;
 mod shelf;
 
+pub use end_fault::EndFault;
 pub use keeper::SpoolKeeper;
 pub use keeping::Keeping;
 pub use restored::{Restored, restore_line};

@@ -4,6 +4,7 @@ ghost use Rattle.fax_spool.specs.Calls.{Refuses};
 ghost use Rattle.fax_shelf.specs.Keeping.{AreRecordsUnder, IsRecordUnder, PutsRecords};
 ghost use Rattle.fax_shelf.specs.Refusals.{MayHavePut};
 ghost use Rattle.fax_shelf.specs.Shelves.{lines_of};
+ghost use Rattle.fax_shelf.specs.Tags.{AreTagged, PutsTagged, tag_of};
 
 use crate::shelf::Shelf;
 use fax_hold::KeepFault;
@@ -11,12 +12,21 @@ use fax_line::PageToKeep;
 use fax_spool::{PageRecord, Spool};
 use sqlite_disk::Disk;
 use std::alloc::Global;
+use std::marker::Model;
 
 /// The tag of the call of a line.
 #[derive(Drop)]
 pub(crate) struct CallTag {
     pub line: usize,
     pub tag: Vec<u8>,
+}
+
+impl Model for CallTag {
+    ghost use Rattle.fax_shelf.specs.CallTags.{CallTagValue};
+
+    ghost Value = { CallTagValue };
+
+    ghost view = { λ t. record { line = t.line; tag = t.tag.items } };
 }
 
 /// What the records of pages say beside the pages.
@@ -40,6 +50,7 @@ pub(crate) fn put_pages<D: Disk>(
     names: &Names<'_>,
 ) -> Result<(), KeepFault>
     ensures puts { OnOk result (PutsRecords D.seen D.may_leave D.is_usable names.now.life (lines_of names.now.shelves.now) pages.now names.now.numbers.now spool.old spool.new) }
+    ensures tagged { OnOk result (PutsTagged D.seen D.may_leave D.is_usable names.now.tags.now pages.now spool.old spool.new) }
     ensures failed { OnErr result ((spool.new ≡ spool.old) ⊎ MayHavePut D.seen D.may_leave D.is_usable names.now.life (lines_of names.now.shelves.now) pages.now names.now.numbers.now spool.old spool.new) }
     ensures refuses { Refuses spool.old → IsErr result × (spool.new ≡ spool.old) }
 {
@@ -59,7 +70,8 @@ fn records_of<'a>(
     pages: &'a [PageToKeep],
     names: &Names<'a>,
 ) -> Result<Vec<PageRecord<'a>>, KeepFault>
-    ensures { IfOk result (λ records. AreRecordsUnder names.now.life (lines_of names.now.shelves.now) pages.now names.now.numbers.now records.items) }
+    ensures under { IfOk result (λ records. AreRecordsUnder names.now.life (lines_of names.now.shelves.now) pages.now names.now.numbers.now records.items) }
+    ensures tagged { IfOk result (λ records. AreTagged names.now.tags.now pages.now records.items) }
 {
     let mut records = Vec::new(alloc);
     for (k, page) in pages.iter().enumerate() {
@@ -88,6 +100,7 @@ fn record_of<'a>(
 ) -> PageRecord<'a>
     ensures under { IsRecordUnder life page.now number result }
     ensures line { result.line ≡ line.now }
+    ensures tag { result.tag ≡ tag.now }
 {
     PageRecord {
         life,
@@ -112,7 +125,9 @@ fn line_of(shelves: &[Shelf], i: usize) -> Option<&[u8]>
 }
 
 /// The tag of the call of line i: no octets where it has none.
-fn tag_of(tags: &[CallTag], i: usize) -> &[u8] {
+fn tag_of(tags: &[CallTag], i: usize) -> &[u8]
+    ensures { result.now ≡ tag_of tags.now i }
+{
     for it in tags {
         if it.line == i {
             return it.tag.as_slice();

@@ -1,6 +1,6 @@
 //! The pages of a line that wait, as a spool knows them.
-ghost use Rattle.std.specs.Prelude.{◌≡◌, ◌↔◌, [], ◌∷◌, ◌++◌, take, drop, count_by, true, false, not, nat_eq, None, Some, IsTrue, IfOk, IfSome, MatchOption, OnOk, OnErr};
-ghost use Rattle.fax_shelf.specs.Shelves.{AreInOrder, IsBehind, IsShelved, NamesFirst, first_tag, is_of_earlier_life, kept_of, tag_in};
+ghost use Rattle.std.specs.Prelude.{◌≡◌, ◌⊎◌, ◌↔◌, [], ◌∷◌, ◌++◌, take, drop, count_by, true, false, not, nat_eq, None, Some, IsTrue, IfOk, IfNone, IfSome, MatchOption, OnOk, OnErr};
+ghost use Rattle.fax_shelf.specs.Shelves.{AreInOrder, IsBehind, IsFirstJob, IsShelved, NamesFirst, first_tag, is_of_earlier_life, kept_of, tag_in};
 
 use fax_bits::NoMemory;
 use std::alloc::{AllocError, Global};
@@ -191,6 +191,7 @@ impl Shelf {
         ensures line { self.new.line ≡ self.old.line }
         ensures waits { OnOk result (self.new.waits ≡ self.old.waits ++ page ∷ []) }
         ensures whole { self.new.is_whole ≡ true → self.old.is_whole ≡ true }
+        ensures stays { OnOk result (self.old.is_whole ≡ true → AreInOrder (self.old.waits ++ page ∷ []) → self.new.is_whole ≡ true) }
         ensures tags { self.new.tags ≡ self.old.tags }
         ensures aside { self.new.aside ≡ self.old.aside }
         ensures none { OnErr result (self.new ≡ self.old) }
@@ -219,7 +220,9 @@ impl Shelf {
         ensures sure { IfSome result (λ _. self.old.is_whole ≡ true) }
         ensures names { IfSome result (λ ended. NamesFirst pages ended self.old.waits) }
         ensures left { IfSome result (λ _. self.new.waits ≡ drop pages self.old.waits) }
+        ensures whole { IfSome result (λ _. self.new.is_whole ≡ true) }
         ensures unsure { result ≡ None → (self.new.waits ≡ self.old.waits) × (self.new.is_whole ≡ false) }
+        ensures why { IfNone result ((self.old.is_whole ≡ false) ⊎ (¬ IsFirstJob pages self.old.waits)) }
     {
         if !self.is_whole {
             return None;
@@ -247,7 +250,8 @@ fn tag_in(tags: &[RestoredTag], life: u32, call: u32) -> Option<&str>
 
 /// Whether a page came behind these.
 fn comes_behind(page: &Waiting, waits: &[Waiting]) -> bool
-    ensures { result ≡ true → AreInOrder waits.now → AreInOrder (waits.now ++ page.now ∷ []) }
+    ensures behind { result ≡ true → AreInOrder waits.now → AreInOrder (waits.now ++ page.now ∷ []) }
+    ensures not_behind { result ≡ false → ¬ AreInOrder (waits.now ++ page.now ∷ []) }
 {
     match waits.last() {
         Some(last) => is_behind(page, last),
@@ -271,7 +275,8 @@ fn is_behind(page: &Waiting, other: &Waiting) -> bool
 /// The job of so many pages that is first in turn. `None`: so many do not wait, or they did not come in one call.
 fn first_job(waits: &[Waiting], pages: u32) -> Option<Ended>
     requires { AreInOrder waits.now }
-    ensures { IfSome result (λ ended. NamesFirst pages ended waits.now) }
+    ensures names { IfSome result (λ ended. NamesFirst pages ended waits.now) }
+    ensures none { IfNone result (¬ IsFirstJob pages waits.now) }
 {
     let first = waits.first()?;
     let last = waits.get((pages as usize).checked_sub(1)?)?;

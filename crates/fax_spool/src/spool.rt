@@ -3,7 +3,7 @@ ghost use Rattle.std.specs.Prelude.{◌≡◌, ◌⊎◌, ◌<◌, ◌≤◌, �
 ghost use Rattle.std.specs.List.{filter};
 ghost use Rattle.std.specs.Bool.{MatchBool};
 ghost use Rattle.std.specs.Result.{is_ok};
-ghost use Rattle.fax_spool.specs.Calls.{Accepts, Does, Puts, Ends, Turns};
+ghost use Rattle.fax_spool.specs.Calls.{Accepts, Does, Puts, Ends, Turns, refuses_now};
 ghost use Rattle.fax_spool.specs.Records.{Stands};
 ghost use Rattle.fax_spool.specs.Settled.{IsSettled};
 ghost use Rattle.fax_spool.specs.KeptRecords.{AreReadAs, kept_of};
@@ -88,6 +88,13 @@ impl<D: Disk> Spool<D> {
         ensures { result ≡ epoch_now self.now }
     {
         self.epoch
+    }
+
+    /// Whether a call of the disk has failed: then it refuses everything.
+    pub fn refuses(&self) -> bool
+        ensures { result ≡ refuses_now self.now }
+    {
+        self.refuses
     }
 
     /// Its files, the older one first: a disk may be recovered and a spool begun anew, where a call has failed.

@@ -1,9 +1,10 @@
 //! The law of a whole run: it joins what the turns of a line leave with the lives of its gateway.
 ghost use Rattle.fax_shelf.specs.Histories.{OpeningsFindWhatWaits, RunsMakeHistory};
+ghost use Rattle.fax_shelf.specs.NotedRuns.{NewLinesHaveWholePasts, RestartsFindWhatIsLeft, RunsNoteAll};
 ghost use Rattle.fax_shelf.specs.OnLeg.{UnputPagesLetNothingOut};
 ghost use Rattle.fax_shelf.specs.declared.keeper.SpoolKeeper.{SpoolKeeper as KeeperShown};
 
-use crate::laws::book::turns_tell_both;
+use crate::laws::book::{servers_lose_none, turns_tell_both};
 use crate::laws::what_is_owed_is_restored;
 use fax_gateway::laws::{confirms_the_newest, jobs_are_of_their_calls};
 use fax_pagestore::laws::{pages_are_unique, pages_are_written, written_pages_mean};
@@ -23,6 +24,30 @@ pub fn runs_make_history<D: Disk>()
     written_pages_mean();
     pages_are_unique();
     what_is_owed_is_restored();
+}
+
+/// A run in which all puts of a line's pages and all ends of its jobs answered `Ok` leaves it a past in which all was put and noted,
+/// where it had one, with one life more, whatever crash follows, and whatever became of other lines.
+pub fn runs_note_all<D: Disk>()
+    ensures { RunsNoteAll D.seen D.may_leave D.is_usable (λ (keeper : KeeperShown D). keeper.keeping.shelves.items) (λ (keeper : KeeperShown D). keeper.keeping.spool) }
+{
+    turns_tell_both();
+    confirms_the_newest();
+    jobs_are_of_their_calls();
+    pages_are_written();
+    written_pages_mean();
+    pages_are_unique();
+    what_is_owed_is_restored();
+}
+
+/// Behind a past in which all was put and noted a restart finds what is owed, and nothing else: just the pages that the gateway's book
+/// had left. So no job that was reported is sent again. A line of which no page waits has such a past.
+pub fn restarts_find_what_is_left()
+    ensures found { RestartsFindWhatIsLeft }
+    ensures begins { NewLinesHaveWholePasts }
+{
+    what_is_owed_is_restored();
+    servers_lose_none();
 }
 
 /// Where the deeds of a line's wire are those of a trace, a tick that confirms a page lets nothing out on the calling leg unless that page

@@ -6,7 +6,7 @@ use Rattle.fax_shelf.proofs.keeping.put_end.Goals as goal
 pub returns-in-Ok-clause-ends : goal.returns-in-Ok-clause-ends
 returns-in-Ok-clause-ends g c =
     job_is_ended _ _ _ c.args.report.pages c.args.shelf.now c.end.new.self c.args.spool.now c.put_ended.new.spool c.in-Some.ended c.line-2.result.now
-    (c.line-2.ensures ∙ c.in-Some.ensures.line) c.in-Some.ensures.line c.in-Some.ensures.names c.in-Some.ensures.left c.in-Ok.ensures
+    (c.line-2.ensures ∙ c.in-Some.ensures.line) c.in-Some.ensures.line c.in-Some.ensures.names c.in-Some.ensures.left c.in-Some.ensures.whole c.in-Ok.ensures
 
 pub returns-in-Ok-clause-sure : goal.returns-in-Ok-clause-sure
 returns-in-Ok-clause-sure g c = job_is_sure _ _ _ c.args.shelf.now c.args.spool.now c.put_ended.new.spool c.in-Some.ended c.line-2.result.now c.in-Some.ensures.sure c.in-Ok.ensures

@@ -1,6 +1,5 @@
 use Rattle.std.proofs.Common.{refl, arith}
 use Rattle.fax_shelf.proofs.Shelving.{end_agrees, get_at, set_at}
-use Rattle.fax_shelf.proofs.Refusing.{ends_noted, on_err}
 use Rattle.fax_shelf.proofs.Waits.{job_stays}
 use Rattle.fax_shelf.proofs.keeping.Keeping.end.Goals as goal
 
@@ -15,22 +14,8 @@ returns-clause-ends g c =
       was = get_at olds c.args.i old (omega (arith, c.if-i-len.false, c.len.ensures)) c.index_mut.ensures.value;
       is = set_at olds c.args.i new (omega (arith, c.if-i-len.false, c.len.ensures));
       are = refl;
-      ends = job_stays c.args.report.pages old new c.args.self.now.spool c.put_end.new.spool c.change_files.new.spool c.in_ok-kept.ensures.ends c.in_ok-self.ensures.stays;
+      ends = job_stays _ _ _ c.args.report.pages old new c.args.self.now.spool c.put_end.new.spool c.change_files-self.new.spool c.in_ok-kept.ensures.ends c.change_files-self.ensures.told c.change_files-self.ensures.refuses;
     }
 
 pub returns-clause-agree : goal.returns-clause-agree
 returns-clause-agree g c = end_agrees _ _ _ _ _ _ _ _ _ (returns-clause-ends g c)
-
-pub returns-in_err-self-clause-deed : goal.returns-in_err-self-clause-deed
-returns-in_err-self-clause-deed g c =
-    let olds = c.args.self.now.shelves.items in
-    let old = c.index_mut.result.now in
-    let new = c.put_end.new.shelf in
-    on_err c.from_residual-in_err-self.result (λ within. record {
-      old = old;
-      new = new;
-      was = get_at olds c.args.i old within c.index_mut.ensures.value;
-      is = set_at olds c.args.i new within;
-      are = refl;
-      ends = ends_noted _ _ _ c.args.report.pages old new c.args.self.now.spool c.put_end.new.spool c.change_files.new.spool c.in_ok-kept.ensures.ends c.in_ok-kept.ensures.sure c.in_err-self.ensures.told;
-    })

@@ -3,6 +3,7 @@ use Rattle.fax_shelf.specs.Shelves.{lines_of}
 use Rattle.fax_shelf.proofs.Refusing.{refuse_through}
 use Rattle.fax_shelf.proofs.Records.{keeps_on, keeps_put}
 use Rattle.fax_shelf.proofs.Shelving.{agrees_on, err_so, names_on, ok_so, put_through}
+use Rattle.fax_shelf.proofs.Tagging.{tagged_through}
 use Rattle.fax_shelf.proofs.keeping.KeepingKeeperPageToKeep.keep_all.Goals as goal
 
 pub returns-clause-kept : goal.returns-clause-kept
@@ -19,6 +20,12 @@ returns-clause-put g c =
     c.args.self.now.spool begun.new.self.spool c.put_pages-answer.new.spool c.add_all.new.self.spool
     c.as_slice.ensures.value c.as_slice-4.ensures.value (c.as_slice-2.ensures.value ∙ begun.ensures.shelves) begun.ensures.shelves begun.ensures.spool c.add_all.ensures.spool
     (ok_so c.put_pages-answer.result c.is_ok.result c.is_ok.ensures.value) c.put_pages-answer.ensures.puts c.add_all.ensures.shelves
+
+pub returns-clause-tagged : goal.returns-clause-tagged
+returns-clause-tagged g c =
+    let begun = c.numbers_of-numbers in
+    tagged_through _ _ _ c.put_pages-answer.result c.args.pages.now c.args.self.now.tags.items c.as_slice-3.result.now c.args.self.now.spool begun.new.self.spool c.put_pages-answer.new.spool c.add_all.new.self.spool
+    (c.as_slice-3.ensures.value ∙ begun.ensures.tags) begun.ensures.spool c.add_all.ensures.spool c.put_pages-answer.ensures.tagged
 
 pub returns-clause-agree : goal.returns-clause-agree
 returns-clause-agree g c = agrees_on _ _ _ c.put_pages-answer.result c.args.pages.now c.args.self.now.shelves.items c.add_all.new.self.shelves.items c.args.self.now.spool c.add_all.new.self.spool (returns-clause-put g c)

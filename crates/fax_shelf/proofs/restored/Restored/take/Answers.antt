@@ -11,5 +11,5 @@ returns-in-Ok c = taken c.add.result c.args.line.now c.args.waits.now c.in-Ok.pa
 pub returns-in_default : goal.returns-in_default
 returns-in_default c =
     let none : MeansNone c.args.waits.now = λ page means. elim (c.in-Err.ensures.reads page means) [ inl other ↦ cc | inr same ↦ c.in_default.not-NoMemory (cc) ] in
-    put_aside c.set_aside.result c.args.line.now c.args.waits.now c.args.self.now (record { calls = c.args.self.now.calls; shelf = c.set_aside.new.self }) (sym c.is_of_line.ensures ∙ c.if-not-is_of_line.false) none refl (ap (λ (s : ShelfValue). s.line) c.set_aside.ensures.same) (ap (λ (s : ShelfValue). s.waits) c.set_aside.ensures.same) (ap (λ (s : ShelfValue). s.tags) c.set_aside.ensures.same)
+    put_aside c.set_aside.result c.args.line.now c.args.waits.now c.args.self.now (record { calls = c.args.self.now.calls; shelf = c.set_aside.new.self }) (sym c.is_of_line.ensures ∙ c.if-not-is_of_line.false) none refl (ap (λ (s : ShelfValue). s.line) c.set_aside.ensures.same) (ap (λ (s : ShelfValue). s.waits) c.set_aside.ensures.same) (ap (λ (s : ShelfValue). s.is_whole) c.set_aside.ensures.same) (ap (λ (s : ShelfValue). s.tags) c.set_aside.ensures.same)
     (subst (λ (p : spool.PageValue). OnOk c.set_aside.result (c.set_aside.new.self.aside ≡ c.args.self.now.shelf.aside ++ (p.call, p.number) ∷ [])) c.waits.view_is c.set_aside.ensures.aside)
