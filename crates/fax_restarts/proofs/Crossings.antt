@@ -8,11 +8,11 @@ use Rattle.fax_spool.specs.Calls.{CrashesLeaveWhatWaits, NewSpoolsTellNone}
 use Rattle.fax_spool.specs.Spools.{MayLeaveBoth}
 use Rattle.fax_spool.specs.Stopped.{StoppedOpeningsLeaveWhatWaits}
 use Rattle.fax_spool.specs.declared.spool.Spool.{Spool}
-use Rattle.fax_shelf.specs.Jobs.{PagesWait}
+use Rattle.fax_shelf.specs.Jobs.{PagesWait, WaitSo}
 use Rattle.fax_shelf.specs.Shelves.{ShelfValue}
 use Rattle.fax_shelf.specs.Restorations.{Restores}
-use Rattle.fax_shelf.specs.Refusals.{WaitSo}
-use Rattle.fax_shelf.specs.Histories.{HasPast, LeavesRun, OpeningsFindWhatWaits, RunsMakeHistory, WasOpened}
+use Rattle.fax_shelf.specs.Histories.{BeginsRun, HasPast, LeavesRun, OpeningsFindWhatWaits, RunsMakeHistory, WasOpened}
+use Rattle.fax_restarts.specs.Runs.{OneRun, WasRun}
 use Rattle.fax_restarts.specs.Crossings.{HasLives, HasPastOver, LeavesOver, NewFilesHaveNoPast, RunsCross, RunsGoOn, RunsJoin, RunsLead, StoppedOpeningsLeaveThePast}
 
 pub new_files : NewSpoolsTellNone → NewFilesHaveNoPast
@@ -34,24 +34,28 @@ module _ {D : Type 0} (seen : D → List ℕ) (may_leave : D → List ℕ → Ty
   crash_over leave writes line lives puts now (inr refuses) older newer left = let it = refuses.1 older newer left in record { pages = it.0; tell = it.1; past = it.2 }
 
   module _ {K : Type 0} (shelves_of : K → List ShelfValue) (spool_of : K → Spool D) where
+    pub begins : (line : List ℕ) (pages : List spool.PageValue) (run : OneRun D K) → WasOpened seen may_leave is_usable run.opened pages → WasRun seen may_leave is_usable shelves_of spool_of line run
+        → BeginsRun seen may_leave is_usable run.number line pages run.setup run.begun (shelves_of run.before) (spool_of run.before)
+    begins line pages run found was = record {
+      waits = subst (λ (s : Spool D). PagesWait seen may_leave is_usable s pages) (sym was.spool_is) found.wait;
+      restored = was.restored;
+      restores = subst (λ (l : List spool.PageValue). Restores line l was.restored) found.told was.restores;
+      place = was.place;
+      there = was.there;
+      begins = was.begins;
+      fresh = was.fresh;
+      set = was.set;
+      shelved = was.shelved;
+      as_many = was.as_many;
+      alone = was.alone;
+    }
+
     pub runs_cross : OpeningsFindWhatWaits seen may_leave is_usable → RunsMakeHistory seen may_leave is_usable shelves_of spool_of → CrashesLeaveWhatWaits seen may_leave is_usable → RunsCross seen may_leave is_usable shelves_of spool_of
     runs_cross find history leave writes line lives puts older newer one other run writing past both is was =
         let found : WasOpened seen may_leave is_usable run.opened past.pages = find older newer one other past.pages run.opened past.tell both is in
         let left : LeavesRun seen may_leave is_usable writes run.number line lives puts run.setup run.settled run.left (spool_of run.after) =
         history writes run.number line past.pages lives puts run.setup run.first run.done run.settled run.begun run.left run.before run.after writing past.past
-        (record {
-          waits = subst (λ (s : Spool D). PagesWait seen may_leave is_usable s past.pages) (sym was.spool_is) found.wait;
-          restored = was.restored;
-          restores = subst (λ (l : List spool.PageValue). Restores line l was.restored) found.told was.restores;
-          place = was.place;
-          there = was.there;
-          begins = was.begins;
-          fresh = was.fresh;
-          set = was.set;
-          shelved = was.shelved;
-          as_many = was.as_many;
-          alone = was.alone;
-        }) was.ran in
+        (begins line past.pages run found was) was.ran in
         record {
           life = record { setup = run.setup; trace = left.trace };
           kept = left.kept;

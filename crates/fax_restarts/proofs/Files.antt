@@ -3,7 +3,7 @@ use Rattle.std.proofs.Common.{◌≡◌, ℕ, inl, inr, Bool, List, [], ◌∷�
 use Rattle.std.specs.List.{All}
 use Rattle.std.proofs.lemmas.List.Elements.{All-cons, All-head, All-nil, All-tail}
 use Rattle.std.specs.Prelude.{Result, Ok, Err, IfOk, true}
-use Rattle.fax_spool.specs.Calls.{CrashesLeaveWhatWaits, Does, NewSpoolsTellNone, Puts, Rests}
+use Rattle.fax_spool.specs.Calls.{CrashesLeaveWhatWaits, Does, NewSpoolsTellNone, Puts, Rests, TellWaits}
 use Rattle.fax_spool.specs.Opened.{IsOpened, OpeningsFindWhatCrashesLeave, closed}
 use Rattle.fax_spool.specs.Spools.{Tells}
 use Rattle.fax_spool.specs.declared.opening.Opened.{Opened}
@@ -18,6 +18,7 @@ use Rattle.fax_spool.specs.Waits.{waiting_behind}
 use Rattle.fax_spool.specs.declared.kept_record.KeptRecord.{KeptRecord}
 use Rattle.fax_spool.specs.declared.kept_record.KeptRecord.TheVariants.{Page, Epoch}
 use Rattle.fax_restarts.specs.Files.{CanBeTold, PastsHaveFiles, file_of}
+use Rattle.fax_restarts.specs.WholePasts.{WholePastsHaveFiles}
 
 abbrev records : List spool.PageValue → List KeptRecord
 records pages = map (λ page. Page page) pages
@@ -43,24 +44,23 @@ epoch_short =
     let seal : length (kept_epoch 1) ≡ 37 = length-append (sha256 (epoch_octets 1)) (epoch_octets 1) ∙ omega (arith, length-sha256 (epoch_octets 1), number) in
     omega (arith, seal)
 
+told : (pages : List spool.PageValue) → All CanBeTold pages → TellWaits [] (file_of pages) pages
+told pages all = record {
+  olds = [];
+  news = Epoch 1 ∷ records pages;
+  tell = (
+    record { items = []; stands = record { end = []; split = refl; no_more = none; short = All-nil IsShort }; read = tt },
+    record { items = kept_epoch 1 ∷ map kept_page pages; stands = record { end = []; split = sym (append-nil (file_of pages)); no_more = none; short = All-cons IsShort (kept_epoch 1) (map kept_page pages) epoch_short (short pages all) }; read = ((refl, omega arith), read pages all) },
+  );
+  in_order = inr (inl refl);
+  wait = wait [] pages;
+}
+
 pub pasts_have_files : PastsHaveFiles
-pasts_have_files writes line lives puts pages past all = (
-  omega arith,
-  record {
-    pages = pages;
-    tell = record {
-      olds = [];
-      news = Epoch 1 ∷ records pages;
-      tell = (
-        record { items = []; stands = record { end = []; split = refl; no_more = none; short = All-nil IsShort }; read = tt },
-        record { items = kept_epoch 1 ∷ map kept_page pages; stands = record { end = []; split = sym (append-nil (file_of pages)); no_more = none; short = All-cons IsShort (kept_epoch 1) (map kept_page pages) epoch_short (short pages all) }; read = ((refl, omega arith), read pages all) },
-      );
-      in_order = inr (inl refl);
-      wait = wait [] pages;
-    };
-    past = past;
-  },
-)
+pasts_have_files writes line lives puts pages past all = (omega arith, record { pages = pages; tell = told pages all; past = past })
+
+pub whole_pasts_have_files : WholePastsHaveFiles
+whole_pasts_have_files writes line lives puts pages past all = (omega arith, record { pages = pages; tell = told pages all; past = past })
 
 pub if_ok : {T E : Type 0} (r : Result T E) (P Q : T → Type 0) → ((t : T) → P t → Q t) → IfOk r P → IfOk r Q
 if_ok (Ok t) P Q on p = on t p

@@ -1,3 +1,4 @@
 pub mod Crossings
 pub mod Files
 pub mod Runs
+pub mod WholePasts

@@ -1,9 +1,12 @@
 //! Laws of the definitions: functions that do nothing, each of whose contracts is a theorem.
 ghost use Rattle.fax_restarts.specs.Crossings.{NewFilesHaveNoPast, RunsCross, RunsGoOn, RunsJoin, RunsLead, StoppedOpeningsLeaveThePast};
 ghost use Rattle.fax_restarts.specs.Files.{PastsHaveFiles};
+ghost use Rattle.fax_restarts.specs.WholePasts.{NewFilesHaveWholePasts, OpeningsFindWhatIsLeft, WholePastsHaveFiles, WholeRunsCross};
 ghost use Rattle.fax_shelf.specs.declared.keeper.SpoolKeeper.{SpoolKeeper as KeeperShown};
 
-use fax_shelf::laws::histories::{openings_find_what_waits, runs_make_history};
+use fax_shelf::laws::histories::{
+    openings_find_what_waits, restarts_find_what_is_left, runs_make_history, runs_note_all,
+};
 use fax_spool::laws::{
     crashes_leave_what_waits, new_spools_tell_none, stopped_openings_leave_what_waits,
 };
@@ -54,4 +57,30 @@ pub fn runs_go_on<D: Disk>()
 /// Each past of a line can be had over files that are not empty.
 pub fn pasts_have_files()
     ensures { PastsHaveFiles }
+{}
+
+/// A run in which all puts of a line's pages and all ends of its jobs answered `Ok` leads from files to files over which all of it was put
+/// and noted, where it began over such files, whatever a crash leaves: so any number of them. New files are such.
+pub fn whole_runs_cross<D: Disk>()
+    ensures begins { NewFilesHaveWholePasts }
+    ensures crosses { WholeRunsCross D.seen D.may_leave D.is_usable (λ (keeper : KeeperShown D). keeper.keeping.shelves.items) (λ (keeper : KeeperShown D). keeper.keeping.spool) }
+{
+    new_spools_tell_none();
+    restarts_find_what_is_left();
+    openings_find_what_waits::<D>();
+    runs_note_all::<D>();
+    crashes_leave_what_waits::<D>();
+}
+
+/// A restart over such files finds what is owed, and nothing else: no job that was reported is sent again.
+pub fn openings_find_what_is_left<D: Disk>()
+    ensures { OpeningsFindWhatIsLeft D.seen D.may_leave D.is_usable }
+{
+    openings_find_what_waits::<D>();
+    restarts_find_what_is_left();
+}
+
+/// Each past in which all was put and noted can be had over files that are not empty.
+pub fn whole_pasts_have_files()
+    ensures { WholePastsHaveFiles }
 {}
