@@ -1,7 +1,9 @@
-//! Processes that put pages into a spool, for `tools/crash`; and a spool that is opened again.
+//! Processes that put pages into a spool, for `tools/crash`; and spools that are opened again.
 #![tactic(auto)]
 
 #[cfg(test)]
 mod crashes;
+#[cfg(test)]
+mod noted;
 #[cfg(test)]
 mod reopened;

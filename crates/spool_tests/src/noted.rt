@@ -1,0 +1,77 @@
+//! Jobs that end: what is noted of them is not found again.
+use fax_bits::{NoMemory, Octets};
+use fax_gateway::Kept;
+use fax_hold::Keeper;
+use fax_jobs::{Outcome, Report};
+use fax_line::PageToKeep;
+use fax_restarts::open_over;
+use fax_runcodes::{Format, Width};
+use fax_shelf::{Keeping, Shelf};
+use fax_spool::Opened;
+use sqlite_disk::Memory;
+use std::alloc::{AllocError, Global};
+use std::rt::HostRuntime;
+use std::test::Fail;
+
+const FORMAT: Format = Format {
+    width: Width::W1728,
+    fine: false,
+};
+
+/// Of a job of one page.
+const REPORT: Report = Report {
+    call: 0,
+    format: FORMAT,
+    pages: 1,
+    delivered: 1,
+    outcome: Outcome::Delivered,
+};
+
+/// What is known of the only line as its first life begins.
+fn shelves_of(alloc: Global) -> Result<Vec<Shelf>, NoMemory> {
+    let mut shelves = Vec::new(alloc);
+    shelves.push(Shelf::new(alloc, "a1")?)?;
+    Ok(shelves)
+}
+
+/// The only page of this call.
+fn page_of(alloc: Global, call: u32) -> Result<PageToKeep, AllocError> {
+    let text = b"text".to_vec(alloc)?;
+    Ok(PageToKeep {
+        line: 0,
+        kept: Kept {
+            call,
+            format: FORMAT,
+            rows: 1,
+            closes: true,
+        },
+        text: Octets::from_vec(text),
+    })
+}
+
+/// Whether the page of this call alone is told, under this tag.
+fn tells_page(opened: &Opened<Memory>, call: u32, tag: &str) -> bool {
+    match opened.pages.as_slice() {
+        [page] => page.call == call && page.number == 1 && page.tag.as_slice() == tag.as_bytes(),
+        _ => false,
+    }
+}
+
+/// What `Keeping::end` promises of an `Ok` is not empty: with memory to spare it answers one. The page of the job that ended is not
+/// found again, and the next one is, under the tag of its own call.
+#[test]
+fn ended_job_is_not_found_again(rt: HostRuntime) -> Result<(), Fail> {
+    let alloc = rt.alloc();
+    let opened = open_over(alloc, &[], &[])?;
+    let mut keeping = Keeping::new(alloc, opened.spool, shelves_of(alloc)?);
+    keeping.set_tag(0, "first");
+    keeping.keep_all(&[page_of(alloc, 0)?])?;
+    keeping.begin_slot();
+    keeping.set_tag(0, "second");
+    keeping.keep_all(&[page_of(alloc, 1)?])?;
+    keeping.end(0, REPORT)?;
+    let (older, newer) = keeping.into_spool().into_files();
+    let found = open_over(alloc, older.disk.bytes(), newer.disk.bytes())?;
+    assert!(rt; tells_page(&found, 1, "second"));
+    Ok(())
+}
