@@ -1,7 +1,7 @@
 //! Why the end of a job is not noted.
 use thiserror::Error;
 
-/// Why the end of a job is not noted. Each but `NoMemory` is told exactly where it is so (`IsWhy`).
+/// Why the end of a job is not noted. Each is told only where it is so (`IsWhy`), but that memory was refused cannot be seen.
 #[derive(Clone, Copy, PartialEq, Eq, Debug, Error)]
 pub enum EndFault {
     /// There is no such line.
