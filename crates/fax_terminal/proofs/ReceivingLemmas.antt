@@ -1,5 +1,6 @@
 -- The call of a terminal that is called, step by step.
-use Rattle.std.proofs.Common.{◌≡◌, ℕ, List, [], ◌∷◌, ◌++◌, reverse, Option, None, Some, refl, sym, ◌∙◌, ap, subst}
+use Rattle.std.proofs.Common.{◌≡◌, ℕ, Bool, true, false, List, [], ◌∷◌, ◌++◌, reverse, Option, None, Some, refl, sym, ◌∙◌, ap, subst}
+use Rattle.std.specs.Prelude.{Result, Ok, Err, OnOk}
 use Rattle.fax_pagestore.specs.Pages.{PageValue}
 use Rattle.fax_ifp.specs.Elements.{Slot}
 use Rattle.fax_ifp.specs.Pieces.{Piece}
@@ -13,10 +14,9 @@ use Rattle.fax_answer.specs.Reached.{Kept, IsReached, Hears}
 use Rattle.fax_answer.specs.Sent.{confirmed_in_tick, confirmed_with, pages_confirmed}
 use Rattle.fax_answer.specs.Shown.{IsStep, confirmed_in, confirmed_shown}
 use Rattle.fax_answer.proofs.Readings.{calls_are_read}
-use Rattle.fax_gateway.specs.Wires.{Grows}
-use Rattle.fax_gateway.proofs.DrivingLemmas.{grows_as, grows_more, grows_none}
 use Rattle.fax_answer.specs.declared.state.State.TheVariants.{Idle}
-use Rattle.fax_terminal.specs.Calls.{HasTurned, IsReceiving, KeepsConfirmed, KeepsWholeCall, pages_in, rung_at}
+use Rattle.fax_terminal.specs.declared.fault.TerminalFault.{TerminalFault}
+use Rattle.fax_terminal.specs.Calls.{AreGiven, IsReceiving, KeepsConfirmed, KeepsInCall, KeepsWholeCall, kept_all, pages_in, rung_at}
 
 -- pieces confirm nothing
 pages_confirmed-comes : (a : Answering) (given : List Piece) (now : ℕ) (read : Reading) (events : List CallEvent)
@@ -25,15 +25,14 @@ pages_confirmed-comes a [] now read events = refl
 pages_confirmed-comes a (piece ∷ more) now read events = pages_confirmed-comes a more now read (Comes piece now read ∷ events)
 
 -- a call that was rung
-pub IsReceiving-rung : (pause : ℕ) (told : Option (List PageValue)) (start : ℕ) (kept : Kept) → IsReached [] (rung_at pause start) kept
-    → IsReceiving pause told kept told
-IsReceiving-rung pause told start kept reached = record { start = start; heard = []; events = []; right = tt; reached = reached; grows = grows_none told }
+pub IsReceiving-rung : (pause start : ℕ) (kept : Kept) → IsReached [] (rung_at pause start) kept → IsReceiving pause [] kept
+IsReceiving-rung pause start kept reached = record { start = start; heard = []; events = []; right = tt; reached = reached; pages_are = refl }
 
 -- slots were heard
-pub IsReceiving-heard : (pause : ℕ) (told given : Option (List PageValue)) (slots : List Slot) (now : ℕ) (old new : Kept)
+pub IsReceiving-heard : (pause : ℕ) (pages : List PageValue) (slots : List Slot) (now : ℕ) (old new : Kept)
     → ((heard : List Slot) (core : Answering) → IsReached heard core old → Hears slots now heard core new)
-    → IsReceiving pause told old given → IsReceiving pause told new given
-IsReceiving-heard pause told given slots now old new hears r =
+    → IsReceiving pause pages old → IsReceiving pause pages new
+IsReceiving-heard pause pages slots now old new hears r =
     let h = hears r.heard (after_events (rung_at pause r.start) r.events) r.reached in
     let c = calls_are_read (rung_at pause r.start) r.events h.given now h.read r.right h.right in
     record {
@@ -42,7 +41,7 @@ IsReceiving-heard pause told given slots now old new hears r =
       events = comes_all h.given now h.read r.events;
       right = c.0;
       reached = subst (λ (core : Answering). IsReached (reverse slots ++ r.heard) core new) (sym c.1) h.reached;
-      grows = grows_as _ _ told given (sym (pages_confirmed-comes (rung_at pause r.start) h.given now h.read r.events)) r.grows;
+      pages_are = pages_confirmed-comes (rung_at pause r.start) h.given now h.read r.events ∙ r.pages_are;
     }
 
 -- the page that a tick gives, in front of those before it
@@ -53,36 +52,61 @@ pages_in-tick None (Some c) pages e = cc
 pages_in-tick (Some w) None pages e = ap (λ x. confirmed_with x pages) (sym e)
 pages_in-tick (Some w) (Some c) pages e = ap (λ x. confirmed_with x pages) (sym e)
 
+-- a keeper was given pages, and then others
+pub AreGiven-more : {K : Type 0} (keeps : PageValue → Bool → K → K → Type 0) (all_kept : Bool) (newer pages : List PageValue) (first old new : K)
+    → AreGiven keeps true pages first old → AreGiven keeps all_kept newer old new → AreGiven keeps all_kept (newer ++ pages) first new
+AreGiven-more keeps true [] pages first old new before after = subst (λ keeper. AreGiven keeps true pages first keeper) (sym after) before
+AreGiven-more keeps false [] pages first old new before after = absurd after
+AreGiven-more keeps all_kept (page ∷ newer) pages first old new before (between, given, is) =
+    (between, AreGiven-more keeps true newer pages first old between before given, is)
+
 -- a tick, whose page was given to a keeper
-pub HasTurned-ticked : {S : Type 0} (pause : ℕ) (told given behind : Option (List PageValue)) (now : ℕ) (old new : Kept) (step : Step S)
+pub KeepsInCall-ticked : {S K : Type 0} (keeps : PageValue → Bool → K → K → Type 0) (pause : ℕ) (all_kept : Bool) (first before behind : K) (now : ℕ) (old new : Kept) (step : Step S)
     → ((heard : List Slot) (core : Answering) → IsReached heard core old → IsReached heard (ticked core now).core new × IsStep (ticked core now) step)
-    → Grows (pages_in step.confirmed) given behind → IsReceiving pause told old given → HasTurned pause told now new behind
-HasTurned-ticked pause told given behind now old new step ticks grew r =
+    → AreGiven keeps all_kept (pages_in step.confirmed) before behind → KeepsInCall keeps pause true first old before
+    → (call : KeepsInCall keeps pause all_kept first new behind) × (earlier : List CallEvent) × (call.receiving.events ≡ Ticks now ∷ earlier)
+KeepsInCall-ticked keeps pause all_kept first before behind now old new step ticks given k =
+    let r = k.receiving in
     let core = after_events (rung_at pause r.start) r.events in
-    let t = ticks r.heard core r.reached in
-    let pages = pages_in-tick (ticked core now).given step.confirmed (pages_confirmed (rung_at pause r.start) r.events) t.1.confirmed in
-    record {
-      call = record {
-        start = r.start;
-        heard = r.heard;
-        events = Ticks now ∷ r.events;
-        right = r.right;
-        reached = t.0;
-        grows = grows_as _ _ told behind (sym pages) (grows_more _ _ told given behind r.grows grew);
-      };
-      before = r.events;
-      last = refl;
-    }
+    let t = ticks r.heard core r.reached in (
+      record {
+        pages = pages_in step.confirmed ++ k.pages;
+        receiving = record {
+          start = r.start;
+          heard = r.heard;
+          events = Ticks now ∷ r.events;
+          right = r.right;
+          reached = t.0;
+          pages_are = pages_in-tick (ticked core now).given step.confirmed (pages_confirmed (rung_at pause r.start) r.events) t.1.confirmed
+              ∙ ap (λ pages. pages_in step.confirmed ++ pages) r.pages_are;
+        };
+        given = AreGiven-more keeps all_kept (pages_in step.confirmed) k.pages first before behind k.given given;
+      },
+      r.events,
+      refl,
+    )
 
 -- what a keeper was given in a call
-pub KeepsConfirmed-receiving : (pause : ℕ) (told given : Option (List PageValue)) (kept : Kept) → IsReceiving pause told kept given → KeepsConfirmed pause told given
-KeepsConfirmed-receiving pause told given kept r = record { start = r.start; events = r.events; right = r.right; grows = r.grows }
+pub KeepsConfirmed-receiving : {K : Type 0} (keeps : PageValue → Bool → K → K → Type 0) (pause : ℕ) (all_kept : Bool) (first keeper : K) (kept : Kept)
+    → KeepsInCall keeps pause all_kept first kept keeper → KeepsConfirmed keeps pause all_kept first keeper
+KeepsConfirmed-receiving keeps pause all_kept first keeper kept k =
+    record {
+      start = k.receiving.start;
+      events = k.receiving.events;
+      right = k.receiving.right;
+      given = subst (λ (pages : List PageValue). AreGiven keeps all_kept pages first keeper) (sym k.receiving.pages_are) k.given;
+    }
 
 -- and in one that is over
-pub KeepsWholeCall-receiving : (pause : ℕ) (told given : Option (List PageValue)) (kept : Kept) → IsReceiving pause told kept given → kept.procedure.state ≡ Idle
-    → KeepsWholeCall pause told given
+pub KeepsWholeCall-receiving : {K : Type 0} (keeps : PageValue → Bool → K → K → Type 0) (pause : ℕ) (first keeper : K) (kept : Kept)
+    → KeepsInCall keeps pause true first kept keeper → kept.procedure.state ≡ Idle → KeepsWholeCall keeps pause first keeper
 unfolding KeepsConfirmed-receiving
-KeepsWholeCall-receiving pause told given kept r over = record {
-  kept = KeepsConfirmed-receiving pause told given kept r;
-  over = sym r.reached.stands.follows.state ∙ over;
+KeepsWholeCall-receiving keeps pause first keeper kept k over = record {
+  kept = KeepsConfirmed-receiving keeps pause true first keeper kept k;
+  over = sym k.receiving.reached.stands.follows.state ∙ over;
 }
+
+-- a call that was answered had all its pages kept
+pub all_kept_if_ok : {A : Type 0} (r : Result A TerminalFault) (P : Type 0) → (kept_all r ≡ true → P) → OnOk r P
+all_kept_if_ok (Ok answer) P leads = leads refl
+all_kept_if_ok (Err fault) P leads = tt

@@ -1,5 +1,5 @@
 -- What is told of the calls of terminals.
-use Rattle.std.specs.Prelude.{◌≡◌, ℕ, List, [], ◌∷◌, Option, Some, None}
+use Rattle.std.specs.Prelude.{◌≡◌, ℕ, Bool, true, false, List, [], ◌∷◌, Option, Some, None, Result, Ok, Err}
 use Rattle.fax_pagestore.specs.Pages.{PageValue}
 use Rattle.fax_ifp.specs.Elements.{Slot}
 use Rattle.fax_jobs.specs.Jobs.{JobValue}
@@ -13,7 +13,8 @@ use Rattle.fax_call.specs.declared.state.State.TheVariants.{Idle}
 use Rattle.fax_call.specs.Writings.{Writing, IsWriting}
 use Rattle.fax_call.specs.Calls.{Calling, CallEvent, Ticks, new_calling, started, after_events}
 use Rattle.fax_call.specs.Reached as caller
-use Rattle.fax_gateway.specs.Wires.{Grows}
+use Rattle.fax_terminal.specs.declared.fault.TerminalFault.{TerminalFault}
+use Rattle.fax_terminal.specs.declared.fault.TerminalFault.TheVariants as faults
 use Rattle.fax_terminal.specs.declared.sending.Sent.{Sent}
 
 -- ---- a terminal that calls
@@ -49,21 +50,41 @@ pub record TellsCall (pause : ℕ) (job : JobValue) (sent : Sent) : Type 0 where
 abbrev pub rung_at : (pause : ℕ) → (start : ℕ) → answering.Answering
 rung_at pause start = answering.rung (answering.new_answering pause) start
 
--- Some events of a call led an answering side here, each image of it rightly read; and the pages that its ticks confirmed are
--- those that were given to a keeper, in their order.
-pub record IsReceiving (pause : ℕ) (told : Option (List PageValue)) (kept : answerer.Kept) (given : Option (List PageValue)) : Type 0 where
+-- Some events of a call led an answering side here, each image of it rightly read; and these are the pages that its ticks
+-- confirmed, the newest first.
+pub record IsReceiving (pause : ℕ) (pages : List PageValue) (kept : answerer.Kept) : Type 0 where
   pub start : ℕ
   pub heard : List Slot
   pub events : List answering.CallEvent
   pub right : AreRead (rung_at pause start) events
   pub reached : answerer.IsReached heard (answering.after_events (rung_at pause start) events) kept
-  pub grows : Grows (pages_confirmed (rung_at pause start) events) told given
+  pub pages_are : pages_confirmed (rung_at pause start) events ≡ pages
 
--- the same, where the last of the events is a tick at this moment
-pub record HasTurned (pause : ℕ) (told : Option (List PageValue)) (now : ℕ) (kept : answerer.Kept) (given : Option (List PageValue)) : Type 0 where
-  pub call : IsReceiving pause told kept given
+-- WHAT IS MADE OF A KEEPER by pages that it was given one by one, each told with the newest first: it kept all of them; or, where
+-- it did not, all but the last, behind which it was given no other.
+abbrev pub AreGiven : {K : Type 0} → (keeps : PageValue → Bool → K → K → Type 0) → (all_kept : Bool) → List PageValue → (old new : K) → Type 0
+AreGiven keeps true [] old new = new ≡ old
+AreGiven keeps false [] old new = ⊥
+AreGiven {K} keeps all_kept (page ∷ pages) old new = (between : K) × AreGiven keeps true pages old between × keeps page all_kept between new
+
+-- A call was answered with all pages kept that it confirmed, or it goes no further since one was not kept.
+abbrev pub kept_all : {A : Type 0} → Result A TerminalFault → Bool
+kept_all (Ok answer) = true
+kept_all (Err faults.NoMemory) = true
+kept_all (Err faults.Clock) = true
+kept_all (Err faults.Keeping) = false
+
+-- some events of a call led an answering side here, and a keeper from there to here: by the pages that its ticks confirmed
+pub record KeepsInCall {K : Type 0} (keeps : PageValue → Bool → K → K → Type 0) (pause : ℕ) (all_kept : Bool) (first : K) (kept : answerer.Kept) (keeper : K) : Type 0 where
+  pub pages : List PageValue
+  pub receiving : IsReceiving pause pages kept
+  pub given : AreGiven keeps all_kept pages first keeper
+
+-- the same, where all were kept, and the last of the events is a tick at this moment
+pub record HasTurned {K : Type 0} (keeps : PageValue → Bool → K → K → Type 0) (pause : ℕ) (first : K) (now : ℕ) (kept : answerer.Kept) (keeper : K) : Type 0 where
+  pub call : KeepsInCall keeps pause true first kept keeper
   pub before : List answering.CallEvent
-  pub last : call.events ≡ answering.Ticks now ∷ before
+  pub last : call.receiving.events ≡ answering.Ticks now ∷ before
 
 -- the page that a tick confirmed, where it did
 abbrev pub pages_in : {S : Type 0} → Option (Confirmed S) → List PageValue
@@ -71,14 +92,14 @@ pages_in None = []
 pages_in (Some confirmed) = confirmed.page ∷ []
 
 -- What a keeper was given in a call are the pages that the ticks of an answering side confirmed in it, each one and in their
--- order, behind some events of the call, each image of it rightly read.
-pub record KeepsConfirmed (pause : ℕ) (told given : Option (List PageValue)) : Type 0 where
+-- order, behind some events of the call, each image of it rightly read. It kept all of them, or all but the last.
+pub record KeepsConfirmed {K : Type 0} (keeps : PageValue → Bool → K → K → Type 0) (pause : ℕ) (all_kept : Bool) (old new : K) : Type 0 where
   pub start : ℕ
   pub events : List answering.CallEvent
   pub right : AreRead (rung_at pause start) events
-  pub grows : Grows (pages_confirmed (rung_at pause start) events) told given
+  pub given : AreGiven keeps all_kept (pages_confirmed (rung_at pause start) events) old new
 
--- the same, of a call that is over
-pub record KeepsWholeCall (pause : ℕ) (told given : Option (List PageValue)) : Type 0 where
-  pub kept : KeepsConfirmed pause told given
+-- the same, of a call that is over, with all of them kept
+pub record KeepsWholeCall {K : Type 0} (keeps : PageValue → Bool → K → K → Type 0) (pause : ℕ) (old new : K) : Type 0 where
+  pub kept : KeepsConfirmed keeps pause true old new
   pub over : (answering.after_events (rung_at pause kept.start) kept.events).state ≡ answerer_state.Idle

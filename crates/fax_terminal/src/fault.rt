@@ -17,12 +17,22 @@ pub enum TerminalFault {
 }
 
 impl From<NoMemory> for TerminalFault {
+    ghost use Rattle.std.specs.Prelude.{◌≡◌};
+    ghost use Rattle.fax_terminal.specs.declared.fault.TerminalFault.TheVariants as faults;
+
+    ghost from_gives = { λ _ fault. fault ≡ faults.NoMemory };
+
     fn from(_: NoMemory) -> Self {
         TerminalFault::NoMemory
     }
 }
 
 impl From<KeepFault> for TerminalFault {
+    ghost use Rattle.std.specs.Prelude.{◌≡◌};
+    ghost use Rattle.fax_terminal.specs.declared.fault.TerminalFault.TheVariants as faults;
+
+    ghost from_gives = { λ _ fault. fault ≡ faults.Keeping };
+
     fn from(_: KeepFault) -> Self {
         TerminalFault::Keeping
     }

@@ -1,6 +1,5 @@
 //! What keeps the pages that a terminal confirms.
-ghost use Rattle.std.specs.Prelude.{List, [], ◌∷◌, Option};
-ghost use Rattle.fax_gateway.specs.Wires.{Grows};
+ghost use Rattle.std.specs.Prelude.{Bool, is_ok};
 ghost use Rattle.fax_pagestore.specs.Pages.{PageValue};
 
 use fax_pagestore::{Page, RowStore};
@@ -11,14 +10,13 @@ pub struct KeepFault;
 
 /// What keeps pages.
 pub trait Keeper<S: RowStore> {
-    ghost use Rattle.std.specs.Prelude.{List, [], ◌∷◌, Option};
-    ghost use Rattle.fax_gateway.specs.Wires.{Grows};
+    ghost use Rattle.std.specs.Prelude.{Bool, is_ok};
     ghost use Rattle.fax_pagestore.specs.Pages.{PageValue};
 
-    /// The pages that it was given, the newest first, where it tells them.
-    ghost given: { Self → Option (List PageValue) };
+    /// What is made of it by a page that it is to keep, which was kept or not.
+    ghost keeps: { PageValue → Bool → Self → Self → Type 0 };
 
-    /// Keeps a page. It was given also where it is not kept.
+    /// Keeps a page.
     fn keep(&mut self, page: &Page<S>) -> Result<(), KeepFault>
-        ensures { Grows (page.now ∷ []) (given self.old) (given self.new) };
+        ensures { keeps page.now (is_ok result) self.old self.new };
 }

@@ -5,5 +5,5 @@ use Rattle.fax_terminal.proofs.ReceivingLemmas.{IsReceiving-heard}
 use Rattle.fax_terminal.proofs.receiving.ReceivingTerminal.hear_one.Goals as goal
 
 pub returns : goal.returns
-returns g c = λ pause told given is.
-    IsReceiving-heard pause told given _ c.args.now _ _ c.in_ok-slots.ensures.heard (subst (λ (k : Kept). IsReceiving pause told k given) (sym c.self.view_is) is)
+returns g c = λ pause pages is.
+    IsReceiving-heard pause pages _ c.args.now _ _ c.in_ok-slots.ensures.heard (subst (λ (k : Kept). IsReceiving pause pages k) (sym c.self.view_is) is)

@@ -6,4 +6,4 @@ use Rattle.fax_terminal.proofs.receiving.ReceivingTerminal.new.Goals as goal
 pub returns : goal.returns
 returns g c =
     let pause = c.args.settings.preamble_ms in
-    λ told. IsReceiving-rung pause told c.args.now c.ring.new.self (c.ring.ensures.rung [] (new_answering pause) c.new-answerer.ensures)
+    IsReceiving-rung pause c.args.now c.ring.new.self (c.ring.ensures.rung [] (new_answering pause) c.new-answerer.ensures)
