@@ -1,5 +1,5 @@
 -- WHOSE FAULT IT IS where a run of `faxgate send` or `faxgate receive` does not come to its end. (This project's profile.)
-use Rattle.std.specs.Prelude.{◌≡◌, ◌≢◌, ℕ, ◌<◌, ◌⊎◌, List, [], length, Contains, IsSomeAnd}
+use Rattle.std.specs.Prelude.{◌≡◌, ◌≢◌, ℕ, ◌<◌, ◌⊎◌, List, [], length, Option, Contains, IsSomeAnd}
 use Rattle.fax_runcodes.specs.declared.format.Format.{Format}
 use Rattle.fax_runcodes.specs.declared.format.Coding.{Coding}
 use Rattle.fax_jobs.specs.Jobs.{most_pages}
@@ -9,6 +9,7 @@ use Rattle.fax_machine.specs.declared.run_fault.RunFault.{RunFault}
 use Rattle.fax_machine.specs.declared.run_fault.RunFault.TheVariants as faults
 use Rattle.fax_machine.specs.declared.sending.SendOptions.{SendOptions}
 use Rattle.fax_machine.specs.Files.{IsBadPicture, IsBadText}
+use Rattle.fax_machine.specs.Folders.{AreOctetsOf}
 
 -- ---- the files of a job
 
@@ -19,20 +20,23 @@ RefusesOctets format coding file (faults.Picture path fault) = IsBadPicture form
 RefusesOctets format coding file (faults.Text path fault) = IsBadText format coding file fault
 RefusesOctets format coding file fault = ⊥
 
--- This file is at fault: it cannot be opened or read, or its octets are no page. Or memory is wanting.
-abbrev pub IsFileFault : Format → Coding → (path : List ℕ) → RunFault → Type 0
-IsFileFault format coding path faults.NoMemory = Unit {0}
-IsFileFault format coding path (faults.File named error) = named.now ≡ path
-IsFileFault format coding path (faults.Unread named error) = (named.now ≡ path) × (error ≢ input_errors.NoMemory)
-IsFileFault format coding path (faults.Picture named fault) = (named.now ≡ path) × (file : List ℕ) × IsBadPicture format.fine file fault
-IsFileFault format coding path (faults.Text named fault) = (named.now ≡ path) × (file : List ℕ) × IsBadText format coding file fault
-IsFileFault format coding path fault = ⊥
+-- The file of this name is at fault: it cannot be opened or read, or its octets are no page. Or memory is wanting. What it holds,
+-- where it is known, is told beside.
+abbrev pub IsFileFault : (known : Option (List ℕ)) → Format → Coding → (name : List ℕ) → RunFault → Type 0
+IsFileFault known format coding name faults.NoMemory = Unit {0}
+IsFileFault known format coding name (faults.File named error) = named.now ≡ name
+IsFileFault known format coding name (faults.Unread named error) = (named.now ≡ name) × (error ≢ input_errors.NoMemory)
+IsFileFault known format coding name (faults.Picture named fault) =
+    (named.now ≡ name) × (file : List ℕ) × AreOctetsOf known file × IsBadPicture format.fine file fault
+IsFileFault known format coding name (faults.Text named fault) =
+    (named.now ≡ name) × (file : List ℕ) × AreOctetsOf known file × IsBadText format coding file fault
+IsFileFault known format coding name fault = ⊥
 
 -- One of the files of a job is at fault, or there is none of them, or too many. Or memory is wanting.
-abbrev pub IsJobFault : Format → Coding → (paths : List (List ℕ)) → RunFault → Type 0
-IsJobFault format coding paths faults.NoMemory = Unit {0}
-IsJobFault format coding paths faults.PageCount = (paths ≡ []) ⊎ (most_pages < length paths)
-IsJobFault format coding paths fault = (path : List ℕ) × Contains paths path × IsFileFault format coding path fault
+abbrev pub IsJobFault : (holds : List ℕ → Option (List ℕ)) → Format → Coding → (names : List (List ℕ)) → RunFault → Type 0
+IsJobFault holds format coding names faults.NoMemory = Unit {0}
+IsJobFault holds format coding names faults.PageCount = (names ≡ []) ⊎ (most_pages < length names)
+IsJobFault holds format coding names fault = (name : List ℕ) × Contains names name × IsFileFault (holds name) format coding name fault
 
 -- ---- addresses and the clock
 
@@ -54,8 +58,8 @@ IsClockFault fault = ⊥
 -- ---- the runs
 
 -- the fault of a run of `faxgate send`: of its files, of an address, or of the clock
-abbrev pub IsSendFault : SendOptions → (paths : List (List ℕ)) → RunFault → Type 0
-IsSendFault options paths fault = IsJobFault options.format options.coding paths fault ⊎ (IsCallingFault options fault ⊎ IsClockFault fault)
+abbrev pub IsSendFault : (holds : List ℕ → Option (List ℕ)) → SendOptions → (names : List (List ℕ)) → RunFault → Type 0
+IsSendFault holds options names fault = IsJobFault holds options.format options.coding names fault ⊎ (IsCallingFault options fault ⊎ IsClockFault fault)
 
 -- a page of files that are named so could not be written; or memory is wanting
 abbrev pub IsKeepingFault : (prefix : List ℕ) → RunFault → Type 0

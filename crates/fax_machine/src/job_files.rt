@@ -1,9 +1,11 @@
 //! The pages in files, as a job.
-ghost use Rattle.std.specs.Prelude.{IfErr, IfOk, length, map};
+ghost use Rattle.std.specs.Prelude.{ℕ, List, Option, IfErr, IfOk, map};
 ghost use Rattle.fax_machine.specs.Faults.{IsFileFault, IsJobFault, RefusesOctets};
 ghost use Rattle.fax_machine.specs.Files.{HasPage, IsPageOfFile};
+ghost use Rattle.fax_machine.specs.Folders.{AreOctetsOf};
 ghost use Rattle.fax_machine.specs.Runs.{IsJobOfFiles};
 
+use crate::named_files::NamedFiles;
 use crate::run_fault::RunFault;
 use fax_command::{
     InputError, InputFault, Output, PageOptions, StdSource, page_of_hex, read_input,
@@ -12,8 +14,6 @@ use fax_jobs::Job;
 use fax_pagestore::{Coding, Format, PackedRows, Page};
 use fax_pbm::{PbmFault, read_pbm};
 use std::alloc::Global;
-use std::fs;
-use std::rt::Files;
 
 /// The most pages of a job.
 const MOST_PAGES: u32 = 999;
@@ -27,28 +27,28 @@ pub(crate) struct Reading {
     pub coding: Coding,
 }
 
-/// The job of the pages in these files, in their order, as of call 0.
-pub(crate) fn read_job<'a, H: Files>(
-    host: &H,
+/// The job of the pages in the files of these names, in their order, as of call 0.
+pub(crate) fn read_job<'a, F: NamedFiles>(
+    files: &F,
     alloc: Global,
     reading: Reading,
-    files: &[&'a str],
+    names: &[&'a str],
 ) -> Result<Job<PackedRows>, RunFault<'a>>
-    ensures ok { IfOk result (IsJobOfFiles reading.format reading.coding (length files.now)) }
-    ensures fault { IfErr result (IsJobFault reading.format reading.coding (map (λ path. path.now) files.now)) }
+    ensures ok { IfOk result (IsJobOfFiles (F.holds files.now) reading.format reading.coding (map (λ name. name.now) names.now)) }
+    ensures fault { IfErr result (IsJobFault (F.holds files.now) reading.format reading.coding (map (λ name. name.now) names.now)) }
 {
-    let Some((first, others)) = files.split_first() else {
+    let Some((first, others)) = names.split_first() else {
         return Err(RunFault::PageCount);
     };
-    let page = read_file(host, alloc, reading, first)?;
+    let page = read_file(files, alloc, reading, first)?;
     let Ok(mut job) = Job::of_page(alloc, 0, page) else {
         return Err(RunFault::NoMemory);
     };
-    for file in others {
+    for name in others {
         if job.page_count() >= MOST_PAGES {
             return Err(RunFault::PageCount);
         }
-        let page = read_file(host, alloc, reading, file)?;
+        let page = read_file(files, alloc, reading, name)?;
         let Ok(()) = job.add_page(page) else {
             return Err(RunFault::NoMemory);
         };
@@ -56,43 +56,44 @@ pub(crate) fn read_job<'a, H: Files>(
     Ok(job)
 }
 
-/// The page in a file.
-fn read_file<'a, H: Files>(
-    host: &H,
+/// The page in the file of this name.
+fn read_file<'a, F: NamedFiles>(
+    files: &F,
     alloc: Global,
     reading: Reading,
-    path: &'a str,
+    name: &'a str,
 ) -> Result<Page<PackedRows>, RunFault<'a>>
-    ensures ok { IfOk result (IsPageOfFile reading.format reading.coding) }
-    ensures fault { IfErr result (IsFileFault reading.format reading.coding path.entry.now) }
+    ensures ok { IfOk result (IsPageOfFile reading.format reading.coding (F.holds files.now name.entry.now)) }
+    ensures fault { IfErr result (IsFileFault (F.holds files.now name.entry.now) reading.format reading.coding name.entry.now) }
 {
-    let file = match fs::open(host, path) {
+    let file = match files.open(name) {
         Ok(file) => file,
-        Err(error) => return Err(RunFault::File(path, error)),
+        Err(error) => return Err(RunFault::File(name, error)),
     };
     match read_input(alloc, &mut StdSource::new(file)) {
-        Ok(octets) => page_in(alloc, reading, path, octets),
+        Ok(octets) => page_in(alloc, reading, name, octets),
         Err(InputError::NoMemory) => Err(RunFault::NoMemory),
-        Err(error) => Err(RunFault::Unread(path, error)),
+        Err(error) => Err(RunFault::Unread(name, error)),
     }
 }
 
-/// The page that octets of a file mean: a P4 picture, or hex text.
+/// The page that octets of the file of this name mean: a P4 picture, or hex text.
 fn page_in<'a>(
     alloc: Global,
     reading: Reading,
-    path: &'a str,
+    name: &'a str,
     octets: Vec<u8>,
 ) -> Result<Page<PackedRows>, RunFault<'a>>
     ensures ok { IfOk result (HasPage reading.format reading.coding octets.items) }
     ensures fault { IfErr result (RefusesOctets reading.format reading.coding octets.items) }
-    ensures file { IfErr result (IsFileFault reading.format reading.coding path.entry.now) }
+    ensures file { (known : Option (List ℕ)) → AreOctetsOf known octets.items
+        → IfErr result (IsFileFault known reading.format reading.coding name.entry.now) }
 {
     if octets.as_slice().starts_with(b"P4") {
         return match read_pbm(alloc, octets.as_slice(), reading.format.fine) {
             Ok(page) => Ok(page),
             Err(PbmFault::NoMemory) => Err(RunFault::NoMemory),
-            Err(fault) => Err(RunFault::Picture(path, fault)),
+            Err(fault) => Err(RunFault::Picture(name, fault)),
         };
     }
     let options = PageOptions {
@@ -104,6 +105,6 @@ fn page_in<'a>(
     match page_of_hex(alloc, octets, options) {
         Ok(page) => Ok(page),
         Err(InputFault::NoMemory) => Err(RunFault::NoMemory),
-        Err(fault) => Err(RunFault::Text(path, fault)),
+        Err(fault) => Err(RunFault::Text(name, fault)),
     }
 }

@@ -2,7 +2,9 @@
 #![tactic(auto)]
 
 mod clock_pace;
+mod host_files;
 mod job_files;
+mod named_files;
 mod page_files;
 mod receiving;
 mod run_fault;
@@ -11,7 +13,10 @@ mod sockets;
 mod udp_leg;
 mod watch;
 
-pub use receiving::{ReceiveOptions, run_receive};
+pub use host_files::HostFiles;
+pub use named_files::{NamedFiles, NewFile};
+pub use page_files::PageFiles;
+pub use receiving::{ReceiveOptions, receive_pages, run_receive};
 pub use run_fault::RunFault;
-pub use sending::{SendOptions, run_send};
+pub use sending::{SendOptions, run_send, send_files};
 pub use watch::Watch;

@@ -1,55 +1,76 @@
 //! Pages that are kept in files.
-ghost use Rattle.std.specs.Prelude.{◌≡◌, ◌≤◌, None, IfOk};
+ghost use Rattle.std.specs.Prelude.{◌≡◌, ◌≤◌, string_bytes, IfOk, OnErr, OnOk};
+ghost use Rattle.fax_machine.specs.Keeping.{BeginsCall, IsPageAdded, name_of_page};
 
+use crate::named_files::{NamedFiles, write_file};
 use crate::watch::Watch;
 use fax_pagestore::{PackedRows, Page};
 use fax_pbm::write_pbm;
 use fax_terminal::{KeepFault, Keeper};
 use std::alloc::{AllocError, Global};
-use std::fs::OpenOptions;
 use std::io;
-use std::io::Write;
-use std::rt::Files;
+use std::marker::Model;
 
-/// Writes the pages of a call as pictures, into files that are named for the call and for their number in it. No file that is
+/// Writes the pages of calls as pictures, into files that are named for the call and for their number in it. No file that is
 /// there is written over.
 #[derive(Drop)]
-pub(crate) struct PageFiles<'a, H: Files, E: Eprint> {
-    host: &'a H,
+pub struct PageFiles<'a, F: NamedFiles + Drop, E: Eprint> {
+    files: F,
     watch: &'a Watch<'a, E>,
     alloc: Global,
     prefix: &'a str,
     call: u32,
-    /// How many pages it was given.
+    /// How many pages of the call it was given.
     pages: u32,
     /// Why the last page was not written, where the system says it.
     fault: Option<io::Error>,
 }
 
-impl<'a, H: Files, E: Eprint> PageFiles<'a, H, E> {
-    /// Files of the pages of a call.
-    pub(crate) fn new(
-        host: &'a H,
-        watch: &'a Watch<'a, E>,
-        alloc: Global,
-        prefix: &'a str,
-        call: u32,
-    ) -> Self
-        ensures pages { result.pages ≡ 0 }
-        ensures fault { result.fault ≡ None }
+/// Seen as the call that is on, and the files that were made.
+impl<'a, F: NamedFiles + Drop, E: Eprint> Model for PageFiles<'a, F, E> {
+    ghost use Rattle.fax_machine.specs.Keeping.{FilingValue};
+
+    ghost Value = { FilingValue };
+
+    ghost view = { λ p. record { prefix = p.prefix.now; call = p.call; pages = p.pages; made = F.made p.files } };
+}
+
+impl<'a, F: NamedFiles + Drop, E: Eprint> PageFiles<'a, F, E> {
+    /// These files, before the first call.
+    pub fn new(files: F, watch: &'a Watch<'a, E>, alloc: Global) -> Self
+        ensures { result.made ≡ F.made files }
     {
         PageFiles {
-            host,
+            files,
             watch,
             alloc,
-            prefix,
-            call,
+            prefix: "",
+            call: 0,
             pages: 0,
             fault: None,
         }
     }
 
-    /// The number of the page that it was given last, from 1 on.
+    /// The next call begins, whose files are named with this prefix. It has the next number of whose first page no file is there.
+    pub(crate) fn begin_call(&mut self, prefix: &'a str) -> Result<(), AllocError>
+        ensures ok { OnOk result (BeginsCall prefix.entry.now self.old self.new) }
+        ensures err { OnErr result (self.new ≡ self.old) }
+    {
+        self.call = free_call(&self.files, self.alloc, prefix, self.call)?;
+        self.prefix = prefix;
+        self.pages = 0;
+        self.fault = None;
+        Ok(())
+    }
+
+    /// The number of the call.
+    pub(crate) fn call(&self) -> u32
+        ensures { result ≡ self.now.call }
+    {
+        self.call
+    }
+
+    /// The number of the page of the call that it was given last, from 1 on.
     pub(crate) fn last(&self) -> u32
         ensures { result ≡ self.now.pages }
     {
@@ -57,48 +78,62 @@ impl<'a, H: Files, E: Eprint> PageFiles<'a, H, E> {
     }
 
     /// Why that page was not written. `None`: it was, or memory was wanted.
-    pub(crate) fn into_fault(self) -> Option<io::Error>
-        ensures { result ≡ self.entry.fault }
+    pub(crate) fn take_fault(&mut self) -> Option<io::Error>
+        ensures { self.new ≡ self.old }
     {
-        self.fault
-    }
-
-    /// Writes a picture into a new file.
-    fn write(&self, octets: &[u8]) -> io::Result<()> {
-        let path = path_of(self.alloc, self.prefix, self.call, self.pages)?;
-        let mut file = OpenOptions::new()
-            .write(true)
-            .create_new(true)
-            .open(self.host, path.as_str())?;
-        file.write_all(octets)
+        self.fault.take()
     }
 }
 
-impl<H: Files, E: Eprint> Keeper<PackedRows> for PageFiles<'_, H, E> {
-    ghost use Rattle.std.specs.Prelude.{◌≡◌, ◌+◌, ◌-◌, ◌^◌, min, None, OnOk};
+impl<F: NamedFiles + Drop, E: Eprint> Keeper<PackedRows> for PageFiles<'_, F, E> {
+    ghost use Rattle.fax_machine.specs.Keeping.{KeepsPage};
 
-    ghost given = { λ _. None };
+    ghost keeps = { KeepsPage };
 
-    fn keep(&mut self, page: &Page<PackedRows>) -> Result<(), KeepFault>
-        ensures counted { self.new.pages ≡ min (self.old.pages + 1) (2 ^ 32 - 1) }
-        ensures kept { OnOk result (self.new.fault ≡ self.old.fault) }
-    {
-        self.pages = self.pages.saturating_add(1);
-        let Ok(octets) = write_pbm(self.alloc, page) else {
+    fn keep(&mut self, page: &Page<PackedRows>) -> Result<(), KeepFault> {
+        let Some(number) = self.pages.checked_add(1) else {
             return Err(KeepFault);
         };
-        if let Err(error) = self.write(octets.as_slice()) {
-            self.fault = Some(error);
+        self.pages = number;
+        let (alloc, prefix, call) = (self.alloc, self.prefix, self.call);
+        if let Err(fault) = write_page(&mut self.files, alloc, prefix, call, number, page) {
+            self.fault = fault;
             return Err(KeepFault);
         }
-        self.watch.tell_progress("received: page", self.pages);
+        self.watch.tell_progress("received: page", number);
         Ok(())
     }
 }
 
+/// Writes a page as a picture, into the file of this number in a call, where there is none. An `Err` tells why it was not, where
+/// the system says it.
+fn write_page<F: NamedFiles>(
+    files: &mut F,
+    alloc: Global,
+    prefix: &str,
+    call: u32,
+    number: u32,
+    page: &Page<PackedRows>,
+) -> Result<(), Option<io::Error>>
+    ensures ok { OnOk result (IsPageAdded prefix.now call number page.now (F.made files.old) (F.made files.new)) }
+    ensures err { OnErr result (F.made files.new ≡ F.made files.old) }
+{
+    let Ok(octets) = write_pbm(alloc, page) else {
+        return Err(None);
+    };
+    let name = match path_of(alloc, prefix, call, number) {
+        Ok(name) => name,
+        Err(error) => return Err(Some(io::Error::from(error))),
+    };
+    match write_file(files, name, octets.as_slice()) {
+        Ok(()) => Ok(()),
+        Err(error) => Err(Some(error)),
+    }
+}
+
 /// The first call, from this number on, of whose first page no file is there.
-pub(crate) fn free_call<H: Files>(
-    host: &H,
+fn free_call<F: NamedFiles>(
+    files: &F,
     alloc: Global,
     prefix: &str,
     from: u32,
@@ -107,11 +142,7 @@ pub(crate) fn free_call<H: Files>(
 {
     for call in from..u32::MAX {
         let path = path_of(alloc, prefix, call, 1)?;
-        if OpenOptions::new()
-            .read(true)
-            .open(host, path.as_str())
-            .is_err()
-        {
+        if files.open(path.as_str()).is_err() {
             return Ok(call);
         }
     }
@@ -119,6 +150,8 @@ pub(crate) fn free_call<H: Files>(
 }
 
 /// The name of the file of a page.
-fn path_of(alloc: Global, prefix: &str, call: u32, page: u32) -> Result<String, AllocError> {
+fn path_of(alloc: Global, prefix: &str, call: u32, page: u32) -> Result<String, AllocError>
+    ensures { IfOk result (λ path. string_bytes path ≡ name_of_page prefix.now call page) }
+{
     format!(in alloc; "{prefix}-{call}-{page}.pbm")
 }

@@ -1,11 +1,13 @@
 //! A run of `faxgate send`.
-ghost use Rattle.std.specs.Prelude.{IfErr, IfOk, length, map};
+ghost use Rattle.std.specs.Prelude.{IfErr, IfOk, None, map};
 ghost use Rattle.fax_gateway.specs.Setups.{AreAllowed};
 ghost use Rattle.fax_machine.specs.Faults.{IsCallingFault, IsSendFault};
 ghost use Rattle.fax_machine.specs.Runs.{TellsRun};
 
 use crate::clock_pace::ClockPace;
+use crate::host_files::HostFiles;
 use crate::job_files::{Reading, read_job};
+use crate::named_files::NamedFiles;
 use crate::run_fault::RunFault;
 use crate::sockets::{address_of, any_address, socket_at};
 use crate::udp_leg::{Port, UdpLeg};
@@ -35,9 +37,8 @@ pub struct SendOptions<'a> {
     pub repeat: RepeatPolicy,
 }
 
-/// Calls a machine and sends the pages in these files, each a P4 picture or the hex text of a page, and reports how the call
-/// ended. Where it was not delivered, and sends or receives failed, that is told. No contract says what stands in a file: the
-/// job that it tells has as many pages as there are files, each a page that some file has. An `Err` names what is at fault.
+/// Calls a machine and sends the pages in the files of the system at these paths, as `send_files`. No contract says what stands in
+/// a file of the system.
 pub fn run_send<'a, H: Net + Clock + Files, E: Eprint>(
     host: &H,
     watch: &Watch<'_, E>,
@@ -46,14 +47,32 @@ pub fn run_send<'a, H: Net + Clock + Files, E: Eprint>(
     files: &[&'a str],
 ) -> Result<Report, RunFault<'a>>
     requires { AreAllowed options.settings }
-    ensures ok { IfOk result (TellsRun options.entry (length files.now)) }
-    ensures fault { IfErr result (IsSendFault options.entry (map (λ path. path.now) files.now)) }
+    ensures ok { IfOk result (TellsRun (λ path. None) options.entry (map (λ path. path.now) files.now)) }
+    ensures fault { IfErr result (IsSendFault (λ path. None) options.entry (map (λ path. path.now) files.now)) }
+{
+    send_files(host, watch, alloc, options, &HostFiles::new(host), files)
+}
+
+/// Calls a machine and sends the pages in the files of these names, each a P4 picture or the hex text of a page: page i of the job is
+/// that of file i. It reports how the call ended. Where it was not delivered, and sends or receives failed, that is told. An `Err`
+/// names what is at fault.
+pub fn send_files<'a, H: Net + Clock, F: NamedFiles, E: Eprint>(
+    host: &H,
+    watch: &Watch<'_, E>,
+    alloc: Global,
+    options: SendOptions<'a>,
+    files: &F,
+    names: &[&'a str],
+) -> Result<Report, RunFault<'a>>
+    requires { AreAllowed options.settings }
+    ensures ok { IfOk result (TellsRun (F.holds files.now) options.entry (map (λ name. name.now) names.now)) }
+    ensures fault { IfErr result (IsSendFault (F.holds files.now) options.entry (map (λ name. name.now) names.now)) }
 {
     let reading = Reading {
         format: options.format,
         coding: options.coding,
     };
-    let job = read_job(host, alloc, reading, files)?;
+    let job = read_job(files, alloc, reading, names)?;
     let peer = address_of(host, options.to)?;
     let port = Port::new(calling_socket(host, options, peer)?);
     let mut pace = ClockPace::new(host, watch, port.socket())?;
