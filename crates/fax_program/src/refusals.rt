@@ -5,7 +5,14 @@ ghost use Rattle.fax_program.specs.Statuses.{IsToldAs, refusal_status};
 use crate::failures::tell_unprinted;
 use clap::error::ErrorKind;
 use fax_command::Status;
-use std::io;
+use std::env::FillError;
+use std::rt::Env;
+use std::{io, str};
+
+/// The most words of a command line that are looked at, and the most octets of one.
+const MOST_WORDS: usize = 100_000;
+
+const MOST_WORD: usize = 4_096;
 
 /// Prints the help that was asked for, or why the command line is refused.
 pub(crate) fn tell_refusal<R: Print + Eprint>(rt: &R, error: &clap::Error) -> Status
@@ -22,15 +29,32 @@ pub(crate) fn tell_refusal<R: Print + Eprint>(rt: &R, error: &clap::Error) -> St
     }
 }
 
-/// Prints why the words could not be read.
-pub(crate) fn tell_unread_words<R: Print + Eprint>(rt: &R, error: io::Error) -> Status {
+/// Prints why the words could not be read, and of one that is no UTF-8 which it is: 1 is the first behind the program's name.
+pub(crate) fn tell_unread_words<R: Print + Eprint + Env>(rt: &R, error: io::Error) -> Status {
     if error.kind() == io::ErrorKind::OutOfMemory {
         return tell_no_memory(rt);
     }
-    match rt.eprintln(error) {
+    let told = match unread_word(rt) {
+        Some(i) => rt.eprintln(format_args!("faxgate: word {i} is no UTF-8")),
+        None => rt.eprintln(format_args!("faxgate: {error}")),
+    };
+    match told {
         Ok(()) => Status::Usage,
         Err(_) => Status::Stream,
     }
+}
+
+/// The place of the first word of the command line that is no UTF-8, of those of at most 4,096 octets.
+fn unread_word<R: Env>(rt: &R) -> Option<usize> {
+    let mut octets = [0; MOST_WORD];
+    for i in 0..MOST_WORDS {
+        match rt.arg(i, &mut octets) {
+            Ok(length) if str::from_utf8(&octets[..length]).is_err() => return Some(i),
+            Ok(_) | Err(FillError::TooLong) => {}
+            Err(FillError::NotPresent) => return None,
+        }
+    }
+    None
 }
 
 /// Prints that memory was wanted and refused.
