@@ -9,15 +9,15 @@ from server import Play, address, event_line, finish, until
 # The text of the page of one white row in two dimensions: EOL, a 1 for a line in one dimension, the white runs 1728 and 0, and
 # six times EOL with a 1 (ITU-T T.4, 4.2). So it stands in a record.
 WHITE = bytes.fromhex("001a6cd4006003001800c0060030")
-# A record: a gate, its length in four octets, the digest of the rest by SHA-256, and the rest.
-HEAD, DIGEST = 5, 32
+# A record: a gate three times, its length in four octets three times, the digest of the rest by SHA-256, and the rest.
+GATE, HEAD, DIGEST = 3, 15, 32
 
 
 def records(octets):
     """Where the records of a spool's file begin and end, behind their digests."""
     at, found = 0, []
     while octets[at] == 1:
-        end = at + HEAD + int.from_bytes(octets[at + 1 : at + HEAD], "big")
+        end = at + HEAD + int.from_bytes(octets[at + GATE : at + GATE + 4], "big")
         found.append((at + HEAD + DIGEST, end))
         at = end
     return found

@@ -23,18 +23,20 @@ DELIVERED, PAGE_REFUSED = 0, 7
 SLOTS = 40
 
 
-# Records (docs/ARCHITECTURE.md): a gate, the length, a SHA-256 digest, and what it is of.
+# Records (docs/ARCHITECTURE.md): a gate three times, the length three times, a SHA-256 digest, and what it is of.
+OPEN, SHUT = b"\x01\x01\x01", b"\x00\x00\x00"
+HEADER = 15
 
 
 def record(octets):
     """A record of these octets, behind its open gate."""
     sealed = hashlib.sha256(octets).digest() + octets
-    return b"\x01" + struct.pack(">I", len(sealed)) + sealed
+    return OPEN + 3 * struct.pack(">I", len(sealed)) + sealed
 
 
 def file_of(*records):
     """A file of records, with a shut gate behind them."""
-    return b"".join(map(record, records)) + b"\x00"
+    return b"".join(map(record, records)) + SHUT
 
 
 def short(text):
@@ -60,9 +62,11 @@ def ended(line, life, call, first, pages, delivered, outcome=DELIVERED, width=0,
 def records_in(octets):
     """What the records that octets begin with are of; of each the digest is right."""
     found = []
-    while octets[:1] == b"\x01":
-        length = struct.unpack(">I", octets[1:5])[0]
-        sealed, octets = octets[5 : 5 + length], octets[5 + length :]
+    while octets[: len(OPEN)] == OPEN:
+        lengths = struct.unpack(">III", octets[len(OPEN) : HEADER])
+        if len(set(lengths)) != 1:
+            raise AssertionError("the lengths of a record differ")
+        sealed, octets = octets[HEADER : HEADER + lengths[0]], octets[HEADER + lengths[0] :]
         if hashlib.sha256(sealed[32:]).digest() != sealed[:32]:
             raise AssertionError("a digest is wrong")
         found.append(sealed[32:])
@@ -127,7 +131,7 @@ class RecordsHaveTheirOctets(unittest.TestCase):
         )
         # FIPS 180-4's example
         digest = "ba7816bf8f01cfea414140de5dae2223b00361a396177a9cb410ff61f20015ad"
-        self.assertEqual(record(b"abc"), b"\x01\0\0\0\x23" + bytes.fromhex(digest) + b"abc")
+        self.assertEqual(record(b"abc"), b"\x01\x01\x01\0\0\0\x23\0\0\0\x23\0\0\0\x23" + bytes.fromhex(digest) + b"abc")
 
 
 class PagesSurviveACrash(Spooling):
@@ -236,9 +240,9 @@ class DamagedRecords(Spooling):
     PAGES = [page(b"a1", 1, 0, number, kept(ROW if number == 3 else OTHER_ROW), tag=b"t") for number in (1, 2, 3)]
 
     def damaged(self, at):
-        """The file, in which an octet of what is sealed of the second page is another."""
+        """The file, in which an octet of what is sealed of the second page is another; below 0 one of its header."""
         octets = bytearray(file_of(epoch(1), *self.PAGES))
-        octets[len(file_of(epoch(1), self.PAGES[0])) - 1 + 5 + at] ^= 1
+        octets[len(file_of(epoch(1), self.PAGES[0])) - len(SHUT) + HEADER + at] ^= 1
         return bytes(octets)
 
     def test_they_are_set_aside(self):
@@ -255,6 +259,21 @@ class DamagedRecords(Spooling):
             counts = server.metrics()
             told = counts["faxgate_records_damaged_total"], counts["faxgate_pages_kept"], counts["faxgate_pages_set_aside_total"]
             self.assertEqual(told, (1, 2, 0), at)
+
+    def test_an_octet_of_a_header_harms_nothing(self):
+        """Nor does one of the shut gate behind the last record."""
+        line = Line(self.ports)
+        self.silent(line)
+        server = self.serve(line)
+        behind = len(file_of(*self.PAGES[1:])) - HEADER - len(SHUT)
+        for at in [*range(-HEADER, 0), *range(behind, behind + len(SHUT))]:
+            server.kill()
+            self.write(server, "pages", b"")
+            self.write(server, "pages-wal", self.damaged(at))
+            server.start()
+            counts = server.metrics()
+            told = counts["faxgate_records_damaged_total"], counts["faxgate_pages_kept"], counts["faxgate_pages_set_aside_total"]
+            self.assertEqual(told, (0, 3, 0), at)
 
     def test_the_others_are_sent(self):
         line = Line(self.ports)

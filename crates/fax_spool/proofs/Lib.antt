@@ -1,6 +1,8 @@
 mod Files
+pub mod Headers
 mod Steps
 mod Recovery
+mod Turned
 mod Numbers
 mod Shorts
 mod Digests

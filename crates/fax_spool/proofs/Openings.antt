@@ -2,7 +2,7 @@
 use Rattle.std.proofs.Common.{◌≡◌, ℕ, ◌<◌, ◌≤◌, Bool, true, false, nat_le, List, [], ◌∷◌, ◌++◌, Vec, Global, map, sym, ◌∙◌, ap, subst, arith, if◌then◌else◌}
 use Rattle.std.proofs.lemmas.Bool.Decides.{nat_tests}
 use Rattle.fax_spool.specs.Records.{Stands}
-use Rattle.fax_spool.specs.Found.{items_of}
+use Rattle.fax_spool.specs.Found.{items_of, passed_over}
 use Rattle.fax_spool.specs.KeptRecords.{AreReadAs}
 use Rattle.fax_spool.specs.Waits.{waiting}
 use Rattle.fax_spool.specs.Spools.{Keeps, Tells, epoch_now, greatest_epoch}
@@ -19,7 +19,7 @@ reads f sliced records shown are read is =
     subst (λ (l : List KeptRecord). AreReadAs (items_of f) l) (sym is)
     (subst (λ (l : List (Vec ℕ Global)). AreReadAs (map (λ (v : Vec ℕ Global). v.items) l) records) are read)
 
-pub tells : (file : List ℕ) (f : Found) (shown : List KeptRecord) → Stands file (items_of f) → AreReadAs (items_of f) shown → Tells file shown
+abbrev pub tells : (file : List ℕ) (f : Found) (shown : List KeptRecord) → Stands file (items_of f) → AreReadAs (items_of f) shown → Tells file shown
 tells file f shown stands read = record { items = items_of f; stands = stands; read = read }
 
 pub is_before : (a b : ℕ) → a ≤ b → nat_le a b ≡ true
@@ -32,8 +32,9 @@ module _ {D : Type 0} (seen : D → List ℕ) (may_leave : D → List ℕ → Ty
   -- the first file is the older one
   pub first_is_older : comes_first ones others ≡ true → Keeps seen may_leave is_usable opened.spool ones (others ++ Epoch (epoch_now opened.spool) ∷ [])
       → greatest_epoch ones < epoch_now opened.spool → greatest_epoch others < epoch_now opened.spool
-      → opened.pages.items ≡ closed (waiting (ones ++ others)) → opened.older_damaged ≡ damaged ones → opened.newer_damaged ≡ damaged others → IsOpened seen may_leave is_usable one other opened
-  first_is_older is keeps older_low newer_low pages older newer =
+      → opened.pages.items ≡ closed (waiting (ones ++ others)) → opened.older_damaged ≡ damaged ones → opened.newer_damaged ≡ damaged others
+      → opened.older_passed_over ≡ passed_over one_tells.stands.end → opened.newer_passed_over ≡ passed_over other_tells.stands.end → IsOpened seen may_leave is_usable one other opened
+  first_is_older is keeps older_low newer_low pages older newer older_over newer_over =
       let olds : older_of ones others ≡ ones = ap (λ (b : Bool). if b then ones else others) is in
       let news : newer_of ones others ≡ others = ap (λ (b : Bool). if b then others else ones) is in
       record {
@@ -48,13 +49,16 @@ module _ {D : Type 0} (seen : D → List ℕ) (may_leave : D → List ℕ → Ty
         pages = pages ∙ sym (ap (λ (l : List KeptRecord). closed (waiting (l ++ newer_of ones others))) olds ∙ ap (λ (l : List KeptRecord). closed (waiting (ones ++ l))) news);
         older_damaged = older ∙ sym (ap damaged olds);
         newer_damaged = newer ∙ sym (ap damaged news);
+        older_passed_over = older_over ∙ sym (ap (λ (b : Bool). if b then passed_over one_tells.stands.end else passed_over other_tells.stands.end) is);
+        newer_passed_over = newer_over ∙ sym (ap (λ (b : Bool). if b then passed_over other_tells.stands.end else passed_over one_tells.stands.end) is);
       }
 
   -- the second one is
   pub second_is_older : comes_first ones others ≡ false → Keeps seen may_leave is_usable opened.spool others (ones ++ Epoch (epoch_now opened.spool) ∷ [])
       → greatest_epoch others < epoch_now opened.spool → greatest_epoch ones < epoch_now opened.spool
-      → opened.pages.items ≡ closed (waiting (others ++ ones)) → opened.older_damaged ≡ damaged others → opened.newer_damaged ≡ damaged ones → IsOpened seen may_leave is_usable one other opened
-  second_is_older is keeps older_low newer_low pages older newer =
+      → opened.pages.items ≡ closed (waiting (others ++ ones)) → opened.older_damaged ≡ damaged others → opened.newer_damaged ≡ damaged ones
+      → opened.older_passed_over ≡ passed_over other_tells.stands.end → opened.newer_passed_over ≡ passed_over one_tells.stands.end → IsOpened seen may_leave is_usable one other opened
+  second_is_older is keeps older_low newer_low pages older newer older_over newer_over =
       let olds : older_of ones others ≡ others = ap (λ (b : Bool). if b then ones else others) is in
       let news : newer_of ones others ≡ ones = ap (λ (b : Bool). if b then others else ones) is in
       record {
@@ -69,4 +73,6 @@ module _ {D : Type 0} (seen : D → List ℕ) (may_leave : D → List ℕ → Ty
         pages = pages ∙ sym (ap (λ (l : List KeptRecord). closed (waiting (l ++ newer_of ones others))) olds ∙ ap (λ (l : List KeptRecord). closed (waiting (others ++ l))) news);
         older_damaged = older ∙ sym (ap damaged olds);
         newer_damaged = newer ∙ sym (ap damaged news);
+        older_passed_over = older_over ∙ sym (ap (λ (b : Bool). if b then passed_over one_tells.stands.end else passed_over other_tells.stands.end) is);
+        newer_passed_over = newer_over ∙ sym (ap (λ (b : Bool). if b then passed_over other_tells.stands.end else passed_over one_tells.stands.end) is);
       }

@@ -226,7 +226,7 @@ module _ {D : Type 0} (seen : D → List ℕ) (may_leave : D → List ℕ → Ty
 
   -- the older file is empty
   none_there : old.older.end ≡ 0 → k.older_items ≡ []
-  none_there empty = none_open k.older_items (sym k.older.place ∙ empty)
+  none_there empty = none_open k.older.front k.older_items k.older.read (sym k.older.place ∙ empty)
 
   pub none_told : old.older.end ≡ 0 → olds ≡ []
   none_told empty = read_none olds (subst (λ (l : List (List ℕ)). AreReadAs l olds) (none_there empty) k.older_read)

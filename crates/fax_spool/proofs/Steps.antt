@@ -1,198 +1,193 @@
 -- What a crash leaves in each step of a `put`.
-use Rattle.std.proofs.Common.{◌≡◌, ◌≢◌, ◌⊎◌, inl, inr, ℕ, ◌+◌, ◌<◌, ◌≤◌, Bool, IsTrue, List, [], ◌∷◌, ◌++◌, length, take, drop, get_or, refl, sym, ◌∙◌, ap, subst, arith, append_assoc, length-append, take-append-drop}
-use Rattle.std.proofs.lemmas.List.{take_at, drop_at, drop_more, append-nil}
-use Rattle.std.proofs.lemmas.List.Elements.{All-append, All-nil}
-use Rattle.std.proofs.lemmas.Bool.{cases_eq}
+use Rattle.std.proofs.Common.{◌≡◌, ◌⊎◌, inl, inr, ℕ, ◌+◌, ◌<◌, ◌≤◌, Bool, true, false, IsTrue, List, [], ◌∷◌, ◌++◌, length, take, drop, refl, sym, ◌∙◌, ap, subst, arith, append_assoc, length-append, length-drop, take-append-drop}
+use Rattle.std.proofs.lemmas.List.{take_at, drop_at, drop-drop, drop-append-le, length-take-le}
+use Rattle.std.proofs.lemmas.List.Elements.{All-head, All-tail}
 use Rattle.std.specs.List.{All}
 use Rattle.sqlite_disk.specs.Disk.{Torn, Holds, Follows, Only}
-use Rattle.fax_spool.specs.Records.{body, block, blocks, IsShort, Ends, Stands}
+use Rattle.fax_spool.specs.Records.{AreRead, BeginsWith, IsShort, Stands, blocks, body, is_open, shut}
 use Rattle.fax_spool.specs.Settled.{IsSettled}
 use Rattle.fax_spool.proofs.Files.{torn_front, torn_back, held}
+use Rattle.fax_spool.proofs.Headers.{begins_regated, begins_written, long_enough, read_append, read_written, stands_shut}
 
-pub blocks-append : (rs qs : List (List ℕ)) (rest : List ℕ) → blocks (rs ++ qs) ++ rest ≡ blocks rs ++ (blocks qs ++ rest)
-blocks-append [] qs rest = refl
-blocks-append (q ∷ rs) qs rest =
-    append_assoc (block q) (blocks (rs ++ qs)) rest
-    ∙ ap (λ (l : List ℕ). block q ++ l) (blocks-append rs qs rest)
-    ∙ sym (append_assoc (block q) (blocks rs) (blocks qs ++ rest))
+module _ (front gate behind old : List ℕ) (three : length gate ≡ 3) (is : old ≡ front ++ (gate ++ behind)) where
+  pub long : length old ≡ length front + 3 + length behind
+  long = omega (arith, ap length is, length-append front (gate ++ behind), length-append gate behind, three)
 
-pub blocks-push : (rs : List (List ℕ)) (r rest : List ℕ) → blocks (rs ++ r ∷ []) ++ rest ≡ blocks rs ++ (block r ++ rest)
-blocks-push [] r rest = ap (λ (l : List ℕ). l ++ rest) (append-nil (block r))
-blocks-push (q ∷ rs) r rest =
-    append_assoc (block q) (blocks (rs ++ r ∷ [])) rest
-    ∙ ap (λ (l : List ℕ). block q ++ l) (blocks-push rs r rest)
-    ∙ sym (append_assoc (block q) (blocks rs) (block r ++ rest))
+  behind_gate : old ≡ (front ++ gate) ++ behind
+  behind_gate = is ∙ sym (append_assoc front gate behind)
 
-pub ends_shut : (gate : ℕ) (behind : List ℕ) → gate ≢ 1 → Ends (gate ∷ behind)
-ends_shut gate behind shut = λ r rest short e. shut (ap (λ (l : List ℕ). get_or l 0 0) e)
+  gate_ends : length (front ++ gate) ≡ length front + 3
+  gate_ends = omega (arith, length-append front gate, three)
 
-pub stands_shut : (rs : List (List ℕ)) (gate : ℕ) (behind c : List ℕ) → gate ≢ 1 → All IsShort rs → c ≡ blocks rs ++ gate ∷ behind → Stands c rs
-stands_shut rs gate behind c shut short is = record { end = gate ∷ behind; split = is; no_more = ends_shut gate behind shut; short = short }
-
-module _ (rs : List (List ℕ)) (gate : ℕ) (behind old : List ℕ) (is : old ≡ blocks rs ++ gate ∷ behind) where
-  n : ℕ
-  n = length (blocks rs)
-
-  pub long : length old ≡ length (blocks rs) + 1 + length behind
-  long = ap length is ∙ length-append (blocks rs) (gate ∷ behind) ∙ omega arith
-
-  front_is : take (length (blocks rs) + 1) old ≡ blocks rs ++ gate ∷ []
-  front_is =
-      ap (λ (l : List ℕ). take (length (blocks rs) + 1) l) (is ∙ sym (append_assoc (blocks rs) (gate ∷ []) behind))
-      ∙ take_at (blocks rs ++ gate ∷ []) behind (length (blocks rs) + 1) (length-append (blocks rs) (gate ∷ []))
+  front_is : take (length front + 3) old ≡ front ++ gate
+  front_is = ap (λ (l : List ℕ). take (length front + 3) l) behind_gate ∙ take_at (front ++ gate) behind (length front + 3) gate_ends
 
   -- what stands behind the gate is anything
-  pub kept : (m : ℕ) (c : List ℕ) → Torn (length (blocks rs) + 1) m old c → c ≡ blocks rs ++ gate ∷ drop (length (blocks rs) + 1) c
+  pub kept : (m : ℕ) (c : List ℕ) → Torn (length front + 3) m old c → c ≡ front ++ (gate ++ drop (length front + 3) c)
   kept m c torn =
-      sym (take-append-drop (length (blocks rs) + 1) c)
-      ∙ ap (λ (l : List ℕ). l ++ drop (length (blocks rs) + 1) c) (torn_front _ m old c torn (omega (arith, long)) ∙ front_is)
-      ∙ append_assoc (blocks rs) (gate ∷ []) (drop (length (blocks rs) + 1) c)
+      sym (take-append-drop (length front + 3) c)
+      ∙ ap (λ (l : List ℕ). l ++ drop (length front + 3) c) (torn_front _ m old c torn (omega (arith, long)) ∙ front_is)
+      ∙ append_assoc front gate (drop (length front + 3) c)
 
   -- and then what was written
-  pub staged : (b c : List ℕ) → Torn (length (blocks rs) + 1) (length (b ++ 0 ∷ [])) old c → Holds c (length (blocks rs) + 1) (b ++ 0 ∷ [])
-      → (tail : List ℕ) × (c ≡ blocks rs ++ (gate ∷ (b ++ 0 ∷ tail)))
+  pub staged : (b c : List ℕ) → Torn (length front + 3) (length (b ++ shut)) old c → Holds c (length front + 3) (b ++ shut)
+      → (tail : List ℕ) × (c ≡ front ++ (gate ++ (b ++ (shut ++ tail))))
   staged b c torn holds =
-      let bytes = b ++ 0 ∷ [] in
-      let back = drop (length (blocks rs) + 1) c in
+      let bytes = b ++ shut in
+      let back = drop (length front + 3) c in
       let tail = drop (length bytes) back in
-      let split : back ≡ b ++ 0 ∷ tail =
+      let split : back ≡ b ++ (shut ++ tail) =
       sym (take-append-drop (length bytes) back)
-      ∙ ap (λ (l : List ℕ). l ++ tail) (held c (length (blocks rs) + 1) bytes holds)
-      ∙ append_assoc b (0 ∷ []) tail in
-      (tail, kept _ c torn ∙ ap (λ (l : List ℕ). blocks rs ++ gate ∷ l) split)
+      ∙ ap (λ (l : List ℕ). l ++ tail) (held c (length front + 3) bytes holds)
+      ∙ append_assoc b shut tail in
+      (tail, kept _ c torn ∙ ap (λ (l : List ℕ). front ++ (gate ++ l)) split)
 
   -- the gate is anything, and all else as it was
-  pub turned : (c : List ℕ) → Torn (length (blocks rs)) 1 old c → c ≡ blocks rs ++ get_or c (length (blocks rs)) 0 ∷ behind
+  pub turned : (c : List ℕ) → Torn (length front) 3 old c → c ≡ front ++ (take 3 (drop (length front) c) ++ behind)
   turned c torn =
-      let le : length (blocks rs) + 1 ≤ length old = omega (arith, long) in
-      let back : drop (length (blocks rs) + 1) c ≡ behind =
-      torn_back _ 1 old c torn le
-      ∙ ap (λ (l : List ℕ). drop (length (blocks rs) + 1) l) (is ∙ sym (append_assoc (blocks rs) (gate ∷ []) behind))
-      ∙ drop_at (blocks rs ++ gate ∷ []) behind (length (blocks rs) + 1) (length-append (blocks rs) (gate ∷ [])) in
-      let front : take (length (blocks rs)) c ≡ blocks rs =
-      torn_front _ 1 old c torn (omega (arith, le)) ∙ ap (λ (l : List ℕ). take (length (blocks rs)) l) is ∙ take_at (blocks rs) (gate ∷ behind) (length (blocks rs)) refl in
-      sym (take-append-drop (length (blocks rs)) c)
-      ∙ ap (λ (l : List ℕ). l ++ drop (length (blocks rs)) c) front
-      ∙ ap (λ (l : List ℕ). blocks rs ++ l)
-      (drop_more c (length (blocks rs)) 0 (omega (arith, le, torn.no_shorter)) ∙ ap (λ (l : List ℕ). get_or c (length (blocks rs)) 0 ∷ l) back)
+      let le : length front + 3 ≤ length old = omega (arith, long) in
+      let back : drop 3 (drop (length front) c) ≡ behind =
+      drop-drop 3 (length front) c
+      ∙ torn_back _ 3 old c torn le
+      ∙ ap (λ (l : List ℕ). drop (length front + 3) l) behind_gate
+      ∙ drop_at (front ++ gate) behind (length front + 3) gate_ends in
+      let first : take (length front) c ≡ front =
+      torn_front _ 3 old c torn (omega (arith, le)) ∙ ap (λ (l : List ℕ). take (length front) l) is ∙ take_at front (gate ++ behind) (length front) refl in
+      sym (take-append-drop (length front) c)
+      ∙ ap (λ (l : List ℕ). l ++ drop (length front) c) first
+      ∙ ap (λ (l : List ℕ). front ++ l)
+      (sym (take-append-drop 3 (drop (length front) c)) ∙ ap (λ (l : List ℕ). take 3 (drop (length front) c) ++ l) back)
 
-pub opened : (rs others : List (List ℕ)) (r tail c : List ℕ) → c ≡ blocks rs ++ (1 ∷ (body r ++ blocks others ++ 0 ∷ tail)) → c ≡ blocks (rs ++ r ∷ others) ++ 0 ∷ tail
-opened rs others r tail c is = is ∙ sym (blocks-append rs (r ∷ others) (0 ∷ tail))
+  pub gate_left : (c : List ℕ) → Torn (length front) 3 old c → length (take 3 (drop (length front) c)) ≡ 3
+  gate_left c torn = length-take-le 3 (drop (length front) c) (omega (arith, long, torn.no_shorter, length-drop (length front) c))
+
+-- ---- records that were written behind a gate
+
+-- the octets of a first record and of others, behind a gate
+abbrev written : List ℕ → List (List ℕ) → List ℕ
+written r others = body r ++ blocks others
+
+read_more : (front gate r : List ℕ) (rs others : List (List ℕ)) → AreRead front rs → length gate ≡ 3 → is_open gate ≡ true → All IsShort (r ∷ others) → AreRead (front ++ (gate ++ written r others)) (rs ++ r ∷ others)
+read_more front gate r rs others read three open_gate short =
+    read_append front (gate ++ written r others) rs (r ∷ others) read
+    (blocks others, begins_written gate r (blocks others) three open_gate (All-head IsShort r others short), read_written others (All-tail IsShort r others short))
+
+pub front_more : (front gate b tail c : List ℕ) → c ≡ front ++ (gate ++ (b ++ (shut ++ tail))) → c ≡ (front ++ (gate ++ b)) ++ (shut ++ tail)
+front_more front gate b tail c is =
+    is ∙ ap (λ (l : List ℕ). front ++ l) (sym (append_assoc gate b (shut ++ tail))) ∙ sym (append_assoc front (gate ++ b) (shut ++ tail))
 
 -- whole records behind any gate count or they do not
-pub either : (rs others : List (List ℕ)) (r tail c : List ℕ) (gate : ℕ) → All IsShort rs → All IsShort (r ∷ others) → c ≡ blocks rs ++ (gate ∷ (body r ++ blocks others ++ 0 ∷ tail))
-    → Stands c rs ⊎ Stands c (rs ++ r ∷ others)
-either rs others r tail c gate shorts short is = elim (cases_eq gate 1) [
-  | inl open_gate ↦
-      inr (stands_shut (rs ++ r ∷ others) 0 tail c (omega arith) (All-append IsShort rs (r ∷ others) shorts short)
-      (opened rs others r tail c (is ∙ ap (λ (g : ℕ). blocks rs ++ (g ∷ (body r ++ blocks others ++ 0 ∷ tail))) open_gate)))
-  | inr shut ↦ inl (stands_shut rs gate (body r ++ blocks others ++ 0 ∷ tail) c shut shorts is)
-]
-
--- how many octets records take behind others: those behind the gate of the first, and a gate
-pub length-more : (rs others : List (List ℕ)) (r : List ℕ) → length (blocks (rs ++ r ∷ others)) ≡ length (blocks rs) + length (body r ++ blocks others ++ 0 ∷ [])
-length-more rs others r =
-    ap length (sym (append-nil (blocks (rs ++ r ∷ others))) ∙ blocks-append rs (r ∷ others) [])
-    ∙ ap (λ (l : List ℕ). length (blocks rs ++ l)) (append-nil (blocks (r ∷ others)))
-    ∙ length-append (blocks rs) (blocks (r ∷ others))
-    ∙ omega (arith, length-append (body r ++ blocks others) (0 ∷ []))
+either_by :
+    (front gate r tail c : List ℕ) (rs others : List (List ℕ)) (b : Bool) → is_open gate ≡ b → AreRead front rs → length gate ≡ 3 → All IsShort (r ∷ others)
+    → c ≡ front ++ (gate ++ (written r others ++ (shut ++ tail))) → Stands c rs ⊎ Stands c (rs ++ r ∷ others)
+either_by front gate r tail c rs others false closed read three short is = inl (stands_shut front gate (written r others ++ (shut ++ tail)) c rs read three closed is)
+either_by front gate r tail c rs others true opened read three short is =
+    inr (stands_shut (front ++ (gate ++ written r others)) shut tail c (rs ++ r ∷ others) (read_more front gate r rs others read three opened short) refl refl
+    (front_more front gate (written r others) tail c is))
 
 -- a spool between two calls, and the two writes of a `put`
 module _ {D : Type 0} (seen : D → List ℕ) (may_leave : D → List ℕ → Type 0) (is_usable : D → Bool) (disk : D) (at : ℕ) (rs : List (List ℕ)) (s : IsSettled seen may_leave is_usable disk at rs) where
-  at_place : (P : ℕ → Type 0) → P at → P (length (blocks rs))
+  at_place : (P : ℕ → Type 0) → P at → P (length s.front)
   at_place P h = subst P s.place h
 
   pub rests : (c : List ℕ) → may_leave disk c → Stands c rs
-  rests c left = stands_shut rs s.gate s.behind c s.shut s.short (s.durable c left ∙ s.file)
+  rests c left = stands_shut s.front s.gate s.behind c rs s.read s.three s.closed (s.durable c left ∙ s.file)
 
-  pub first_left : (m : ℕ) (new : List ℕ → Type 0) → Follows (Torn (at + 1) m) (may_leave disk) new → (c : List ℕ) → new c → Stands c rs
+  pub first_left : (m : ℕ) (new : List ℕ → Type 0) → Follows (Torn (at + 3) m) (may_leave disk) new → (c : List ℕ) → new c → Stands c rs
   first_left m new follows c left =
       let from = follows c left in
-      let here : Torn (at + 1) m (seen disk) c = subst (λ (d : List ℕ). Torn (at + 1) m d c) (s.durable from.0 from.1) from.2 in
-      stands_shut rs s.gate (drop (length (blocks rs) + 1) c) c s.shut s.short
-      (kept rs s.gate s.behind (seen disk) s.file m c (at_place (λ (p : ℕ). Torn (p + 1) m (seen disk) c) here))
+      let here : Torn (at + 3) m (seen disk) c = subst (λ (d : List ℕ). Torn (at + 3) m d c) (s.durable from.0 from.1) from.2 in
+      stands_shut s.front s.gate (drop (length s.front + 3) c) c rs s.read s.three s.closed
+      (kept s.front s.gate s.behind (seen disk) s.three s.file m c (at_place (λ (p : ℕ). Torn (p + 3) m (seen disk) c) here))
 
-  pub first_written : (b bytes next : List ℕ) → bytes ≡ b ++ 0 ∷ [] → Torn (at + 1) (length bytes) (seen disk) next → Holds next (at + 1) bytes
-      → (tail : List ℕ) × (next ≡ blocks rs ++ (s.gate ∷ (b ++ 0 ∷ tail)))
+  pub first_written : (b bytes next : List ℕ) → bytes ≡ b ++ shut → Torn (at + 3) (length bytes) (seen disk) next → Holds next (at + 3) bytes
+      → (tail : List ℕ) × (next ≡ s.front ++ (s.gate ++ (b ++ (shut ++ tail))))
   first_written b bytes next are torn holds =
-      staged rs s.gate s.behind (seen disk) s.file b next
-      (subst (λ (l : List ℕ). Torn (length (blocks rs) + 1) (length l) (seen disk) next) are (at_place (λ (p : ℕ). Torn (p + 1) (length bytes) (seen disk) next) torn))
-      (subst (λ (l : List ℕ). Holds next (length (blocks rs) + 1) l) are (at_place (λ (p : ℕ). Holds next (p + 1) bytes) holds))
+      staged s.front s.gate s.behind (seen disk) s.three s.file b next
+      (subst (λ (l : List ℕ). Torn (length s.front + 3) (length l) (seen disk) next) are (at_place (λ (p : ℕ). Torn (p + 3) (length bytes) (seen disk) next) torn))
+      (subst (λ (l : List ℕ). Holds next (length s.front + 3) l) are (at_place (λ (p : ℕ). Holds next (p + 3) bytes) holds))
 
-  module _ (others : List (List ℕ)) (r tail file : List ℕ) (is : file ≡ blocks rs ++ (s.gate ∷ (body r ++ blocks others ++ 0 ∷ tail))) (short : All IsShort (r ∷ others)) where
+  module _ (others : List (List ℕ)) (r tail file : List ℕ) (is : file ≡ s.front ++ (s.gate ++ (body r ++ blocks others ++ (shut ++ tail)))) (short : All IsShort (r ∷ others)) where
     pub before_gate : Stands file rs
-    before_gate = stands_shut rs s.gate (body r ++ blocks others ++ 0 ∷ tail) file s.shut s.short is
+    before_gate = stands_shut s.front s.gate (body r ++ blocks others ++ (shut ++ tail)) file rs s.read s.three s.closed is
 
-    pub second_left : (old new : List ℕ → Type 0) → Only file old → Follows (Torn at 1) old new → (c : List ℕ) → new c → Stands c rs ⊎ Stands c (rs ++ r ∷ others)
+    pub second_left : (old new : List ℕ → Type 0) → Only file old → Follows (Torn at 3) old new → (c : List ℕ) → new c → Stands c rs ⊎ Stands c (rs ++ r ∷ others)
     second_left old new only follows c left =
         let from = follows c left in
-        let here : Torn at 1 file c = subst (λ (d : List ℕ). Torn at 1 d c) (only from.0 from.1) from.2 in
-        either rs others r tail c (get_or c (length (blocks rs)) 0) s.short short
-        (turned rs s.gate (body r ++ blocks others ++ 0 ∷ tail) file is c (at_place (λ (p : ℕ). Torn p 1 file c) here))
+        let here : Torn at 3 file c = subst (λ (d : List ℕ). Torn at 3 d c) (only from.0 from.1) from.2 in
+        let there : Torn (length s.front) 3 file c = at_place (λ (p : ℕ). Torn p 3 file c) here in
+        either_by s.front (take 3 (drop (length s.front) c)) r tail c rs others (is_open (take 3 (drop (length s.front) c))) refl s.read
+        (gate_left s.front s.gate (body r ++ blocks others ++ (shut ++ tail)) file s.three is c there) short
+        (turned s.front s.gate (body r ++ blocks others ++ (shut ++ tail)) file s.three is c there)
 
-    pub second_written : (c : List ℕ) → Torn at 1 file c → Holds c at (1 ∷ []) → c ≡ blocks (rs ++ r ∷ others) ++ 0 ∷ tail
+    pub second_written : (c : List ℕ) → Torn at 3 file c → Holds c at (1 ∷ 1 ∷ 1 ∷ []) → c ≡ (s.front ++ (1 ∷ 1 ∷ 1 ∷ [] ++ (body r ++ blocks others))) ++ (shut ++ tail)
     second_written c torn holds =
-        let there : Holds c (length (blocks rs)) (1 ∷ []) = at_place (λ (p : ℕ). Holds c p (1 ∷ [])) holds in
-        let gate : get_or c (length (blocks rs)) 0 ≡ 1 = ap (λ (p : ℕ). get_or c p 0) (omega arith) ∙ there.each 0 (omega arith) in
-        opened rs others r tail c
-        (turned rs s.gate (body r ++ blocks others ++ 0 ∷ tail) file is c (at_place (λ (p : ℕ). Torn p 1 file c) torn)
-        ∙ ap (λ (g : ℕ). blocks rs ++ (g ∷ (body r ++ blocks others ++ 0 ∷ tail))) gate)
+        let there : Holds c (length s.front) (1 ∷ 1 ∷ 1 ∷ []) = at_place (λ (p : ℕ). Holds c p (1 ∷ 1 ∷ 1 ∷ [])) holds in
+        front_more s.front (1 ∷ 1 ∷ 1 ∷ []) (body r ++ blocks others) tail c
+        (turned s.front s.gate (body r ++ blocks others ++ (shut ++ tail)) file s.three is c (at_place (λ (p : ℕ). Torn p 3 file c) torn)
+        ∙ ap (λ (g : List ℕ). s.front ++ (g ++ (body r ++ blocks others ++ (shut ++ tail)))) (held c (length s.front) (1 ∷ 1 ∷ 1 ∷ []) there))
 
-    pub settled_more : (bytes : List ℕ) (next : D) → bytes ≡ body r ++ blocks others ++ 0 ∷ [] → seen next ≡ blocks (rs ++ r ∷ others) ++ 0 ∷ tail → Only (seen next) (may_leave next) → IsTrue (is_usable next)
+    pub settled_more : (bytes : List ℕ) (next : D) → bytes ≡ body r ++ blocks others ++ shut → seen next ≡ (s.front ++ (1 ∷ 1 ∷ 1 ∷ [] ++ (body r ++ blocks others))) ++ (shut ++ tail) → Only (seen next) (may_leave next) → IsTrue (is_usable next)
         → IsSettled seen may_leave is_usable next (at + length bytes) (rs ++ r ∷ others)
     settled_more bytes next are file_is only usable = record {
-      gate = 0;
+      front = s.front ++ (1 ∷ 1 ∷ 1 ∷ [] ++ (body r ++ blocks others));
+      gate = shut;
       behind = tail;
-      shut = omega arith;
       file = file_is;
-      place = ap (λ (p : ℕ). p + length bytes) s.place ∙ ap (λ (l : List ℕ). length (blocks rs) + length l) are ∙ sym (length-more rs others r);
+      read = read_more s.front (1 ∷ 1 ∷ 1 ∷ []) r rs others s.read refl refl short;
+      place = omega (arith, s.place, ap length are, length-append (body r ++ blocks others) shut, length-append s.front (1 ∷ 1 ∷ 1 ∷ [] ++ (body r ++ blocks others)));
+      three = refl;
+      closed = refl;
       durable = only;
       usable = usable;
-      short = All-append IsShort rs (r ∷ others) s.short short;
     }
 
--- the first gate, which a `clear` shuts
-first_gate : (rs : List (List ℕ)) (gate : ℕ) (behind : List ℕ) → 0 < length (blocks rs) → get_or (blocks rs ++ gate ∷ behind) 0 0 ≡ 1
-first_gate [] gate behind some = absurd (omega arith)
-first_gate (r ∷ rs) gate behind some = refl
+-- ---- the first gate, which a `clear` shuts
 
-pub none_open : (rs : List (List ℕ)) → length (blocks rs) ≡ 0 → rs ≡ []
-none_open [] none = refl
-none_open (r ∷ rs) none = absurd (omega (arith, none))
+pub none_open : (front : List ℕ) (rs : List (List ℕ)) → AreRead front rs → length front ≡ 0 → rs ≡ []
+none_open front [] read none = refl
+none_open front (r ∷ rs) read none = absurd (omega (arith, none, long_enough front r read.0 read.1))
 
-split_first : (l : List ℕ) → 1 ≤ length l → l ≡ get_or l 0 0 ∷ drop 1 l
-split_first l le = drop_more l 0 0 (omega (arith, le))
+cleared_by :
+    (rs : List (List ℕ)) (front gate behind other file c : List ℕ) (b : Bool) → is_open other ≡ b → AreRead front rs → 0 < length front → length gate ≡ 3 → is_open gate ≡ false → length other ≡ 3
+    → file ≡ front ++ (gate ++ behind) → c ≡ other ++ drop 3 file → Stands c rs ⊎ Stands c []
+cleared_by rs front gate behind other file c false closed read some three shuts threes is left =
+    inr (stands_shut [] other (drop 3 file) c [] refl threes closed left)
+cleared_by [] front gate behind other file c true opened read some three shuts threes is left = absurd (omega (arith, some, ap length read))
+cleared_by (r ∷ rs) front gate behind other file c true opened read some three shuts threes is left =
+    let long : 3 ≤ length front = omega (arith, long_enough front r read.0 read.1) in
+    let back : drop 3 file ≡ drop 3 front ++ (gate ++ behind) = ap (λ (l : List ℕ). drop 3 l) is ∙ drop-append-le 3 front (gate ++ behind) long in
+    let begins : BeginsWith (take 3 front ++ drop 3 front) r read.0 = subst (λ (l : List ℕ). BeginsWith l r read.0) (sym (take-append-drop 3 front)) read.1 in
+    inl (stands_shut (other ++ drop 3 front) gate behind c (r ∷ rs)
+    (read.0, begins_regated (take 3 front) other (drop 3 front) r read.0 (length-take-le 3 front long) threes opened begins, read.2)
+    three shuts
+    (left ∙ ap (λ (l : List ℕ). other ++ l) back ∙ sym (append_assoc other (drop 3 front) (gate ++ behind))))
 
 module _ {D : Type 0} (seen : D → List ℕ) (may_leave : D → List ℕ → Type 0) (is_usable : D → Bool) (disk : D) (at : ℕ) (rs : List (List ℕ)) (s : IsSettled seen may_leave is_usable disk at rs) where
-  some_octet : 1 ≤ length (seen disk)
-  some_octet = omega (arith, long rs s.gate s.behind (seen disk) s.file)
+  some_octets : 3 ≤ length (seen disk)
+  some_octets = omega (arith, long s.front s.gate s.behind (seen disk) s.three s.file)
 
-  pub shut_first : (c : List ℕ) → Torn 0 1 (seen disk) c → c ≡ get_or c 0 0 ∷ drop 1 (seen disk)
-  shut_first c torn =
-      split_first c (omega (arith, some_octet, torn.no_shorter)) ∙ ap (λ (l : List ℕ). get_or c 0 0 ∷ l) (torn_back 0 1 (seen disk) c torn some_octet)
+  pub shut_first : (c : List ℕ) → Torn 0 3 (seen disk) c → c ≡ take 3 c ++ drop 3 (seen disk)
+  shut_first c torn = sym (take-append-drop 3 c) ∙ ap (λ (l : List ℕ). take 3 c ++ l) (torn_back 0 3 (seen disk) c torn some_octets)
 
-  pub clear_left : 0 < at → (new : List ℕ → Type 0) → Follows (Torn 0 1) (may_leave disk) new → (c : List ℕ) → new c → Stands c rs ⊎ Stands c []
+  pub clear_left : 0 < at → (new : List ℕ → Type 0) → Follows (Torn 0 3) (may_leave disk) new → (c : List ℕ) → new c → Stands c rs ⊎ Stands c []
   clear_left some new follows c left =
       let from = follows c left in
-      let torn : Torn 0 1 (seen disk) c = subst (λ (d : List ℕ). Torn 0 1 d c) (s.durable from.0 from.1) from.2 in
-      let is = shut_first c torn in
-      let first : get_or (seen disk) 0 0 ≡ 1 = ap (λ (l : List ℕ). get_or l 0 0) s.file ∙ first_gate rs s.gate s.behind (omega (arith, some, s.place)) in
-      elim (cases_eq (get_or c 0 0) 1) [
-        | inl still ↦
-            let same : c ≡ seen disk = is ∙ ap (λ (g : ℕ). g ∷ drop 1 (seen disk)) (still ∙ sym first) ∙ sym (split_first (seen disk) some_octet) in
-            inl (stands_shut rs s.gate s.behind c s.shut s.short (same ∙ s.file))
-        | inr shut ↦ inr (stands_shut [] (get_or c 0 0) (drop 1 (seen disk)) c shut (All-nil IsShort) is)
-      ]
+      let torn : Torn 0 3 (seen disk) c = subst (λ (d : List ℕ). Torn 0 3 d c) (s.durable from.0 from.1) from.2 in
+      cleared_by rs s.front s.gate s.behind (take 3 c) (seen disk) c (is_open (take 3 c)) refl s.read (omega (arith, some, s.place)) s.three s.closed
+      (length-take-le 3 c (omega (arith, some_octets, torn.no_shorter))) s.file (shut_first c torn)
 
-  pub settled_none : (next : D) → Torn 0 1 (seen disk) (seen next) → Holds (seen next) 0 (0 ∷ []) → Only (seen next) (may_leave next) → IsTrue (is_usable next)
+  pub settled_none : (next : D) → Torn 0 3 (seen disk) (seen next) → Holds (seen next) 0 (0 ∷ 0 ∷ 0 ∷ []) → Only (seen next) (may_leave next) → IsTrue (is_usable next)
       → IsSettled seen may_leave is_usable next 0 []
   settled_none next torn holds only usable = record {
-    gate = get_or (seen next) 0 0;
-    behind = drop 1 (seen disk);
-    shut = λ one. absurd (omega (arith, one, holds.each 0 (omega arith)));
-    file = shut_first (seen next) torn;
+    front = [];
+    gate = shut;
+    behind = drop 3 (seen disk);
+    file = shut_first (seen next) torn ∙ ap (λ (l : List ℕ). l ++ drop 3 (seen disk)) (held (seen next) 0 (0 ∷ 0 ∷ 0 ∷ []) holds);
+    read = refl;
     place = refl;
+    three = refl;
+    closed = refl;
     durable = only;
     usable = usable;
-    short = All-nil IsShort;
   }

@@ -15,7 +15,7 @@ use Rattle.fax_spool.specs.Spools.{TellsOneList}
 use Rattle.fax_spool.specs.declared.kept_record.KeptRecord.{KeptRecord}
 use Rattle.fax_spool.specs.declared.kept_record.KeptRecord.TheVariants.{Page, Ended, Epoch, Damaged}
 use Rattle.fax_spool.proofs.Digests.{seals_are_one}
-use Rattle.fax_spool.proofs.Recovery.{unique}
+use Rattle.fax_spool.proofs.Headers.{unique}
 use Rattle.fax_spool.proofs.Shorts.{behind_short}
 
 -- ---- one field

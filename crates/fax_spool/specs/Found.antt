@@ -1,15 +1,25 @@
 -- What a file was found to hold.
-use Rattle.std.specs.Prelude.{◌≡◌, ℕ, List, ◌++◌, length, drop, map}
-use Rattle.std.specs.List.{All}
-use Rattle.fax_spool.specs.Records.{blocks, IsShort, Ends}
+use Rattle.std.specs.Prelude.{◌≡◌, ◌≤◌, ℕ, nat_eq, List, length, take, drop, map, if◌then◌else◌}
+use Rattle.std.specs.List.{list_all}
+use Rattle.fax_spool.specs.Records.{AreRead, Ends, Stands}
 use Rattle.fax_spool.specs.declared.file.Found.{Found}
 
 abbrev pub items_of : Found → List (List ℕ)
 items_of found = map (λ v. v.items) found.items.items
 
+-- How many octets are passed over behind the records: none where a shut gate stands there as it is written, or where the file ends
+-- there or in such a gate; else all of them.
+abbrev pub passed_over : List ℕ → ℕ
+passed_over end = if list_all (λ octet. nat_eq octet 0) (take 3 end) then 0 else length end
+
 -- these are the records that the octets begin with, and behind them is none
 pub record IsFoundIn (octets : List ℕ) (found : Found) : Type 0 where
-  pub split : octets ≡ blocks (items_of found) ++ drop found.end octets
-  pub place : found.end ≡ length (blocks (items_of found))
+  pub place : found.end ≤ length octets
+  pub read : AreRead (take found.end octets) (items_of found)
   pub no_more : Ends (drop found.end octets)
-  pub short : All IsShort (items_of found)
+  pub passed_over : found.passed_over ≡ passed_over (drop found.end octets)
+
+-- a file stands for what was found in it, and so many octets of it are passed over behind its records
+pub record IsFoundOf (file : List ℕ) (found : Found) : Type 0 where
+  pub stands : Stands file (items_of found)
+  pub passed_over : found.passed_over ≡ passed_over stands.end

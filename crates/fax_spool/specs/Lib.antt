@@ -1,4 +1,5 @@
 pub mod Records
+pub mod Turned
 pub mod Settled
 pub mod Found
 pub mod Seals

@@ -3,6 +3,7 @@ use Rattle.std.specs.Prelude.{◌≡◌, ◌⊎◌, ◌<◌, ℕ, Bool, true, fa
 use Rattle.std.specs.List.{count_by, list_any}
 use Rattle.fax_spool.specs.RecordOctets.{PageValue}
 use Rattle.fax_spool.specs.Calls.{Rests, TellWaits}
+use Rattle.fax_spool.specs.Found.{passed_over}
 use Rattle.fax_spool.specs.Waits.{waiting}
 use Rattle.fax_spool.specs.Spools.{Keeps, Tells, epoch_now, epoch_of, greatest_epoch}
 use Rattle.fax_spool.specs.declared.kept_record.KeptRecord.{KeptRecord}
@@ -41,7 +42,8 @@ abbrev pub damaged : List KeptRecord → ℕ
 damaged records = count_by is_damaged records
 
 -- A SPOOL WAS OPENED OVER TWO FILES: it keeps what both of them tell, the older one first, and the epoch that begins, whose number
--- is greater than each before it; the pages that wait by them are told in order; and so is how many records are damaged.
+-- is greater than each before it; the pages that wait by them are told in order; and so is how many records are damaged, and how
+-- many octets are passed over behind them.
 pub record IsOpened {D : Type 0} (seen : D → List ℕ) (may_leave : D → List ℕ → Type 0) (is_usable : D → Bool) (one other : List ℕ) (opened : Opened D) : Type 0 where
   pub ones : List KeptRecord
   pub others : List KeptRecord
@@ -53,6 +55,8 @@ pub record IsOpened {D : Type 0} (seen : D → List ℕ) (may_leave : D → List
   pub pages : opened.pages.items ≡ closed (waiting (older_of ones others ++ newer_of ones others))
   pub older_damaged : opened.older_damaged ≡ damaged (older_of ones others)
   pub newer_damaged : opened.newer_damaged ≡ damaged (newer_of ones others)
+  pub older_passed_over : opened.older_passed_over ≡ (if comes_first ones others then passed_over one_tells.stands.end else passed_over other_tells.stands.end)
+  pub newer_passed_over : opened.newer_passed_over ≡ (if comes_first ones others then passed_over other_tells.stands.end else passed_over one_tells.stands.end)
 
 -- two files are these, in either order
 abbrev pub AreBoth : List ℕ → List ℕ → List ℕ → List ℕ → Type 0

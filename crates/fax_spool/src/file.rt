@@ -1,10 +1,12 @@
-//! A file of records: before each stands a gate of one octet and its length in four. A record counts where its gate is open (1).
-//! A shut gate stands behind the last one, and is on the disk before anything is written behind it.
-ghost use Rattle.std.specs.Prelude.{◌≡◌, ◌⊎◌, ◌+◌, ◌<◌, ◌≤◌, ◌^◌, ◌++◌, [], ◌∷◌, List, ℕ, length, map, IfOk, OnOk, IsTrue, MatchOption, ◌≢◌, ◌↔◌, slice_index};
+//! A file of records: before each stands a header of 15 octets, a gate of one octet three times and its length in four octets three
+//! times. A record counts where its gate is open (1). Each octet of a header is read as the value that two of its copies have, so
+//! that one turned octet harms at most one record. A shut gate (0) stands behind the last one, three times too, and is on the disk
+//! before anything is written behind it.
+ghost use Rattle.std.specs.Prelude.{◌≡◌, ◌⊎◌, ◌+◌, ◌<◌, ◌≤◌, ◌^◌, ◌++◌, [], ◌∷◌, List, ℕ, drop, length, map, false, IfOk, OnOk, IsTrue, MatchOption, ◌↔◌};
 ghost use Rattle.std.specs.List.{All};
 ghost use Rattle.std.specs.Int.{w32, to_be_bytes};
-ghost use Rattle.fax_spool.specs.Records.{Stands, body, block, blocks, Ends, IsShort};
-ghost use Rattle.fax_spool.specs.Found.{IsFoundIn, items_of};
+ghost use Rattle.fax_spool.specs.Records.{Stands, body, blocks, shut, BeginsWith, Ends, IsShort, is_open, length_in, voted};
+ghost use Rattle.fax_spool.specs.Found.{IsFoundIn, IsFoundOf, items_of, passed_over};
 ghost use Rattle.sqlite_disk.specs.Disk.{Torn, Holds, Only, Follows};
 ghost use Rattle.fax_spool.specs.Settled.{IsSettled};
 
@@ -17,6 +19,12 @@ const MOST: usize = 1 << 60;
 /// The most octets of a record.
 const MOST_OCTETS: usize = 0xffff_ffff;
 
+/// How many octets a gate has.
+const GATE: usize = 3;
+
+/// How many octets a header has.
+const HEADER: usize = 15;
+
 /// A file of records, with the place behind the last of them, in octets. What `recover` answers begins one.
 #[derive(Drop)]
 pub struct RecordFile<D: Disk> {
@@ -24,7 +32,7 @@ pub struct RecordFile<D: Disk> {
     pub end: usize,
 }
 
-/// The length of a record and the record go behind other octets. It refuses a record of 2 ^ 32 octets or more.
+/// The length of a record, three times, and the record go behind other octets. It refuses a record of 2 ^ 32 octets or more.
 fn push_body(octets: &mut Vec<u8>, item: &[u8]) -> io::Result<()>
     ensures short { OnOk result (IsShort item.now) }
     ensures octets { OnOk result (octets.new.items ≡ octets.old.items ++ body item.now) }
@@ -32,26 +40,29 @@ fn push_body(octets: &mut Vec<u8>, item: &[u8]) -> io::Result<()>
     if item.len() > MOST_OCTETS {
         return Err(io::ErrorKind::FileTooLarge.into());
     }
-    octets.extend_from_slice(&(item.len() as u32).to_be_bytes())?;
+    let length = (item.len() as u32).to_be_bytes();
+    octets.extend_from_slice(&length)?;
+    octets.extend_from_slice(&length)?;
+    octets.extend_from_slice(&length)?;
     octets.extend_from_slice(item)?;
     Ok(())
 }
 
-/// What is written behind the gate of the first of some records: its length, the record, the others with open gates, and the
-/// gate of the next one, closed.
+/// What is written behind the gate of the first of some records: its length three times, the record, the others with open gates,
+/// and the gate of the next one, shut.
 fn bodies_of(alloc: Global, first: &[u8], others: &[Vec<u8>]) -> io::Result<Vec<u8>>
     ensures short { OnOk result (All IsShort (first.now ∷ map (λ v. v.items) others.now)) }
-    ensures octets { IfOk result (λ v. v.items ≡ body first.now ++ blocks (map (λ v. v.items) others.now) ++ 0 ∷ []) }
+    ensures octets { IfOk result (λ v. v.items ≡ body first.now ++ blocks (map (λ v. v.items) others.now) ++ shut) }
 {
     let mut octets = Vec::new(alloc);
     push_body(&mut octets, first)?;
     let mut rest = others;
     while let Some((item, behind)) = rest.split_first() {
-        octets.push(1)?;
+        octets.extend_from_slice(&[1, 1, 1])?;
         push_body(&mut octets, item.as_slice())?;
         rest = behind;
     }
-    octets.push(0)?;
+    octets.extend_from_slice(&[0, 0, 0])?;
     Ok(octets)
 }
 
@@ -108,20 +119,20 @@ impl<D: Disk> RecordFile<D> {
         ensures usable { OnOk result (IsTrue (D.is_usable self.new.disk)) }
         ensures clean { IsTrue (D.is_clean self.new.disk) → IsTrue (D.is_clean self.old.disk) }
 
-        ensures acknowledged { OnOk result ((rs others : List (List ℕ)) (r : List ℕ) → octets.now ≡ body r ++ blocks others ++ 0 ∷ [] → All IsShort (r ∷ others)
+        ensures acknowledged { OnOk result ((rs others : List (List ℕ)) (r : List ℕ) → octets.now ≡ body r ++ blocks others ++ shut → All IsShort (r ∷ others)
             → IsSettled D.seen D.may_leave D.is_usable self.old.disk self.old.end rs
             → IsSettled D.seen D.may_leave D.is_usable self.new.disk self.new.end (rs ++ r ∷ others)) }
 
-        ensures crash { (rs others : List (List ℕ)) (r : List ℕ) → octets.now ≡ body r ++ blocks others ++ 0 ∷ [] → All IsShort (r ∷ others)
+        ensures crash { (rs others : List (List ℕ)) (r : List ℕ) → octets.now ≡ body r ++ blocks others ++ shut → All IsShort (r ∷ others)
             → IsSettled D.seen D.may_leave D.is_usable self.old.disk self.old.end rs
             → (c : List ℕ) → D.may_leave self.new.disk c → Stands c rs ⊎ Stands c (rs ++ r ∷ others) }
     {
         if self.end > MOST {
             return Err(io::ErrorKind::StorageFull.into());
         }
-        self.disk.write_at(self.end + 1, octets)?;
+        self.disk.write_at(self.end + GATE, octets)?;
         self.disk.sync()?;
-        self.disk.write_at(self.end, &[1])?;
+        self.disk.write_at(self.end, &[1, 1, 1])?;
         self.disk.sync()?;
         self.end += octets.len();
         Ok(())
@@ -144,7 +155,7 @@ impl<D: Disk> RecordFile<D> {
         if self.end == 0 {
             return Ok(());
         }
-        self.disk.write_at(0, &[0])?;
+        self.disk.write_at(0, &[0, 0, 0])?;
         self.disk.sync()?;
         self.end = 0;
         Ok(())
@@ -158,18 +169,69 @@ pub struct Found {
     pub items: Vec<Vec<u8>>,
     /// The place behind the last, in octets.
     pub end: usize,
+    /// How many octets are passed over behind them, where no shut gate stands there as it is written.
+    pub passed_over: usize,
+}
+
+/// The value that two of three copies of an octet have.
+fn voted(first: u8, second: u8, third: u8) -> Option<u8>
+    ensures { result ≡ voted first second third }
+{
+    if first == second || first == third {
+        return Some(first);
+    }
+    if second == third {
+        return Some(second);
+    }
+    None
+}
+
+/// Whether octets begin with a gate that is read as open.
+fn is_open(head: &[u8]) -> bool
+    requires { 3 ≤ length head.now }
+    ensures { result ≡ is_open head.now }
+{
+    match voted(head[0], head[1], head[2]) {
+        Some(gate) => gate == 1,
+        None => false,
+    }
+}
+
+/// The length of a record, as its header is read.
+fn length_in(head: &[u8]) -> Option<u32>
+    requires { 15 ≤ length head.now }
+    ensures { result ≡ length_in head.now }
+{
+    let first = voted(head[3], head[7], head[11])?;
+    let second = voted(head[4], head[8], head[12])?;
+    let third = voted(head[5], head[9], head[13])?;
+    let fourth = voted(head[6], head[10], head[14])?;
+    Some(u32::from_be_bytes([first, second, third, fourth]))
+}
+
+/// How many octets are passed over, where these stand behind the records.
+fn passed_over(octets: &[u8]) -> usize
+    ensures { result ≡ passed_over octets.now }
+{
+    let gate = &octets[..octets.len().min(GATE)];
+    if gate.iter().all(|octet| *octet == 0) {
+        return 0;
+    }
+    octets.len()
 }
 
 /// The record that octets begin with, and what stands behind it.
 fn first_record(octets: &[u8]) -> Option<(&[u8], &[u8])>
-    ensures { MatchOption result (Ends octets.now) (λ p. IsShort p.0.now × (octets.now ≡ block p.0.now ++ p.1.now)) }
+    ensures { MatchOption result (Ends octets.now) (λ p. BeginsWith octets.now p.0.now p.1.now) }
 {
-    let (gate, rest) = octets.split_first()?;
-    if *gate != 1 || rest.len() < 4 {
+    if octets.len() < HEADER {
         return None;
     }
-    let (head, behind) = rest.split_at(4);
-    let len = u32::from_be_bytes([head[0], head[1], head[2], head[3]]) as usize;
+    let (head, behind) = octets.split_at(HEADER);
+    if !is_open(head) {
+        return None;
+    }
+    let len = length_in(head)? as usize;
     if len > behind.len() {
         return None;
     }
@@ -189,6 +251,7 @@ fn records_of(alloc: Global, octets: &[u8]) -> Result<Found, AllocError>
     Ok(Found {
         items,
         end: octets.len() - rest.len(),
+        passed_over: passed_over(rest),
     })
 }
 
@@ -210,22 +273,24 @@ fn read_all<D: Disk>(alloc: Global, disk: &mut D) -> io::Result<Vec<u8>>
 
 /// Whether a shut gate stands at a place.
 fn is_shut(octets: &[u8], at: usize) -> bool
-    ensures { IsTrue result ↔ ((at < length octets.now) × (slice_index octets.now at ≢ 1)) }
+    requires { at ≤ length octets.now }
+    ensures { IsTrue result ↔ ((3 ≤ length (drop at octets.now)) × (is_open (drop at octets.now) ≡ false)) }
 {
-    at < octets.len() && octets[at] != 1
+    let behind = &octets[at..];
+    behind.len() >= GATE && !is_open(behind)
 }
 
 /// Writes a shut gate.
 fn shut<D: Disk>(disk: &mut D, at: usize) -> io::Result<()>
     requires usable { IsTrue (D.is_usable disk.old) }
     ensures usable { OnOk result (IsTrue (D.is_usable disk.new)) }
-    ensures crash { Follows (Torn at 1) (D.may_leave disk.old) (D.may_leave disk.new) }
-    ensures others { Torn at 1 (D.seen disk.old) (D.seen disk.new) }
-    ensures written { OnOk result (Holds (D.seen disk.new) at (0 ∷ [])) }
+    ensures crash { Follows (Torn at 3) (D.may_leave disk.old) (D.may_leave disk.new) }
+    ensures others { Torn at 3 (D.seen disk.old) (D.seen disk.new) }
+    ensures written { OnOk result (Holds (D.seen disk.new) at shut) }
     ensures durable { OnOk result (Only (D.seen disk.new) (D.may_leave disk.new)) }
     ensures clean { IsTrue (D.is_clean disk.new) → IsTrue (D.is_clean disk.old) }
 {
-    disk.write_at(at, &[0])?;
+    disk.write_at(at, &[0, 0, 0])?;
     disk.sync()?;
     Ok(())
 }
@@ -236,7 +301,7 @@ pub fn recover<D: Disk>(alloc: Global, disk: &mut D) -> io::Result<Found>
     // After a restart, what is read is what is on the disk.
     requires durable { Only (D.seen disk.old) (D.may_leave disk.old) }
     ensures usable { OnOk result (IsTrue (D.is_usable disk.new)) }
-    ensures found { IfOk result (λ f. IsTrue (D.is_clean disk.new) → Stands (D.seen disk.old) (items_of f)) }
+    ensures found { IfOk result (λ f. IsTrue (D.is_clean disk.new) → IsFoundOf (D.seen disk.old) f) }
     ensures settled { IfOk result (λ f. IsTrue (D.is_clean disk.new) → IsSettled D.seen D.may_leave D.is_usable disk.new f.end (items_of f)) }
     // Whenever the machine stops, the file stands for the same records.
     ensures crash { IsTrue (D.is_clean disk.new) → (rs : List (List ℕ)) → Stands (D.seen disk.old) rs → (c : List ℕ) → D.may_leave disk.new c → Stands c rs }

@@ -4,6 +4,7 @@ ghost use Rattle.fax_spool.specs.Opened.{OpeningsFindWhatCrashesLeave};
 ghost use Rattle.fax_spool.specs.Stopped.{OpeningsLeaveTheirEpoch, StoppedOpeningsLeaveWhatWaits};
 ghost use Rattle.fax_spool.specs.Waits.{SharesWhatWaits};
 ghost use Rattle.fax_spool.specs.Records.{StandsForOneList};
+ghost use Rattle.fax_spool.specs.Turned.{OneTurnedOctet};
 ghost use Rattle.fax_spool.specs.Spools.{TellsOneList};
 
 use sqlite_disk::Disk;
@@ -11,6 +12,12 @@ use sqlite_disk::Disk;
 /// A file stands for one list of records.
 pub fn files_stand_for_one_list()
     ensures { StandsForOneList }
+{}
+
+/// One octet that was turned, anywhere in a file as it was written, harms one record at most: the file stands for as many records,
+/// each of the length that it had.
+pub fn one_turned_octet()
+    ensures { OneTurnedOctet }
 {}
 
 /// A file tells one list of records. So what is read of a file behind a crash is what the clauses `crash` of a spool's calls tell

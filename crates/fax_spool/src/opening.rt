@@ -30,6 +30,11 @@ pub struct Opened<D: Disk> {
     pub older_damaged: usize,
     /// How many of the newer one.
     pub newer_damaged: usize,
+    /// How many octets of the older file are passed over, since no record begins behind the last one, and no shut gate stands there as
+    /// it is written.
+    pub older_passed_over: usize,
+    /// How many of the newer one.
+    pub newer_passed_over: usize,
 }
 
 /// Opens a spool over its two files, whichever of them is the older one: reads what a crash may have left, and begins a life. At
@@ -58,18 +63,35 @@ pub fn open_spool<D: Disk + Drop>(alloc: Global, one: D, other: D) -> io::Result
         end: second.end,
     };
     if first_epoch(ones.as_slice()) > first_epoch(others.as_slice()) {
-        return Ok(begin(alloc, other, one, others.as_slice(), ones.as_slice())?);
+        let passed = (second.passed_over, first.passed_over);
+        return Ok(begin(
+            alloc,
+            other,
+            one,
+            others.as_slice(),
+            ones.as_slice(),
+            passed,
+        )?);
     }
-    Ok(begin(alloc, one, other, ones.as_slice(), others.as_slice())?)
+    let passed = (first.passed_over, second.passed_over);
+    Ok(begin(
+        alloc,
+        one,
+        other,
+        ones.as_slice(),
+        others.as_slice(),
+        passed,
+    )?)
 }
 
-/// Begins a life over two files, of which the older one is known, and tells what waits.
+/// Begins a life over two files, of which the older one is known, and of which so many octets are passed over, and tells what waits.
 fn begin<D: Disk + Drop>(
     alloc: Global,
     older: RecordFile<D>,
     newer: RecordFile<D>,
     olds: &[KeptRecord<'_>],
     news: &[KeptRecord<'_>],
+    passed_over: (usize, usize),
 ) -> io::Result<Opened<D>>
     ensures begun { IfOk result (λ opened. (older_items newer_items : List (List ℕ))
         → IsSettled D.seen D.may_leave D.is_usable older.disk older.end older_items → AreReadAs older_items olds.now
@@ -81,6 +103,8 @@ fn begin<D: Disk + Drop>(
     ensures pages { IfOk result (λ opened. opened.pages.items ≡ closed (waiting (olds.now ++ news.now))) }
     ensures older_damaged { IfOk result (λ opened. opened.older_damaged ≡ damaged olds.now) }
     ensures newer_damaged { IfOk result (λ opened. opened.newer_damaged ≡ damaged news.now) }
+    ensures older_passed_over { IfOk result (λ opened. opened.older_passed_over ≡ passed_over.0) }
+    ensures newer_passed_over { IfOk result (λ opened. opened.newer_passed_over ≡ passed_over.1) }
     ensures accepts { IfOk result (λ opened. Accepts opened.spool) }
 {
     let pages = pages_of(alloc, olds, news)?;
@@ -90,6 +114,8 @@ fn begin<D: Disk + Drop>(
         pages,
         older_damaged: damaged(olds),
         newer_damaged: damaged(news),
+        older_passed_over: passed_over.0,
+        newer_passed_over: passed_over.1,
     })
 }
 

@@ -14,11 +14,12 @@ returns-then-first_epoch g c = record {
       let one_epoch : c.first_epoch.result ≡ epoch_of ones = c.first_epoch.ensures ∙ ap epoch_of (c.as_slice-3.ensures.value ∙ sym c.as_slice-then-first_epoch-2.ensures.value) in
       let other_epoch : c.first_epoch-2.result ≡ epoch_of others = c.first_epoch-2.ensures ∙ ap epoch_of (c.as_slice-4.ensures.value ∙ sym c.as_slice-then-first_epoch.ensures.value) in
       second_is_older _ _ _ _ _ c.in_ok-begin.field-0 ones others
-      (tells _ c.in_ok-first.first ones (c.in_ok-first.ensures.found clean.1) ones_read)
-      (tells _ c.in_ok-second.second others (c.in_ok-second.ensures.found clean.0) others_read)
+      (tells _ c.in_ok-first.first ones (c.in_ok-first.ensures.found clean.1).stands ones_read)
+      (tells _ c.in_ok-second.second others (c.in_ok-second.ensures.found clean.0).stands others_read)
       (is_not_before (epoch_of ones) (epoch_of others) (omega (arith, one_epoch, other_epoch, c.if-first_epoch.true)))
       (c.in_ok-begin.ensures.begun _ _ (c.in_ok-second.ensures.settled clean.0) others_read (c.in_ok-first.ensures.settled clean.1) ones_read)
-      c.in_ok-begin.ensures.older_epochs c.in_ok-begin.ensures.newer_epochs c.in_ok-begin.ensures.pages c.in_ok-begin.ensures.older_damaged c.in_ok-begin.ensures.newer_damaged;
+      c.in_ok-begin.ensures.older_epochs c.in_ok-begin.ensures.newer_epochs c.in_ok-begin.ensures.pages c.in_ok-begin.ensures.older_damaged c.in_ok-begin.ensures.newer_damaged
+      (c.in_ok-begin.ensures.older_passed_over ∙ (c.in_ok-second.ensures.found clean.0).passed_over) (c.in_ok-begin.ensures.newer_passed_over ∙ (c.in_ok-first.ensures.found clean.1).passed_over);
   accepts = c.in_ok-begin.ensures.accepts;
 }
 
@@ -33,10 +34,11 @@ returns g c = record {
       let one_epoch : c.first_epoch.result ≡ epoch_of ones = c.first_epoch.ensures ∙ ap epoch_of (c.as_slice-3.ensures.value ∙ sym c.as_slice-5.ensures.value) in
       let other_epoch : c.first_epoch-2.result ≡ epoch_of others = c.first_epoch-2.ensures ∙ ap epoch_of (c.as_slice-4.ensures.value ∙ sym c.as_slice-6.ensures.value) in
       first_is_older _ _ _ _ _ c.in_ok-begin-2.field-0 ones others
-      (tells _ c.in_ok-first.first ones (c.in_ok-first.ensures.found clean.0) ones_read)
-      (tells _ c.in_ok-second.second others (c.in_ok-second.ensures.found clean.1) others_read)
+      (tells _ c.in_ok-first.first ones (c.in_ok-first.ensures.found clean.0).stands ones_read)
+      (tells _ c.in_ok-second.second others (c.in_ok-second.ensures.found clean.1).stands others_read)
       (is_before (epoch_of ones) (epoch_of others) (omega (arith, one_epoch, other_epoch, c.if-first_epoch.false)))
       (c.in_ok-begin-2.ensures.begun _ _ (c.in_ok-first.ensures.settled clean.0) ones_read (c.in_ok-second.ensures.settled clean.1) others_read)
-      c.in_ok-begin-2.ensures.older_epochs c.in_ok-begin-2.ensures.newer_epochs c.in_ok-begin-2.ensures.pages c.in_ok-begin-2.ensures.older_damaged c.in_ok-begin-2.ensures.newer_damaged;
+      c.in_ok-begin-2.ensures.older_epochs c.in_ok-begin-2.ensures.newer_epochs c.in_ok-begin-2.ensures.pages c.in_ok-begin-2.ensures.older_damaged c.in_ok-begin-2.ensures.newer_damaged
+      (c.in_ok-begin-2.ensures.older_passed_over ∙ (c.in_ok-first.ensures.found clean.0).passed_over) (c.in_ok-begin-2.ensures.newer_passed_over ∙ (c.in_ok-second.ensures.found clean.1).passed_over);
   accepts = c.in_ok-begin-2.ensures.accepts;
 }

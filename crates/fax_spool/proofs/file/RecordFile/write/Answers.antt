@@ -28,7 +28,7 @@ returns-clause-crash g c = λ rs others r are short s f left.
 pub returns-clause-acknowledged : goal.returns-clause-acknowledged
 returns-clause-acknowledged g c = λ rs others r are short s.
     let there = first_written _ _ _ _ _ _ s (body r ++ blocks others) _ _ are c.write_at.ensures.others (c.in_ok-write_at.ensures.written (omega (arith, ap length are))) in
-    let torn = subst (λ (l : List ℕ). Torn c.args.self.now.end 1 l (g.D.Disk.seen c.write_at-2.new.self)) c.sync.ensures.seen c.write_at-2.ensures.others in
+    let torn = subst (λ (l : List ℕ). Torn c.args.self.now.end 3 l (g.D.Disk.seen c.write_at-2.new.self)) c.sync.ensures.seen c.write_at-2.ensures.others in
     let is = second_written _ _ _ _ _ _ s others r there.0 _ there.1 short _ torn (c.in_ok-write_at-2.ensures.written (omega arith)) in
     settled_more _ _ _ _ _ _ s others r there.0 _ there.1 short _ c.sync-2.new.self are
     (c.sync-2.ensures.seen ∙ is)

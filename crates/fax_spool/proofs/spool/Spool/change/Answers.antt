@@ -1,11 +1,11 @@
-use Rattle.std.proofs.Common.{◌≡◌, ◌+◌, [], ◌∷◌, refl, inr, Vec, Global, sym, ap, subst, arith}
+use Rattle.std.proofs.Common.{◌≡◌, ◌+◌, [], ◌∷◌, refl, inl, inr, Vec, Global, sym, ap, subst, arith}
 use Rattle.fax_spool.specs.Settled.{IsSettled}
 use Rattle.fax_spool.specs.Waits.{PageName}
 use Rattle.fax_spool.specs.declared.file.RecordFile.{RecordFile}
 use Rattle.fax_spool.specs.declared.kept_record.KeptRecord.TheVariants.{Epoch}
 use Rattle.fax_spool.specs.Calls.{Turns}
 use Rattle.fax_spool.proofs.Doing.{does_err, does_nothing, does_turn, may_have_turned, more_epoch, told_changed}
-use Rattle.fax_spool.proofs.SpoolSteps.{none_told, keeps_changed, leaves_changed, read_through}
+use Rattle.fax_spool.proofs.SpoolSteps.{at_rest, none_told, keeps_changed, leaves_changed, read_through}
 use Rattle.fax_spool.proofs.spool.Spool.change.Goals as goal
 
 pub returns-in_err-append-clause-crash : goal.returns-in_err-append-clause-crash
@@ -61,3 +61,15 @@ returns-clause-does g c =
     let new = record c.args.self.now { older = c.swap.new.x; newer = c.append.new.file; older_pages = c.swap-2.new.x; newer_pages = c.swap-2.new.y; epoch = c.args.self.now.epoch + 1; refuses = c.append.new.refuses } in
     does_turn _ _ _ c.args.self.now new c.if-self.false
     (λ olds news k order. let is = returns-clause-changed g c olds news k in (news, Epoch (c.args.self.now.epoch + 1) ∷ [], is.2, inr is.1, more_epoch olds news (c.args.self.now.epoch + 1) is.0))
+
+pub returns-then-self-clause-crash : goal.returns-then-self-clause-crash
+returns-then-self-clause-crash g c = λ olds news k older newer left. inl (at_rest _ _ _ _ c.args.self.now olds news k older newer left)
+
+pub returns-then-self-ne0-clause-crash : goal.returns-then-self-ne0-clause-crash
+returns-then-self-ne0-clause-crash g c = λ olds news k older newer left. inl (at_rest _ _ _ _ c.args.self.now olds news k older newer left)
+
+pub returns-then-self-2-clause-crash : goal.returns-then-self-2-clause-crash
+returns-then-self-2-clause-crash g c = λ olds news k older newer left. inl (at_rest _ _ _ _ c.args.self.now olds news k older newer left)
+
+pub returns-in_err-octets-clause-crash : goal.returns-in_err-octets-clause-crash
+returns-in_err-octets-clause-crash g c = λ olds news k older newer left. inl (at_rest _ _ _ _ c.args.self.now olds news k older newer left)

@@ -2,7 +2,7 @@ use Rattle.std.proofs.Common.{◌≡◌, [], true, false, refl, inl, arith}
 use Rattle.fax_spool.proofs.Loops.{none_more}
 use Rattle.fax_spool.specs.Calls.{Turns}
 use Rattle.fax_spool.proofs.Doing.{does_err, does_nothing, does_turn, may_have_turned, none_gone, told_cleared}
-use Rattle.fax_spool.proofs.SpoolSteps.{none_waits, keeps_cleared, leaves_cleared}
+use Rattle.fax_spool.proofs.SpoolSteps.{at_rest, none_waits, keeps_cleared, leaves_cleared}
 use Rattle.fax_spool.proofs.spool.Spool.clear.Goals as goal
 
 pub returns-in_err-clear-clause-crash : goal.returns-in_err-clear-clause-crash
@@ -40,3 +40,9 @@ returns-in_err-clear-clause-does g c = does_err _ _ _ c.args.self.now _ _ c.from
 pub returns-clause-does : goal.returns-clause-does
 returns-clause-does g c = does_turn _ _ _ c.args.self.now (record c.args.self.now { older = c.clear.new.self; refuses = false }) c.if-self.false
     (λ olds news k order. let is = returns-clause-cleared g c olds news k in ([], news, is.1, inl refl, none_gone olds news is.0))
+
+pub returns-then-self-clause-crash : goal.returns-then-self-clause-crash
+returns-then-self-clause-crash g c = λ olds news k older newer left. inl (at_rest _ _ _ _ c.args.self.now olds news k older newer left)
+
+pub returns-then-not-is_empty-clause-crash : goal.returns-then-not-is_empty-clause-crash
+returns-then-not-is_empty-clause-crash g c = λ olds news k older newer left. inl (at_rest _ _ _ _ c.args.self.now olds news k older newer left)

@@ -53,3 +53,6 @@ returns-in_err-append-clause-does g c = does_err _ _ _ c.args.self.now _ _ c.fro
 
 pub returns-clause-does : goal.returns-clause-does
 returns-clause-does g c = does_put _ _ _ c.args.self.now _ (Puts (c.args.page.now ∷ [])) (Page c.args.page.now ∷ []) (more_pages (c.args.page.now ∷ [])) c.if-self.false (returns-clause-acknowledged g c)
+
+pub returns-then-self-clause-crash : goal.returns-then-self-clause-crash
+returns-then-self-clause-crash g c = λ olds news k older newer left. inl (at_rest _ _ _ _ c.args.self.now olds news k older newer left)

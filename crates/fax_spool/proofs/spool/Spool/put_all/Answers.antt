@@ -1,9 +1,9 @@
-use Rattle.std.proofs.Common.{List, ℕ, Vec, Global, map, ◌++◌, refl, ◌∙◌, ap}
+use Rattle.std.proofs.Common.{List, ℕ, Vec, Global, map, ◌++◌, refl, inl, ◌∙◌, ap}
 use Rattle.fax_spool.specs.KeptRecords.{kept_of}
 use Rattle.fax_spool.specs.Waits.{PageName}
 use Rattle.fax_spool.specs.Calls.{Puts}
 use Rattle.fax_spool.proofs.Doing.{as_before, does_err, does_none, does_nothing, does_put, may_have_put, more_pages}
-use Rattle.fax_spool.proofs.SpoolSteps.{keeps_pages, leaves_pages, read_all_through}
+use Rattle.fax_spool.proofs.SpoolSteps.{at_rest, keeps_pages, leaves_pages, read_all_through}
 use Rattle.fax_spool.proofs.spool.Spool.put_all.Goals as goal
 
 pub returns-in_err-append_all-clause-crash : goal.returns-in_err-append_all-clause-crash
@@ -42,3 +42,15 @@ returns-in_err-append_all-clause-does g c = does_err _ _ _ c.args.self.now _ _ c
 
 pub returns-clause-does : goal.returns-clause-does
 returns-clause-does g c = does_put _ _ _ c.args.self.now _ (Puts c.args.pages.now) (map kept_of c.args.pages.now) (more_pages c.args.pages.now) c.if-self.false (returns-clause-acknowledged g c)
+
+pub returns-then-self-clause-crash : goal.returns-then-self-clause-crash
+returns-then-self-clause-crash g c = λ olds news k older newer left. inl (at_rest _ _ _ _ c.args.self.now olds news k older newer left)
+
+pub returns-in_err-names-clause-crash : goal.returns-in_err-names-clause-crash
+returns-in_err-names-clause-crash g c = λ olds news k older newer left. inl (at_rest _ _ _ _ c.args.self.now olds news k older newer left)
+
+pub returns-in_err-items-clause-crash : goal.returns-in_err-items-clause-crash
+returns-in_err-items-clause-crash g c = λ olds news k older newer left. inl (at_rest _ _ _ _ c.args.self.now olds news k older newer left)
+
+pub returns-in_err-append-clause-crash : goal.returns-in_err-append-clause-crash
+returns-in_err-append-clause-crash g c = λ olds news k older newer left. inl (at_rest _ _ _ _ c.args.self.now olds news k older newer left)
