@@ -13,4 +13,6 @@ pub mod Order
 mod Reopening
 mod Openings
 mod Told
+mod TornCalls
+mod Lost
 mod Doing

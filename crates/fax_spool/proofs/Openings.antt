@@ -6,7 +6,8 @@ use Rattle.fax_spool.specs.Found.{items_of, passed_over}
 use Rattle.fax_spool.specs.KeptRecords.{AreReadAs}
 use Rattle.fax_spool.specs.Waits.{waiting}
 use Rattle.fax_spool.specs.Spools.{Keeps, Tells, epoch_now, greatest_epoch}
-use Rattle.fax_spool.specs.Opened.{IsOpened, closed, comes_first, damaged, newer_of, older_of}
+use Rattle.fax_spool.specs.Opened.{IsOpened, closed, comes_first, newer_of, older_of}
+use Rattle.fax_spool.specs.Torn.{damaged, torn_calls}
 use Rattle.fax_spool.specs.declared.file.Found.{Found}
 use Rattle.fax_spool.specs.declared.opening.Opened.{Opened}
 use Rattle.fax_spool.specs.declared.kept_record.KeptRecord.{KeptRecord}
@@ -32,9 +33,9 @@ module _ {D : Type 0} (seen : D → List ℕ) (may_leave : D → List ℕ → Ty
   -- the first file is the older one
   pub first_is_older : comes_first ones others ≡ true → Keeps seen may_leave is_usable opened.spool ones (others ++ Epoch (epoch_now opened.spool) ∷ [])
       → greatest_epoch ones < epoch_now opened.spool → greatest_epoch others < epoch_now opened.spool
-      → opened.pages.items ≡ closed (waiting (ones ++ others)) → opened.older_damaged ≡ damaged ones → opened.newer_damaged ≡ damaged others
+      → opened.pages.items ≡ closed (waiting (ones ++ others)) → opened.torn.items ≡ torn_calls (ones ++ others) → opened.older_damaged ≡ damaged ones → opened.newer_damaged ≡ damaged others
       → opened.older_passed_over ≡ passed_over one_tells.stands.end → opened.newer_passed_over ≡ passed_over other_tells.stands.end → IsOpened seen may_leave is_usable one other opened
-  first_is_older is keeps older_low newer_low pages older newer older_over newer_over =
+  first_is_older is keeps older_low newer_low pages torn older newer older_over newer_over =
       let olds : older_of ones others ≡ ones = ap (λ (b : Bool). if b then ones else others) is in
       let news : newer_of ones others ≡ others = ap (λ (b : Bool). if b then others else ones) is in
       record {
@@ -47,6 +48,7 @@ module _ {D : Type 0} (seen : D → List ℕ) (may_leave : D → List ℕ → Ty
         older_epochs = subst (λ (l : List KeptRecord). greatest_epoch l < epoch_now opened.spool) (sym olds) older_low;
         newer_epochs = subst (λ (l : List KeptRecord). greatest_epoch l < epoch_now opened.spool) (sym news) newer_low;
         pages = pages ∙ sym (ap (λ (l : List KeptRecord). closed (waiting (l ++ newer_of ones others))) olds ∙ ap (λ (l : List KeptRecord). closed (waiting (ones ++ l))) news);
+        torn = torn ∙ sym (ap (λ (l : List KeptRecord). torn_calls (l ++ newer_of ones others)) olds ∙ ap (λ (l : List KeptRecord). torn_calls (ones ++ l)) news);
         older_damaged = older ∙ sym (ap damaged olds);
         newer_damaged = newer ∙ sym (ap damaged news);
         older_passed_over = older_over ∙ sym (ap (λ (b : Bool). if b then passed_over one_tells.stands.end else passed_over other_tells.stands.end) is);
@@ -56,9 +58,9 @@ module _ {D : Type 0} (seen : D → List ℕ) (may_leave : D → List ℕ → Ty
   -- the second one is
   pub second_is_older : comes_first ones others ≡ false → Keeps seen may_leave is_usable opened.spool others (ones ++ Epoch (epoch_now opened.spool) ∷ [])
       → greatest_epoch others < epoch_now opened.spool → greatest_epoch ones < epoch_now opened.spool
-      → opened.pages.items ≡ closed (waiting (others ++ ones)) → opened.older_damaged ≡ damaged others → opened.newer_damaged ≡ damaged ones
+      → opened.pages.items ≡ closed (waiting (others ++ ones)) → opened.torn.items ≡ torn_calls (others ++ ones) → opened.older_damaged ≡ damaged others → opened.newer_damaged ≡ damaged ones
       → opened.older_passed_over ≡ passed_over other_tells.stands.end → opened.newer_passed_over ≡ passed_over one_tells.stands.end → IsOpened seen may_leave is_usable one other opened
-  second_is_older is keeps older_low newer_low pages older newer older_over newer_over =
+  second_is_older is keeps older_low newer_low pages torn older newer older_over newer_over =
       let olds : older_of ones others ≡ others = ap (λ (b : Bool). if b then ones else others) is in
       let news : newer_of ones others ≡ ones = ap (λ (b : Bool). if b then others else ones) is in
       record {
@@ -71,6 +73,7 @@ module _ {D : Type 0} (seen : D → List ℕ) (may_leave : D → List ℕ → Ty
         older_epochs = subst (λ (l : List KeptRecord). greatest_epoch l < epoch_now opened.spool) (sym olds) older_low;
         newer_epochs = subst (λ (l : List KeptRecord). greatest_epoch l < epoch_now opened.spool) (sym news) newer_low;
         pages = pages ∙ sym (ap (λ (l : List KeptRecord). closed (waiting (l ++ newer_of ones others))) olds ∙ ap (λ (l : List KeptRecord). closed (waiting (others ++ l))) news);
+        torn = torn ∙ sym (ap (λ (l : List KeptRecord). torn_calls (l ++ newer_of ones others)) olds ∙ ap (λ (l : List KeptRecord). torn_calls (others ++ l)) news);
         older_damaged = older ∙ sym (ap damaged olds);
         newer_damaged = newer ∙ sym (ap damaged news);
         older_passed_over = older_over ∙ sym (ap (λ (b : Bool). if b then passed_over one_tells.stands.end else passed_over other_tells.stands.end) is);

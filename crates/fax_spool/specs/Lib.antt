@@ -6,6 +6,8 @@ pub mod Seals
 pub mod RecordOctets
 pub mod KeptRecords
 pub mod Waits
+pub mod Torn
+pub mod Harm
 pub mod Spools
 pub mod Calls
 pub mod Opened

@@ -1,13 +1,15 @@
 -- What the two files of a spool are found to hold as they are opened. (This project's profile.)
-use Rattle.std.specs.Prelude.{◌≡◌, ◌⊎◌, ◌<◌, ℕ, Bool, true, false, not, ◌&&◌, ◌||◌, nat_eq, nat_le, bytes_eq, List, [], ◌∷◌, ◌++◌, if◌then◌else◌}
-use Rattle.std.specs.List.{count_by, list_any}
+use Rattle.std.specs.Prelude.{◌≡◌, ◌⊎◌, ◌<◌, ℕ, Bool, not, ◌||◌, nat_le, List, [], ◌∷◌, ◌++◌, if◌then◌else◌}
+use Rattle.std.specs.List.{list_any}
+pub use Rattle.fax_spool.specs.Torn.{damaged, is_damaged, same_call}
 use Rattle.fax_spool.specs.RecordOctets.{PageValue}
 use Rattle.fax_spool.specs.Calls.{Rests, TellWaits}
 use Rattle.fax_spool.specs.Found.{passed_over}
+use Rattle.fax_spool.specs.Torn.{torn_calls}
 use Rattle.fax_spool.specs.Waits.{waiting}
 use Rattle.fax_spool.specs.Spools.{Keeps, Tells, epoch_now, epoch_of, greatest_epoch}
 use Rattle.fax_spool.specs.declared.kept_record.KeptRecord.{KeptRecord}
-use Rattle.fax_spool.specs.declared.kept_record.KeptRecord.TheVariants.{Page, Ended, Epoch, Damaged}
+use Rattle.fax_spool.specs.declared.kept_record.KeptRecord.TheVariants.{Epoch}
 use Rattle.fax_spool.specs.declared.opening.Opened.{Opened}
 
 -- Of the records of two files those are the older ones whose first epoch has the smaller number.
@@ -20,10 +22,6 @@ older_of one other = if comes_first one other then one else other
 abbrev pub newer_of : List KeptRecord → List KeptRecord → List KeptRecord
 newer_of one other = if comes_first one other then other else one
 
--- two pages came in one call
-abbrev pub same_call : PageValue → PageValue → Bool
-same_call page other = nat_eq page.life other.life && nat_eq page.call other.call && bytes_eq page.line other.line
-
 abbrev pub closing : Bool → PageValue → PageValue
 closing closes page = record { life = page.life; call = page.call; number = page.number; format = page.format; closes = closes; line = page.line; tag = page.tag; text = page.text }
 
@@ -32,18 +30,9 @@ abbrev pub closed : List PageValue → List PageValue
 closed [] = []
 closed (page ∷ pages) = closing (page.closes || not (list_any (same_call page) pages)) page ∷ closed pages
 
-abbrev pub is_damaged : KeptRecord → Bool
-is_damaged (Page page) = false
-is_damaged (Ended ended) = false
-is_damaged (Epoch number) = false
-is_damaged Damaged = true
-
-abbrev pub damaged : List KeptRecord → ℕ
-damaged records = count_by is_damaged records
-
 -- A SPOOL WAS OPENED OVER TWO FILES: it keeps what both of them tell, the older one first, and the epoch that begins, whose number
--- is greater than each before it; the pages that wait by them are told in order; and so is how many records are damaged, and how
--- many octets are passed over behind them.
+-- is greater than each before it; the pages that wait by them are told in order; and so are which calls are torn, how many records
+-- are damaged, and how many octets are passed over behind them.
 pub record IsOpened {D : Type 0} (seen : D → List ℕ) (may_leave : D → List ℕ → Type 0) (is_usable : D → Bool) (one other : List ℕ) (opened : Opened D) : Type 0 where
   pub ones : List KeptRecord
   pub others : List KeptRecord
@@ -53,6 +42,7 @@ pub record IsOpened {D : Type 0} (seen : D → List ℕ) (may_leave : D → List
   pub older_epochs : greatest_epoch (older_of ones others) < epoch_now opened.spool
   pub newer_epochs : greatest_epoch (newer_of ones others) < epoch_now opened.spool
   pub pages : opened.pages.items ≡ closed (waiting (older_of ones others ++ newer_of ones others))
+  pub torn : opened.torn.items ≡ torn_calls (older_of ones others ++ newer_of ones others)
   pub older_damaged : opened.older_damaged ≡ damaged (older_of ones others)
   pub newer_damaged : opened.newer_damaged ≡ damaged (newer_of ones others)
   pub older_passed_over : opened.older_passed_over ≡ (if comes_first ones others then passed_over one_tells.stands.end else passed_over other_tells.stands.end)

@@ -4,6 +4,8 @@ ghost use Rattle.fax_spool.specs.Opened.{OpeningsFindWhatCrashesLeave};
 ghost use Rattle.fax_spool.specs.Stopped.{OpeningsLeaveTheirEpoch, StoppedOpeningsLeaveWhatWaits};
 ghost use Rattle.fax_spool.specs.Waits.{SharesWhatWaits};
 ghost use Rattle.fax_spool.specs.Records.{StandsForOneList};
+ghost use Rattle.fax_spool.specs.Harm.{LostPagesTearTheirCall};
+ghost use Rattle.fax_spool.specs.Torn.{NothingIsTornWithoutDamage};
 ghost use Rattle.fax_spool.specs.Turned.{OneTurnedOctet};
 ghost use Rattle.fax_spool.specs.Spools.{TellsOneList};
 
@@ -62,4 +64,14 @@ pub fn stopped_openings_leave_what_waits()
 /// An opening behind which nothing was done leaves what it found, and the record of its epoch: so it counts as one that stopped.
 pub fn openings_leave_their_epoch<D: Disk>()
     ensures { OpeningsLeaveTheirEpoch D.seen D.may_leave D.is_usable }
+{}
+
+/// Where no record is damaged, no call is told to be torn.
+pub fn nothing_is_torn_without_damage()
+    ensures { NothingIsTornWithoutDamage }
+{}
+
+/// Where the records of some pages of a job are damaged and those of others are not, whichever they are, the call is told to be torn.
+pub fn lost_pages_tear_their_call()
+    ensures { LostPagesTearTheirCall }
 {}

@@ -10,6 +10,7 @@ mod page_name;
 mod record;
 mod sealing;
 mod spool;
+mod torn;
 mod waiting;
 mod waiting_page;
 
@@ -22,5 +23,6 @@ pub use record::{
 };
 pub use sealing::{seal, unseal};
 pub use spool::Spool;
+pub use torn::{CallName, is_torn};
 pub use waiting::{first_epoch, read_kept_records, waiting_pages};
 pub use waiting_page::WaitingPage;

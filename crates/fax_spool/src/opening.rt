@@ -7,12 +7,14 @@ ghost use Rattle.fax_spool.specs.KeptRecords.{AreReadAs};
 ghost use Rattle.fax_spool.specs.Waits.{waiting};
 ghost use Rattle.fax_spool.specs.Calls.{Accepts};
 ghost use Rattle.fax_spool.specs.Spools.{AreClean, Keeps, epoch_now, files_of, greatest_epoch};
-ghost use Rattle.fax_spool.specs.Opened.{IsOpened, closed, damaged, is_damaged, same_call};
+ghost use Rattle.fax_spool.specs.Opened.{IsOpened, closed};
+ghost use Rattle.fax_spool.specs.Torn.{damaged, same_call, torn_calls};
 
+use crate::torn::{is_damaged, is_of_call, torn_calls};
 use crate::waiting::follow_all;
 use crate::{
-    KeptRecord, PageRecord, RecordFile, Spool, WaitingPage, first_epoch, read_kept_records,
-    recover, waiting_pages,
+    CallName, KeptRecord, PageRecord, RecordFile, Spool, WaitingPage, first_epoch,
+    read_kept_records, recover, waiting_pages,
 };
 use sqlite_disk::Disk;
 use std::alloc::{AllocError, Global};
@@ -26,6 +28,9 @@ pub struct Opened<D: Disk> {
     /// The pages that wait, in the order in which they were confirmed. The last one of each call closes its job, since a call that
     /// was on ended with its process.
     pub pages: Vec<WaitingPage>,
+    /// The calls that lack a page, since its record may be one that is damaged: of such a call a page in `pages` may be one of a job that
+    /// is not whole. A call may be told more than once.
+    pub torn: Vec<CallName>,
     /// How many records of the older file are damaged. What they said is lost.
     pub older_damaged: usize,
     /// How many of the newer one.
@@ -101,6 +106,7 @@ fn begin<D: Disk + Drop>(
     ensures older_epochs { IfOk result (λ opened. greatest_epoch olds.now < epoch_now opened.spool) }
     ensures newer_epochs { IfOk result (λ opened. greatest_epoch news.now < epoch_now opened.spool) }
     ensures pages { IfOk result (λ opened. opened.pages.items ≡ closed (waiting (olds.now ++ news.now))) }
+    ensures torn { IfOk result (λ opened. opened.torn.items ≡ torn_calls (olds.now ++ news.now)) }
     ensures older_damaged { IfOk result (λ opened. opened.older_damaged ≡ damaged olds.now) }
     ensures newer_damaged { IfOk result (λ opened. opened.newer_damaged ≡ damaged news.now) }
     ensures older_passed_over { IfOk result (λ opened. opened.older_passed_over ≡ passed_over.0) }
@@ -108,10 +114,12 @@ fn begin<D: Disk + Drop>(
     ensures accepts { IfOk result (λ opened. Accepts opened.spool) }
 {
     let pages = pages_of(alloc, olds, news)?;
+    let torn = torn_calls(alloc, olds, news)?;
     let spool = Spool::begin(alloc, older, newer, olds, news)?;
     Ok(Opened {
         spool,
         pages,
+        torn,
         older_damaged: damaged(olds),
         newer_damaged: damaged(news),
         older_passed_over: passed_over.0,
@@ -166,28 +174,9 @@ fn has_call(pages: &[PageRecord<'_>], page: &PageRecord<'_>) -> bool
     false
 }
 
-/// Whether two pages came in one call.
-fn is_of_call(page: &PageRecord<'_>, other: &PageRecord<'_>) -> bool
-    ensures { result ≡ same_call page.now other.now }
-{
-    page.life == other.life && page.call == other.call && page.line == other.line
-}
-
 /// How many records are damaged.
 fn damaged(records: &[KeptRecord<'_>]) -> usize
     ensures { result ≡ damaged records.now }
 {
     records.iter().filter(|kept| is_damaged(kept)).count()
-}
-
-/// Whether a record is damaged.
-fn is_damaged(kept: &KeptRecord<'_>) -> bool
-    ensures { result ≡ is_damaged kept.now }
-{
-    match kept {
-        KeptRecord::Damaged => true,
-        KeptRecord::Page(_) => false,
-        KeptRecord::Ended(_) => false,
-        KeptRecord::Epoch(_) => false,
-    }
 }

@@ -1,0 +1,50 @@
+-- Records of which some are found damaged. (This project's profile.)
+use Rattle.std.specs.Prelude.{◌≡◌, ◌⊎◌, ◌<◌, Bool, true, false, ◌&&◌, nat_eq, List, [], ◌∷◌}
+use Rattle.std.specs.List.{Contains, list_any}
+use Rattle.fax_spool.specs.RecordOctets.{PageValue}
+use Rattle.fax_spool.specs.Torn.{is_next, is_of_any, same_call, torn_calls}
+use Rattle.fax_spool.specs.declared.kept_record.KeptRecord.{KeptRecord}
+use Rattle.fax_spool.specs.declared.kept_record.KeptRecord.TheVariants.{Page, Ended, Epoch, Damaged}
+
+-- each record is found as it was, or as damaged
+abbrev pub IsHarmed : List KeptRecord → List KeptRecord → Type 0
+IsHarmed [] [] = Unit {0}
+IsHarmed (r ∷ records) (f ∷ found) = ((f ≡ r) ⊎ (f ≡ Damaged)) × IsHarmed records found
+IsHarmed records found = ⊥
+
+-- the record is that of this page: of its call, and with its number
+abbrev pub is_page : PageValue → KeptRecord → Bool
+is_page page (Page other) = same_call page other && nat_eq page.number other.number
+is_page page (Ended ended) = false
+is_page page (Epoch number) = false
+is_page page Damaged = false
+
+-- records tell a page
+abbrev pub tell_page : List KeptRecord → PageValue → Bool
+tell_page records page = list_any (is_page page) records
+
+-- no page has two records
+abbrev pub ArePutOnce : List KeptRecord → Type 0
+ArePutOnce [] = Unit {0}
+ArePutOnce (Page page ∷ records) = (tell_page records page ≡ false) × ArePutOnce records
+ArePutOnce (Ended ended ∷ records) = ArePutOnce records
+ArePutOnce (Epoch number ∷ records) = ArePutOnce records
+ArePutOnce (Damaged ∷ records) = ArePutOnce records
+
+-- the pages of a job: one behind the other in one call, counted from 1, of which the last alone may close
+abbrev pub AreOfOneJob : List PageValue → Type 0
+AreOfOneJob [] = Unit {0}
+AreOfOneJob (page ∷ []) = Unit {0}
+AreOfOneJob (page ∷ next ∷ pages) = (0 < page.number) × (page.closes ≡ false) × (is_next page (Page next) ≡ true) × AreOfOneJob (next ∷ pages)
+
+-- the records have these pages, in this order
+abbrev pub StandInOrder : List PageValue → List KeptRecord → Type 0
+StandInOrder [] records = Unit {0}
+StandInOrder (page ∷ pages) [] = ⊥
+StandInOrder (page ∷ pages) (r ∷ records) = ((r ≡ Page page) × StandInOrder pages records) ⊎ StandInOrder (page ∷ pages) records
+
+-- LOST PAGES TEAR THEIR CALL: where one page of a job is found and another is not, whichever they are, their call is torn.
+abbrev pub LostPagesTearTheirCall : Type 0
+LostPagesTearTheirCall =
+    (records found : List KeptRecord) (pages : List PageValue) (there lost : PageValue) → IsHarmed records found → ArePutOnce records → AreOfOneJob pages → StandInOrder pages records
+    → Contains pages there → Contains pages lost → tell_page found there ≡ true → tell_page found lost ≡ false → is_of_any (torn_calls found) lost ≡ true
