@@ -47,6 +47,11 @@ def epoch(number):
     return EPOCH + struct.pack(">I", number)
 
 
+def epochs(number):
+    """An epoch is put twice."""
+    return [epoch(number), epoch(number)]
+
+
 def page(line, life, call, number, text, closes=True, tag=b"", width=0, fine=False):
     """The record of a page; the widths are 0 to 2."""
     head = PAGE_KIND + struct.pack(">III", life, call, number) + bytes([width, fine, closes])
@@ -161,7 +166,7 @@ class PagesSurviveACrash(Spooling):
         self.assertEqual(server.metrics()["faxgate_pages_kept"], 4)
         server.kill()
         before = [
-            epoch(1),
+            *epochs(1),
             page(b"a1", 1, 0, 1, kept(ROW), False, b"tag-1"),
             page(b"a1", 1, 0, 2, kept(OTHER_ROW), True, b"tag-1"),
             page(b"a2", 1, 0, 1, kept(OTHER_ROW), True, b"tag-2"),
@@ -222,10 +227,10 @@ class FilesTakeTurns(Spooling):
         """Two files of two epochs, the newer one the first by its name: the older one's page goes out first, and then that file tells no
         page any more, while the one of the other file waits, until that was sent too."""
         line = Line(self.ports)
-        older = file_of(epoch(1), page(b"a1", 1, 0, 1, kept(ROW)), page(b"a1", 1, 1, 1, kept(ROW)), ended(b"a1", 1, 0, 1, 1, 1))
+        older = file_of(*epochs(1), page(b"a1", 1, 0, 1, kept(ROW)), page(b"a1", 1, 1, 1, kept(ROW)), ended(b"a1", 1, 0, 1, 1, 1))
         waits = page(b"a1", 3, 0, 1, kept(OTHER_ROW))
         called = self.called(line, calls=2)
-        server = self.serve(line, files={"pages": file_of(epoch(3), waits), "pages-wal": older})
+        server = self.serve(line, files={"pages": file_of(*epochs(3), waits), "pages-wal": older})
         self.assertEqual(server.metrics()["faxgate_pages_kept"], 2)
         until(lambda: called.pages, what="a page")
         until(lambda: not self.pages_in(server, "pages-wal"), what="that the older file is cleared")
@@ -235,14 +240,28 @@ class FilesTakeTurns(Spooling):
         until(lambda: not self.pages_in(server, "pages"), what="that the other file is cleared")
 
 
+    def test_a_harmed_epoch_leaves_the_order(self):
+        """The same, where the first record of the newer file is damaged: its epoch is told by the second one."""
+        line = Line(self.ports)
+        older = file_of(*epochs(1), page(b"a1", 1, 0, 1, kept(ROW)))
+        newer = bytearray(file_of(*epochs(3), page(b"a1", 3, 0, 1, kept(OTHER_ROW))))
+        newer[HEADER] ^= 1
+        called = self.called(line, calls=2)
+        server = self.serve(line, files={"pages": bytes(newer), "pages-wal": older})
+        counts = server.metrics()
+        self.assertEqual((counts["faxgate_records_damaged_total"], counts["faxgate_pages_kept"]), (1, 2))
+        called.end()
+        self.assertEqual(called.pages, [t4.text(ROW), t4.text(OTHER_ROW)])
+
+
 class DamagedRecords(Spooling):
     # three pages of a call, each a job
     PAGES = [page(b"a1", 1, 0, number, kept(ROW if number == 3 else OTHER_ROW), tag=b"t") for number in (1, 2, 3)]
 
     def damaged(self, at):
         """The file, in which an octet of what is sealed of the second page is another; below 0 one of its header."""
-        octets = bytearray(file_of(epoch(1), *self.PAGES))
-        octets[len(file_of(epoch(1), self.PAGES[0])) - len(SHUT) + HEADER + at] ^= 1
+        octets = bytearray(file_of(*epochs(1), *self.PAGES))
+        octets[len(file_of(*epochs(1), self.PAGES[0])) - len(SHUT) + HEADER + at] ^= 1
         return bytes(octets)
 
     def test_they_are_set_aside(self):
@@ -309,7 +328,7 @@ class AFullDisk(Spooling):
         server = self.serve(line)
         events, called = server.events(), self.called(line, calls=2)
         pages = [t4.text(ROW), t4.text(OTHER_ROW)]
-        self.limit(server, len(file_of(epoch(1), page(b"a1", 1, 0, 1, kept(ROW), False))) + 20)
+        self.limit(server, len(file_of(*epochs(1), page(b"a1", 1, 0, 1, kept(ROW), False))) + 20)
         self.refused(server, line, 0, pages, 1)
         # the leg is mute no more, and still nothing is kept
         self.refused(server, line, 1, pages[:1], 0)
@@ -354,7 +373,7 @@ class PagesOfASlot(Spooling):
         server = self.serve(*lines)
         self.silent(lines[0]), self.silent(lines[SLOTS])
         if fails:
-            self.limit(server, len(file_of(epoch(1))) + 10)
+            self.limit(server, len(file_of(*epochs(1))) + 10)
         leg = TwinLeg(lines[0], lines[SLOTS])
         machine = self.stack.enter_context(t38.Calling(leg, [PAGE], t4=SHORT_T4))
         client = server.client()

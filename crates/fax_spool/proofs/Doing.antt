@@ -5,17 +5,16 @@ use Rattle.std.proofs.lemmas.List.{append-nil}
 use Rattle.fax_spool.specs.RecordOctets.{PageValue}
 use Rattle.fax_spool.specs.KeptRecords.{kept_of}
 use Rattle.fax_spool.specs.Waits.{after, waiting}
-use Rattle.fax_spool.specs.Spools.{AreInOrder, IsOrderFound, Keeps, MayLeaveBoth, NoneIsLeft, TellBoth, epoch_of}
+use Rattle.fax_spool.specs.Spools.{AreAbove, AreInOrder, IsOrderFound, Keeps, MayLeaveBoth, NoneIsLeft, TellBoth, epoch_records, greatest_epoch}
 use Rattle.fax_spool.specs.Calls.{Answered, Call, Does, DoneButOne, EachCrashTells, IsAsBefore, OneWithoutAnOk, Refuses, Rests, TellWaits, WereMade, done_by, done_by_all}
 use Rattle.fax_spool.specs.Calls.{Turns}
 use Rattle.fax_spool.specs.declared.kept_record.KeptRecord.{KeptRecord}
-use Rattle.fax_spool.specs.declared.kept_record.KeptRecord.TheVariants.{Epoch}
 use Rattle.fax_spool.specs.Settled.{IsSettled}
 use Rattle.fax_spool.specs.declared.file.RecordFile.{RecordFile}
 use Rattle.fax_spool.specs.declared.spool.Spool.{Spool}
-use Rattle.fax_spool.proofs.Order.{order_stays}
+use Rattle.fax_spool.proofs.Order.{order_changed, order_found, order_stays}
 use Rattle.fax_spool.proofs.Shares.{shares}
-use Rattle.fax_spool.proofs.SpoolSteps.{at_rest, waiting_pages, waiting_push}
+use Rattle.fax_spool.proofs.SpoolSteps.{at_rest, waiting_epochs, waiting_pages, waiting_push}
 
 -- ---- what waits behind more records
 
@@ -28,21 +27,21 @@ one_more r olds news = ap (λ (l : List KeptRecord). waiting l) (sym (append_ass
 pub none_gone : (olds news : List KeptRecord) → NoneIsLeft olds news → waiting news ≡ waiting (olds ++ news)
 none_gone olds news none = sym (shares olds news ∙ ap (λ (l : List PageValue). l ++ waiting news) none)
 
-pub more_epoch : (olds news : List KeptRecord) (n : ℕ) → olds ≡ [] → waiting (news ++ Epoch n ∷ []) ≡ waiting (olds ++ news)
-more_epoch olds news n none = waiting_push [] news (Epoch n) ∙ sym (ap (λ (l : List KeptRecord). waiting (l ++ news)) none)
+pub more_epoch : (olds news : List KeptRecord) (n : ℕ) → olds ≡ [] → waiting (news ++ epoch_records n) ≡ waiting (olds ++ news)
+more_epoch olds news n none = waiting_epochs [] news n ∙ sym (ap (λ (l : List KeptRecord). waiting (l ++ news)) none)
 
 -- what the files tell behind a crash as a file is cleared
 pub told_cleared : (older newer : List ℕ) (olds news : List KeptRecord) → TellBoth older newer olds news ⊎ (NoneIsLeft olds news × TellBoth older newer [] news)
     → AreInOrder olds news → (os : List KeptRecord) × (ns : List KeptRecord) × TellBoth older newer os ns × IsOrderFound os ns × (waiting (os ++ ns) ≡ waiting (olds ++ news))
-told_cleared older newer olds news (inl tell) order = (olds, news, tell, inr order, refl)
+told_cleared older newer olds news (inl tell) order = (olds, news, tell, order_found olds news order, refl)
 told_cleared older newer olds news (inr tell) order = ([], news, tell.1, inr (inl refl), none_gone olds news tell.0)
 
 -- and as the other one is taken into use
-pub told_changed : (older newer : List ℕ) (olds news : List KeptRecord) (n : ℕ) → olds ≡ [] → TellBoth older newer olds news ⊎ TellBoth older newer news [] ⊎ TellBoth older newer news (Epoch n ∷ [])
-    → epoch_of news < n → (os : List KeptRecord) × (ns : List KeptRecord) × TellBoth older newer os ns × IsOrderFound os ns × (waiting (os ++ ns) ≡ waiting (olds ++ news))
+pub told_changed : (older newer : List ℕ) (olds news : List KeptRecord) (n : ℕ) → olds ≡ [] → TellBoth older newer olds news ⊎ TellBoth older newer news [] ⊎ TellBoth older newer news (epoch_records n)
+    → greatest_epoch news < n → (os : List KeptRecord) × (ns : List KeptRecord) × TellBoth older newer os ns × IsOrderFound os ns × (waiting (os ++ ns) ≡ waiting (olds ++ news))
 told_changed older newer olds news n none (inl tell) low = (olds, news, tell, inr (inl none), refl)
 told_changed older newer olds news n none (inr (inl tell)) low = (news, [], tell, inl refl, ap (λ (l : List KeptRecord). waiting l) (append-nil news) ∙ sym (ap (λ (l : List KeptRecord). waiting (l ++ news)) none))
-told_changed older newer olds news n none (inr (inr tell)) low = (news, Epoch n ∷ [], tell, inr (inr low), more_epoch olds news n none)
+told_changed older newer olds news n none (inr (inr tell)) low = (news, epoch_records n, tell, order_found news (epoch_records n) (order_changed news n low), more_epoch olds news n none)
 
 module _ {D : Type 0} (seen : D → List ℕ) (may_leave : D → List ℕ → Type 0) (is_usable : D → Bool) (old new : Spool D) where
   told_so : (call : Call) (waits : List PageValue) (older newer : List ℕ) (olds news : List KeptRecord) → TellBoth older newer olds news → IsOrderFound olds news → (P : List PageValue → Type 0) → P (waiting (olds ++ news))
@@ -52,7 +51,7 @@ module _ {D : Type 0} (seen : D → List ℕ) (may_leave : D → List ℕ → Ty
   pub rests_told : (waits : List PageValue) → Rests seen may_leave is_usable old waits → EachCrashTells may_leave old (λ told. told ≡ waits)
   rests_told waits rests = λ older newer left. (
     waits,
-    record { olds = rests.olds; news = rests.news; tell = at_rest seen may_leave is_usable old old rests.olds rests.news rests.kept older newer left; in_order = inr rests.in_order; wait = rests.wait },
+    record { olds = rests.olds; news = rests.news; tell = at_rest seen may_leave is_usable old old rests.olds rests.news rests.kept older newer left; in_order = order_found rests.olds rests.news rests.in_order; wait = rests.wait },
     refl,
   )
 
@@ -101,14 +100,14 @@ module _ {D : Type 0} (seen : D → List ℕ) (may_leave : D → List ℕ → Ty
   }
 
   -- these records were put
-  module _ (call : Call) (more : List KeptRecord) (adds : (olds news : List KeptRecord) → waiting (olds ++ (news ++ more)) ≡ done_by call (waiting (olds ++ news))) (speaks : old.refuses ≡ false) where
+  module _ (call : Call) (more : List KeptRecord) (adds : (olds news : List KeptRecord) → waiting (olds ++ (news ++ more)) ≡ done_by call (waiting (olds ++ news))) (no_epoch : (n : ℕ) → AreAbove n more) (speaks : old.refuses ≡ false) where
     pub does_put : ((olds news : List KeptRecord) → Keeps seen may_leave is_usable old olds news → Keeps seen may_leave is_usable new olds (news ++ more)) → Does seen may_leave is_usable call true old new
     does_put put = record {
       done = λ ok waits rests. record {
         olds = rests.olds;
         news = rests.news ++ more;
         kept = put rests.olds rests.news rests.kept;
-        in_order = order_stays rests.olds rests.news more rests.in_order;
+        in_order = order_stays rests.olds rests.news more (no_epoch (greatest_epoch rests.olds)) rests.in_order;
         wait = adds rests.olds rests.news ∙ ap (λ (l : List PageValue). done_by call l) rests.wait;
       };
       left = λ err. cc;
@@ -121,10 +120,10 @@ module _ {D : Type 0} (seen : D → List ℕ) (may_leave : D → List ℕ → Ty
     may_have_put crash refuses = record {
       done = λ ok. cc;
       left = λ err waits rests older newer left. elim (crash rests.olds rests.news rests.kept older newer left) [
-        | inl tell ↦ (waits, record { olds = rests.olds; news = rests.news; tell = tell; in_order = inr rests.in_order; wait = rests.wait }, inl refl)
+        | inl tell ↦ (waits, record { olds = rests.olds; news = rests.news; tell = tell; in_order = order_found rests.olds rests.news rests.in_order; wait = rests.wait }, inl refl)
         | inr tell ↦ (
           done_by call waits,
-          record { olds = rests.olds; news = rests.news ++ more; tell = tell; in_order = inr (order_stays rests.olds rests.news more rests.in_order); wait = adds rests.olds rests.news ∙ ap (λ (l : List PageValue). done_by call l) rests.wait },
+          record { olds = rests.olds; news = rests.news ++ more; tell = tell; in_order = order_found rests.olds (rests.news ++ more) (order_stays rests.olds rests.news more (no_epoch (greatest_epoch rests.olds)) rests.in_order); wait = adds rests.olds rests.news ∙ ap (λ (l : List PageValue). done_by call l) rests.wait },
           inr refl,
         )
       ];

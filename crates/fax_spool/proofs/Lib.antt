@@ -15,4 +15,5 @@ mod Openings
 mod Told
 mod TornCalls
 mod Lost
+mod Harming
 mod Doing

@@ -1,16 +1,15 @@
 -- What an opening finds behind a crash.
-use Rattle.std.proofs.Common.{◌≡◌, ◌⊎◌, ◌<◌, inl, inr, ℕ, zero, suc, Bool, List, [], ◌∷◌, ◌++◌, refl, sym, ◌∙◌, ap, subst, arith, append_assoc}
+use Rattle.std.proofs.Common.{◌≡◌, ◌⊎◌, inl, inr, ℕ, zero, suc, Bool, List, [], ◌++◌, refl, sym, ◌∙◌, ap, subst, append_assoc}
 use Rattle.fax_spool.specs.RecordOctets.{PageValue}
 use Rattle.fax_spool.specs.Waits.{waiting}
-use Rattle.fax_spool.specs.Spools.{Tells, epoch_now, epoch_of}
+use Rattle.fax_spool.specs.Spools.{Tells, epoch_now, epoch_records}
 use Rattle.fax_spool.specs.Calls.{CrashesLeaveWhatWaits, NewSpoolsTellNone, TellWaits}
 use Rattle.fax_spool.specs.Stopped.{IsLeftByOpening, OpeningsLeaveTheirEpoch, StoppedOpeningsLeaveWhatWaits}
 use Rattle.fax_spool.specs.Opened.{AreBoth, OpeningsFindWhatCrashesLeave, closed, newer_of, older_of}
 use Rattle.fax_spool.specs.declared.kept_record.KeptRecord.{KeptRecord}
-use Rattle.fax_spool.specs.declared.kept_record.KeptRecord.TheVariants.{Epoch}
 use Rattle.fax_spool.proofs.Doing.{rests_told}
-use Rattle.fax_spool.proofs.Order.{AreFound, are_found, order_begins}
-use Rattle.fax_spool.proofs.SpoolSteps.{at_rest, first_within, waiting_push}
+use Rattle.fax_spool.proofs.Order.{AreFound, are_found, order_begins, order_found}
+use Rattle.fax_spool.proofs.SpoolSteps.{at_rest, waiting_epochs}
 use Rattle.fax_spool.proofs.Told.{tells_one_list}
 
 read_again : (file other : List ℕ) (records found : List KeptRecord) → other ≡ file → Tells file records → Tells other found → found ≡ records
@@ -24,24 +23,22 @@ are_read older newer one other olds news ones others (inl are) first second read
 are_read older newer one other olds news ones others (inr are) first second read read_other =
     inr (read_again newer one news ones are.0 second read, read_again older other olds others are.1 first read_other)
 
--- behind the record of an epoch the same pages wait
-with_epoch : (olds news : List KeptRecord) (number : ℕ) → waiting (olds ++ (news ++ Epoch number ∷ [])) ≡ waiting (olds ++ news)
-with_epoch olds news number = ap (λ (l : List KeptRecord). waiting l) (sym (append_assoc olds news (Epoch number ∷ []))) ∙ waiting_push [] (olds ++ news) (Epoch number)
+-- behind the records of an epoch the same pages wait
+with_epoch : (olds news : List KeptRecord) (number : ℕ) → waiting (olds ++ (news ++ epoch_records number)) ≡ waiting (olds ++ news)
+with_epoch olds news number = ap (λ (l : List KeptRecord). waiting l) (sym (append_assoc olds news (epoch_records number))) ∙ waiting_epochs [] (olds ++ news) number
 
 pub openings_find_what_crashes_leave : {D : Type 0} (seen : D → List ℕ) (may_leave : D → List ℕ → Type 0) (is_usable : D → Bool) → OpeningsFindWhatCrashesLeave seen may_leave is_usable
 openings_find_what_crashes_leave seen may_leave is_usable older newer one other pages opened tell both is =
     let olds : List KeptRecord = older_of is.ones is.others in
     let news : List KeptRecord = newer_of is.ones is.others in
-    let epoch : KeptRecord = Epoch (epoch_now opened.spool) in
     let found : AreFound tell.olds tell.news olds news = are_found tell.olds tell.news is.ones is.others
     (are_read older newer one other tell.olds tell.news is.ones is.others both tell.tell.0 tell.tell.1 is.one_tells is.other_tells) tell.in_order in
-    let low : epoch_of olds < epoch_now opened.spool = omega (arith, first_within olds, is.older_epochs) in
     let wait : waiting (olds ++ news) ≡ pages = found.wait ∙ tell.wait in (
       record {
         olds = olds;
-        news = news ++ epoch ∷ [];
+        news = news ++ epoch_records (epoch_now opened.spool);
         kept = is.keeps;
-        in_order = order_begins olds news (epoch_now opened.spool) low found.order;
+        in_order = order_begins olds news (epoch_now opened.spool) is.older_epochs found.order;
         wait = with_epoch olds news (epoch_now opened.spool) ∙ wait;
       },
       is.pages ∙ ap closed wait,
@@ -62,14 +59,13 @@ left_by_one older newer one other last_older last_newer pages tell both is =
     let news : List KeptRecord = newer_of is.ones is.others in
     let found : AreFound tell.olds tell.news olds news = are_found tell.olds tell.news is.ones is.others
     (are_read older newer one other tell.olds tell.news is.ones is.others both tell.tell.0 tell.tell.1 is.one_tells is.other_tells) tell.in_order in
-    let low : epoch_of olds < is.number = omega (arith, first_within olds, is.older_epochs) in
     elim is.left [
       | inl same ↦ record { olds = olds; news = news; tell = same; in_order = found.order; wait = found.wait ∙ tell.wait }
       | inr more ↦ record {
         olds = olds;
-        news = news ++ Epoch is.number ∷ [];
+        news = news ++ epoch_records is.number;
         tell = more;
-        in_order = inr (order_begins olds news is.number low found.order);
+        in_order = order_found olds (news ++ epoch_records is.number) (order_begins olds news is.number is.older_epochs found.order);
         wait = with_epoch olds news is.number ∙ found.wait ∙ tell.wait;
       }
     ]
@@ -92,5 +88,5 @@ openings_leave_their_epoch seen may_leave is_usable one other older newer opened
       number = epoch_now opened.spool;
       older_epochs = is.older_epochs;
       newer_epochs = is.newer_epochs;
-      left = inr (at_rest seen may_leave is_usable opened.spool opened.spool olds (news ++ Epoch (epoch_now opened.spool) ∷ []) is.keeps older newer left);
+      left = inr (at_rest seen may_leave is_usable opened.spool opened.spool olds (news ++ epoch_records (epoch_now opened.spool)) is.keeps older newer left);
     }

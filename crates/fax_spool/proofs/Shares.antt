@@ -20,7 +20,7 @@ after-append a b (Ended ended) = without-append ended a b
 after-append a b (Epoch number) = refl
 after-append a b Damaged = refl
 
-splits : (a b : List PageValue) (records : List KeptRecord) → waiting_behind (a ++ b) records ≡ left_behind a records ++ waiting_behind b records
+pub splits : (a b : List PageValue) (records : List KeptRecord) → waiting_behind (a ++ b) records ≡ left_behind a records ++ waiting_behind b records
 splits a b [] = refl
 splits a b (r ∷ records) =
     ap (λ (l : List PageValue). waiting_behind l records) (after-append a b r) ∙ splits (left_of a r) (after b r) records

@@ -7,7 +7,7 @@ use Rattle.fax_spool.specs.Settled.{IsSettled}
 use Rattle.fax_spool.specs.RecordOctets.{PageValue, EndedValue}
 use Rattle.fax_spool.specs.KeptRecords.{IsReadAs, AreReadAs, kept_of}
 use Rattle.fax_spool.specs.Waits.{PageName, name_of, ends, without, left_of, after, left_behind, waiting_behind, waiting}
-use Rattle.fax_spool.specs.Spools.{epoch_of, greatest_behind, greatest_epoch, Tells, MayLeaveBoth, Keeps, NoneIsLeft, TellBoth}
+use Rattle.fax_spool.specs.Spools.{epoch_of, epoch_records, greatest_behind, greatest_epoch, raised, Tells, MayLeaveBoth, Keeps, NoneIsLeft, TellBoth}
 use Rattle.fax_spool.specs.declared.file.RecordFile.{RecordFile}
 use Rattle.fax_spool.specs.declared.spool.Spool.{Spool}
 use Rattle.fax_spool.specs.declared.kept_record.KeptRecord.{KeptRecord}
@@ -45,13 +45,27 @@ waiting_pages waits [] [] = sym (append-nil waits)
 waiting_pages waits [] (p ∷ pages) = waiting_pages (waits ++ p ∷ []) [] pages ∙ append_assoc waits (p ∷ []) pages
 waiting_pages waits (q ∷ records) pages = waiting_pages (after waits q) records pages
 
-epoch_pages : (records : List KeptRecord) (pages : List PageValue) (most : ℕ) → epoch_of records ≤ most → epoch_of (records ++ map kept_of pages) ≤ most
-epoch_pages [] [] most was = was
-epoch_pages [] (p ∷ pages) most was = omega arith
-epoch_pages (Page page ∷ records) pages most was = was
-epoch_pages (Ended ended ∷ records) pages most was = was
-epoch_pages (Epoch number ∷ records) pages most was = was
-epoch_pages (Damaged ∷ records) pages most was = was
+greatest_pages : (records : List KeptRecord) (pages : List PageValue) (most : ℕ) → greatest_behind most (records ++ map kept_of pages) ≡ greatest_behind most records
+greatest_pages [] [] most = refl
+greatest_pages [] (p ∷ pages) most = greatest_pages [] pages most
+greatest_pages (r ∷ records) pages most = greatest_pages records pages (raised most r)
+
+greatest_push : (records : List KeptRecord) (r : KeptRecord) (most : ℕ) → greatest_behind most (records ++ r ∷ []) ≡ raised (greatest_behind most records) r
+greatest_push [] r most = refl
+greatest_push (q ∷ records) r most = greatest_push records r (raised most q)
+
+greatest_epochs : (records : List KeptRecord) (number most : ℕ) → greatest_behind most (records ++ epoch_records number) ≡ max (max (greatest_behind most records) number) number
+greatest_epochs [] number most = refl
+greatest_epochs (r ∷ records) number most = greatest_epochs records number (raised most r)
+
+-- the records of an epoch end no page, and no page waits by them
+left_epochs : (pages : List PageValue) (records : List KeptRecord) (number : ℕ) → left_behind pages (records ++ epoch_records number) ≡ left_behind pages records
+left_epochs pages [] number = refl
+left_epochs pages (r ∷ records) number = left_epochs (left_of pages r) records number
+
+pub waiting_epochs : (pages : List PageValue) (records : List KeptRecord) (number : ℕ) → waiting_behind pages (records ++ epoch_records number) ≡ waiting_behind pages records
+waiting_epochs pages [] number = refl
+waiting_epochs pages (r ∷ records) number = waiting_epochs (after pages r) records number
 
 pub read_none : (records : List KeptRecord) → AreReadAs [] records → records ≡ []
 read_none [] are = refl
@@ -91,12 +105,11 @@ pub no_names : (pages : List PageValue) → map name_of pages ≡ [] → pages �
 no_names [] none = refl
 no_names (p ∷ pages) none = cc none
 
-epoch_push : (records : List KeptRecord) (r : KeptRecord) (most : ℕ) → epoch_of records ≤ most → epoch_of (r ∷ []) ≤ most → epoch_of (records ++ r ∷ []) ≤ most
-epoch_push [] r most was is = is
-epoch_push (Page page ∷ records) r most was is = was
-epoch_push (Ended ended ∷ records) r most was is = was
-epoch_push (Epoch number ∷ records) r most was is = was
-epoch_push (Damaged ∷ records) r most was is = was
+epoch_push : (records : List KeptRecord) (r : KeptRecord) (most : ℕ) → greatest_epoch records ≤ most → greatest_epoch (r ∷ []) ≤ most → greatest_epoch (records ++ r ∷ []) ≤ most
+epoch_push records (Page page) most was is = omega (arith, greatest_push records (Page page) 0, was)
+epoch_push records (Ended ended) most was is = omega (arith, greatest_push records (Ended ended) 0, was)
+epoch_push records (Epoch number) most was is = omega (arith, greatest_push records (Epoch number) 0, was, is)
+epoch_push records Damaged most was is = omega (arith, greatest_push records Damaged 0, was)
 
 grows : (most : ℕ) (records : List KeptRecord) → most ≤ greatest_behind most records
 grows most [] = omega arith
@@ -105,12 +118,15 @@ grows most (Ended ended ∷ records) = grows most records
 grows most (Epoch number ∷ records) = omega (arith, grows (max most number) records)
 grows most (Damaged ∷ records) = grows most records
 
+within_behind : (most : ℕ) (records : List KeptRecord) → epoch_of records ≤ greatest_behind most records
+within_behind most [] = omega arith
+within_behind most (Page page ∷ records) = within_behind most records
+within_behind most (Ended ended ∷ records) = within_behind most records
+within_behind most (Epoch number ∷ records) = omega (arith, grows (max most number) records)
+within_behind most (Damaged ∷ records) = within_behind most records
+
 pub first_within : (records : List KeptRecord) → epoch_of records ≤ greatest_epoch records
-first_within [] = omega arith
-first_within (Page page ∷ records) = omega arith
-first_within (Ended ended ∷ records) = omega arith
-first_within (Epoch number ∷ records) = omega (arith, grows (max 0 number) records)
-first_within (Damaged ∷ records) = omega arith
+first_within records = within_behind 0 records
 
 -- two files that were recovered
 pub begun : {D : Type 0} (seen : D → List ℕ) (may_leave : D → List ℕ → Type 0) (is_usable : D → Bool) (spool : Spool D) (olds news : List KeptRecord) (older_items newer_items : List (List ℕ))
@@ -127,7 +143,7 @@ begun seen may_leave is_usable spool olds news older_items newer_items older old
   newer_read = news_read;
   older_waits = older_names;
   newer_waits = newer_names;
-  epoch = omega (arith, most, first_within news);
+  epoch = most;
 }
 
 module _ {D : Type 0} (seen : D → List ℕ) (may_leave : D → List ℕ → Type 0) (is_usable : D → Bool) (old new : Spool D) (olds news : List KeptRecord) (k : Keeps seen may_leave is_usable old olds news) where
@@ -146,7 +162,7 @@ module _ {D : Type 0} (seen : D → List ℕ) (may_leave : D → List ℕ → Ty
       → IsSettled seen may_leave is_usable new.newer.disk new.newer.end (k.newer_items ++ item ∷ [])
       → new.older_pages.items ≡ map name_of (left_of (left_behind (waiting olds) news) r)
       → new.newer_pages.items ≡ map name_of (after (waiting news) r)
-      → old.epoch ≤ new.epoch → epoch_of (r ∷ []) ≤ new.epoch → Keeps seen may_leave is_usable new olds (news ++ r ∷ [])
+      → old.epoch ≤ new.epoch → greatest_epoch (r ∷ []) ≤ new.epoch → Keeps seen may_leave is_usable new olds (news ++ r ∷ [])
   keeps_more item r is same settled older newer grows epoch = record {
     older_items = k.older_items;
     newer_items = k.newer_items ++ item ∷ [];
@@ -183,7 +199,7 @@ module _ {D : Type 0} (seen : D → List ℕ) (may_leave : D → List ℕ → Ty
     newer_read = read_append k.newer_items items news (map kept_of pages) k.newer_read are;
     older_waits = older ∙ k.older_waits ∙ sym (ap (λ (l : List PageValue). map name_of l) (left_pages (waiting olds) news pages));
     newer_waits = newer ∙ ap (λ (l : List PageName). l ++ map name_of pages) k.newer_waits ∙ sym (map-append name_of (waiting news) pages) ∙ sym (ap (λ (l : List PageValue). map name_of l) (waiting_pages [] news pages));
-    epoch = omega (arith, epoch_pages news pages old.epoch k.epoch, epoch);
+    epoch = omega (arith, greatest_pages news pages 0, k.epoch, epoch);
   }
 
   pub leaves_pages : (items : List (List ℕ)) (pages : List PageValue) → AreReadAs items (map kept_of pages) → new.older ≡ old.older
@@ -195,6 +211,23 @@ module _ {D : Type 0} (seen : D → List ℕ) (may_leave : D → List ℕ → Ty
         | inl stands ↦ inl (first, record { items = k.newer_items; stands = stands; read = k.newer_read })
         | inr stands ↦ inr (first, record { items = k.newer_items ++ items; stands = stands; read = read_append k.newer_items items news (map kept_of pages) k.newer_read are })
       ]
+
+  -- the records of an epoch
+  pub keeps_epochs : (items : List (List ℕ)) (number : ℕ) → AreReadAs items (epoch_records number) → new.older ≡ old.older
+      → IsSettled seen may_leave is_usable new.newer.disk new.newer.end (k.newer_items ++ items)
+      → new.older_pages.items ≡ old.older_pages.items → new.newer_pages.items ≡ old.newer_pages.items → old.epoch ≤ new.epoch → number ≤ new.epoch
+      → Keeps seen may_leave is_usable new olds (news ++ epoch_records number)
+  keeps_epochs items number are same settled older newer grow epoch = record {
+    older_items = k.older_items;
+    newer_items = k.newer_items ++ items;
+    older = subst (λ (f : RecordFile D). IsSettled seen may_leave is_usable f.disk f.end k.older_items) (sym same) k.older;
+    newer = settled;
+    older_read = k.older_read;
+    newer_read = read_append k.newer_items items news (epoch_records number) k.newer_read are;
+    older_waits = older ∙ k.older_waits ∙ sym (ap (λ (l : List PageValue). map name_of l) (left_epochs (waiting olds) news number));
+    newer_waits = newer ∙ k.newer_waits ∙ sym (ap (λ (l : List PageValue). map name_of l) (waiting_epochs [] news number));
+    epoch = omega (arith, k.epoch, grow, epoch, greatest_epochs news number 0);
+  }
 
   -- no page of the older file waits
   pub none_waits : old.older_pages.items ≡ [] → NoneIsLeft olds news
@@ -231,29 +264,29 @@ module _ {D : Type 0} (seen : D → List ℕ) (may_leave : D → List ℕ → Ty
   pub none_told : old.older.end ≡ 0 → olds ≡ []
   none_told empty = read_none olds (subst (λ (l : List (List ℕ)). AreReadAs l olds) (none_there empty) k.older_read)
 
-  -- the older file is the newer one now, with the record of an epoch
-  pub keeps_changed : old.older.end ≡ 0 → (item : List ℕ) (number : ℕ) → IsReadAs item (Epoch number) → new.older ≡ old.newer
-      → ((rs : List (List ℕ)) → IsSettled seen may_leave is_usable old.older.disk old.older.end rs → IsSettled seen may_leave is_usable new.newer.disk new.newer.end (rs ++ item ∷ []))
+  -- the older file is the newer one now, with the records of an epoch
+  pub keeps_changed : old.older.end ≡ 0 → (items : List (List ℕ)) (number : ℕ) → AreReadAs items (epoch_records number) → new.older ≡ old.newer
+      → ((rs : List (List ℕ)) → IsSettled seen may_leave is_usable old.older.disk old.older.end rs → IsSettled seen may_leave is_usable new.newer.disk new.newer.end (rs ++ items))
       → new.older_pages.items ≡ old.newer_pages.items → new.newer_pages.items ≡ old.older_pages.items → number ≤ new.epoch
-      → Keeps seen may_leave is_usable new news (Epoch number ∷ [])
-  keeps_changed empty item number is same settled older newer epoch = record {
+      → Keeps seen may_leave is_usable new news (epoch_records number)
+  keeps_changed empty items number are same settled older newer epoch = record {
     older_items = k.newer_items;
-    newer_items = item ∷ [];
+    newer_items = items;
     older = subst (λ (f : RecordFile D). IsSettled seen may_leave is_usable f.disk f.end k.newer_items) (sym same) k.newer;
-    newer = subst (λ (l : List (List ℕ)). IsSettled seen may_leave is_usable new.newer.disk new.newer.end (l ++ item ∷ [])) (none_there empty) (settled k.older_items k.older);
+    newer = subst (λ (l : List (List ℕ)). IsSettled seen may_leave is_usable new.newer.disk new.newer.end (l ++ items)) (none_there empty) (settled k.older_items k.older);
     older_read = k.newer_read;
-    newer_read = (is, tt);
+    newer_read = are;
     older_waits = older ∙ k.newer_waits;
     newer_waits = newer ∙ k.older_waits ∙ ap (λ (l : List KeptRecord). map name_of (left_behind (waiting l) news)) (none_told empty) ∙ ap (λ (l : List PageValue). map name_of l) (none_left news);
-    epoch = epoch;
+    epoch = omega (arith, epoch);
   }
 
-  pub leaves_changed : old.older.end ≡ 0 → (item : List ℕ) (number : ℕ) → IsReadAs item (Epoch number) → new.older ≡ old.newer
-      → ((rs : List (List ℕ)) → IsSettled seen may_leave is_usable old.older.disk old.older.end rs → (c : List ℕ) → may_leave new.newer.disk c → Stands c rs ⊎ Stands c (rs ++ item ∷ []))
-      → (older newer : List ℕ) → MayLeaveBoth may_leave new older newer → TellBoth older newer news [] ⊎ TellBoth older newer news (Epoch number ∷ [])
-  leaves_changed empty item number is same crash older newer left =
+  pub leaves_changed : old.older.end ≡ 0 → (items : List (List ℕ)) (number : ℕ) → AreReadAs items (epoch_records number) → new.older ≡ old.newer
+      → ((rs : List (List ℕ)) → IsSettled seen may_leave is_usable old.older.disk old.older.end rs → (c : List ℕ) → may_leave new.newer.disk c → Stands c rs ⊎ Stands c (rs ++ items))
+      → (older newer : List ℕ) → MayLeaveBoth may_leave new older newer → TellBoth older newer news [] ⊎ TellBoth older newer news (epoch_records number)
+  leaves_changed empty items number are same crash older newer left =
       let first : Tells older news = newer_tells older (subst (λ (f : RecordFile D). may_leave f.disk older) same left.0) in
       elim (crash k.older_items k.older newer left.1) [
         | inl stands ↦ inl (first, record { items = []; stands = subst (λ (l : List (List ℕ)). Stands newer l) (none_there empty) stands; read = tt })
-        | inr stands ↦ inr (first, record { items = item ∷ []; stands = subst (λ (l : List (List ℕ)). Stands newer (l ++ item ∷ [])) (none_there empty) stands; read = (is, tt) })
+        | inr stands ↦ inr (first, record { items = items; stands = subst (λ (l : List (List ℕ)). Stands newer (l ++ items)) (none_there empty) stands; read = are })
       ]

@@ -1,7 +1,9 @@
 -- Records of which some are found damaged. (This project's profile.)
-use Rattle.std.specs.Prelude.{◌≡◌, ◌⊎◌, ◌<◌, Bool, true, false, ◌&&◌, nat_eq, List, [], ◌∷◌}
+use Rattle.std.specs.Prelude.{◌≡◌, ◌⊎◌, ◌<◌, ◌≤◌, Bool, true, false, ◌&&◌, nat_eq, List, [], ◌∷◌, ◌++◌}
 use Rattle.std.specs.List.{Contains, list_any}
 use Rattle.fax_spool.specs.RecordOctets.{PageValue}
+use Rattle.fax_spool.specs.Spools.{AreInOrder, IsOrderFound, epochs}
+use Rattle.fax_spool.specs.Waits.{left_behind, waiting, without}
 use Rattle.fax_spool.specs.Torn.{is_next, is_of_any, same_call, torn_calls}
 use Rattle.fax_spool.specs.declared.kept_record.KeptRecord.{KeptRecord}
 use Rattle.fax_spool.specs.declared.kept_record.KeptRecord.TheVariants.{Page, Ended, Epoch, Damaged}
@@ -11,6 +13,35 @@ abbrev pub IsHarmed : List KeptRecord → List KeptRecord → Type 0
 IsHarmed [] [] = Unit {0}
 IsHarmed (r ∷ records) (f ∷ found) = ((f ≡ r) ⊎ (f ≡ Damaged)) × IsHarmed records found
 IsHarmed records found = ⊥
+
+-- and of one of them at most
+abbrev pub IsHarmedOnce : List KeptRecord → List KeptRecord → Type 0
+IsHarmedOnce [] [] = Unit {0}
+IsHarmedOnce (r ∷ records) (f ∷ found) = ((f ≡ r) × IsHarmedOnce records found) ⊎ ((f ≡ Damaged) × (found ≡ records))
+IsHarmedOnce records found = ⊥
+
+-- HARM KEEPS THE ORDER OF THE FILES, whatever was harmed of the older one, and as long as a record of an epoch of the newer one can be
+-- read. (Where none can be, the newer one is taken for the older one.)
+abbrev pub HarmKeepsTheOrder : Type 0
+HarmKeepsTheOrder = (olds news older newer : List KeptRecord) → IsOrderFound olds news → IsHarmed olds older → IsHarmed news newer → 1 ≤ epochs newer → IsOrderFound older newer
+
+-- So harm of one record of the newer one does.
+abbrev pub OneHarmKeepsTheOrder : Type 0
+OneHarmKeepsTheOrder = (olds news older newer : List KeptRecord) → AreInOrder olds news → IsHarmed olds older → IsHarmedOnce news newer → IsOrderFound older newer
+
+-- the pages that wait by a record and those behind it, where these wait without it
+abbrev pub with_record : List PageValue → KeptRecord → List KeptRecord → List PageValue
+with_record pages (Page page) behind = pages ++ left_behind (page ∷ []) behind
+with_record pages (Ended ended) behind = without ended pages
+with_record pages (Epoch number) behind = pages
+with_record pages Damaged behind = pages
+
+-- A HARMED RECORD LOSES ITS OWN: of the pages that wait, that page alone lacks whose record it was; of a job's end, the pages of that
+-- job that stand before it wait again; and those that stand behind it wait as before. All have the order that they had.
+abbrev pub HarmLosesItsOwn : Type 0
+HarmLosesItsOwn =
+    (before behind : List KeptRecord) (r : KeptRecord)
+    → (first last : List PageValue) × (waiting (before ++ Damaged ∷ behind) ≡ first ++ last) × (waiting (before ++ r ∷ behind) ≡ with_record first r behind ++ last)
 
 -- the record is that of this page: of its call, and with its number
 abbrev pub is_page : PageValue → KeptRecord → Bool

@@ -7,12 +7,11 @@ use Rattle.fax_spool.specs.Calls.{Rests, TellWaits}
 use Rattle.fax_spool.specs.Found.{passed_over}
 use Rattle.fax_spool.specs.Torn.{torn_calls}
 use Rattle.fax_spool.specs.Waits.{waiting}
-use Rattle.fax_spool.specs.Spools.{Keeps, Tells, epoch_now, epoch_of, greatest_epoch}
+use Rattle.fax_spool.specs.Spools.{Keeps, Tells, epoch_now, epoch_of, epoch_records, greatest_epoch}
 use Rattle.fax_spool.specs.declared.kept_record.KeptRecord.{KeptRecord}
-use Rattle.fax_spool.specs.declared.kept_record.KeptRecord.TheVariants.{Epoch}
 use Rattle.fax_spool.specs.declared.opening.Opened.{Opened}
 
--- Of the records of two files those are the older ones whose first epoch has the smaller number.
+-- Of the records of two files those are the older ones of which the first epoch that can be read has the smaller number.
 abbrev pub comes_first : List KeptRecord → List KeptRecord → Bool
 comes_first one other = nat_le (epoch_of one) (epoch_of other)
 
@@ -38,7 +37,7 @@ pub record IsOpened {D : Type 0} (seen : D → List ℕ) (may_leave : D → List
   pub others : List KeptRecord
   pub one_tells : Tells one ones
   pub other_tells : Tells other others
-  pub keeps : Keeps seen may_leave is_usable opened.spool (older_of ones others) (newer_of ones others ++ Epoch (epoch_now opened.spool) ∷ [])
+  pub keeps : Keeps seen may_leave is_usable opened.spool (older_of ones others) (newer_of ones others ++ epoch_records (epoch_now opened.spool))
   pub older_epochs : greatest_epoch (older_of ones others) < epoch_now opened.spool
   pub newer_epochs : greatest_epoch (newer_of ones others) < epoch_now opened.spool
   pub pages : opened.pages.items ≡ closed (waiting (older_of ones others ++ newer_of ones others))

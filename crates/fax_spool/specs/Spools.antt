@@ -1,5 +1,5 @@
 -- A spool between two calls, and what a crash may leave of it. (This project's profile.)
-use Rattle.std.specs.Prelude.{◌≡◌, ◌⊎◌, ◌<◌, ◌≤◌, ℕ, max, Bool, IsTrue, List, [], ◌∷◌, map}
+use Rattle.std.specs.Prelude.{◌≡◌, ◌⊎◌, ◌<◌, ◌≤◌, ◌+◌, ℕ, max, Bool, IsTrue, List, [], ◌∷◌, map}
 use Rattle.fax_spool.specs.Records.{Stands}
 use Rattle.fax_spool.specs.Settled.{IsSettled}
 use Rattle.fax_spool.specs.KeptRecords.{AreReadAs}
@@ -9,13 +9,31 @@ use Rattle.fax_spool.specs.declared.kept_record.KeptRecord.TheVariants.{Page, En
 use Rattle.fax_spool.specs.declared.file.RecordFile.{RecordFile}
 use Rattle.fax_spool.specs.declared.spool.Spool.{Spool}
 
--- the epoch whose record stands first, 0 where none does
+-- the number of the first epoch that can be read, 0 where there is none
 abbrev pub epoch_of : List KeptRecord → ℕ
 epoch_of [] = 0
 epoch_of (Epoch number ∷ records) = number
-epoch_of (Page page ∷ records) = 0
-epoch_of (Ended ended ∷ records) = 0
-epoch_of (Damaged ∷ records) = 0
+epoch_of (Page page ∷ records) = epoch_of records
+epoch_of (Ended ended ∷ records) = epoch_of records
+epoch_of (Damaged ∷ records) = epoch_of records
+
+-- the greatest number of an epoch in these records, or the one before them
+abbrev pub raised : ℕ → KeptRecord → ℕ
+raised most (Epoch number) = max most number
+raised most (Page page) = most
+raised most (Ended ended) = most
+raised most Damaged = most
+
+abbrev pub greatest_behind : ℕ → List KeptRecord → ℕ
+greatest_behind most [] = most
+greatest_behind most (r ∷ records) = greatest_behind (raised most r) records
+
+abbrev pub greatest_epoch : List KeptRecord → ℕ
+greatest_epoch records = greatest_behind 0 records
+
+-- An epoch is put twice, so that harm of one record leaves the other.
+abbrev pub epoch_records : ℕ → List KeptRecord
+epoch_records number = Epoch number ∷ Epoch number ∷ []
 
 -- a file stands for these records
 pub record Tells (file : List ℕ) (records : List KeptRecord) : Type 0 where
@@ -41,7 +59,7 @@ pub record Keeps {D : Type 0} (seen : D → List ℕ) (may_leave : D → List �
   pub newer_read : AreReadAs newer_items news
   pub older_waits : spool.older_pages.items ≡ map name_of (left_behind (waiting olds) news)
   pub newer_waits : spool.newer_pages.items ≡ map name_of (waiting news)
-  pub epoch : epoch_of news ≤ spool.epoch
+  pub epoch : greatest_epoch news ≤ spool.epoch
 
 -- no wrong answer of either file was taken as true
 abbrev pub AreClean : {D : Type 0} → (D → Bool) → RecordFile D × RecordFile D → Type 0
@@ -54,31 +72,39 @@ NoneIsLeft olds news = left_behind (waiting olds) news ≡ []
 abbrev pub TellBoth : List ℕ → List ℕ → List KeptRecord → List KeptRecord → Type 0
 TellBoth older newer olds news = Tells older olds × Tells newer news
 
--- THE FILES ARE IN ORDER: the older one tells nothing, or its first epoch comes before that of the newer one.
-abbrev pub AreInOrder : List KeptRecord → List KeptRecord → Type 0
-AreInOrder olds news = (olds ≡ []) ⊎ (epoch_of olds < epoch_of news)
+-- how many records of epochs can be read
+abbrev pub epochs : List KeptRecord → ℕ
+epochs [] = 0
+epochs (Epoch number ∷ records) = epochs records + 1
+epochs (Page page ∷ records) = epochs records
+epochs (Ended ended ∷ records) = epochs records
+epochs (Damaged ∷ records) = epochs records
 
--- Which of two files is the older one is found by their first epochs; or one of them tells nothing, and so it makes no difference.
+-- the number of each of them is greater than this one
+abbrev pub AreAbove : ℕ → List KeptRecord → Type 0
+AreAbove n [] = Unit {0}
+AreAbove n (Epoch number ∷ records) = (n < number) × AreAbove n records
+AreAbove n (Page page ∷ records) = AreAbove n records
+AreAbove n (Ended ended ∷ records) = AreAbove n records
+AreAbove n (Damaged ∷ records) = AreAbove n records
+
+-- at least so many records of epochs of the newer file can be read, and all of them come behind those of the older one
+abbrev pub ComeBehind : ℕ → List KeptRecord → List KeptRecord → Type 0
+ComeBehind least olds news = (least ≤ epochs news) × AreAbove (greatest_epoch olds) news
+
+-- THE FILES ARE IN ORDER: the older one tells nothing, or the epochs of the newer one come behind its own, and two of their records can
+-- be read.
+abbrev pub AreInOrder : List KeptRecord → List KeptRecord → Type 0
+AreInOrder olds news = (olds ≡ []) ⊎ ComeBehind 2 olds news
+
+-- Which of two files is the older one is found by their first epochs, of which one record is enough; or one of them tells nothing, and
+-- so it makes no difference.
 abbrev pub IsOrderFound : List KeptRecord → List KeptRecord → Type 0
-IsOrderFound olds news = (news ≡ []) ⊎ AreInOrder olds news
+IsOrderFound olds news = (news ≡ []) ⊎ ((olds ≡ []) ⊎ ComeBehind 1 olds news)
 
 -- the greatest number of an epoch so far
 abbrev pub epoch_now : {D : Type 0} → Spool D → ℕ
 epoch_now spool = spool.epoch
-
--- the greatest number of an epoch in these records, or the one before them
-abbrev pub raised : ℕ → KeptRecord → ℕ
-raised most (Epoch number) = max most number
-raised most (Page page) = most
-raised most (Ended ended) = most
-raised most Damaged = most
-
-abbrev pub greatest_behind : ℕ → List KeptRecord → ℕ
-greatest_behind most [] = most
-greatest_behind most (r ∷ records) = greatest_behind (raised most r) records
-
-abbrev pub greatest_epoch : List KeptRecord → ℕ
-greatest_epoch records = greatest_behind 0 records
 
 -- its files, the older one first
 abbrev pub files_of : {D : Type 0} → Spool D → RecordFile D × RecordFile D

@@ -1,16 +1,15 @@
 -- What openings leave in which the machine stops, or behind which no run begins. (This project's profile.)
-use Rattle.std.specs.Prelude.{◌≡◌, ◌⊎◌, ◌<◌, ℕ, zero, suc, Bool, List, [], ◌∷◌, ◌++◌}
+use Rattle.std.specs.Prelude.{◌≡◌, ◌⊎◌, ◌<◌, ℕ, zero, suc, Bool, List, ◌++◌}
 use Rattle.fax_spool.specs.RecordOctets.{PageValue}
 use Rattle.fax_spool.specs.Calls.{TellWaits}
 use Rattle.fax_spool.specs.Opened.{AreBoth, IsOpened, newer_of, older_of}
-use Rattle.fax_spool.specs.Spools.{MayLeaveBoth, TellBoth, Tells, greatest_epoch}
+use Rattle.fax_spool.specs.Spools.{MayLeaveBoth, TellBoth, Tells, epoch_records, greatest_epoch}
 use Rattle.fax_spool.specs.declared.kept_record.KeptRecord.{KeptRecord}
-use Rattle.fax_spool.specs.declared.kept_record.KeptRecord.TheVariants.{Epoch}
 use Rattle.fax_spool.specs.declared.opening.Opened.{Opened}
 
--- An opening over two files stopped, and left these: they tell what those told; and the newer one, or not, the record of an epoch
+-- An opening over two files stopped, and left these: they tell what those told; and the newer one, or not, the records of an epoch
 -- besides, whose number is greater than each before it. (Of what an opening is made of, `recover` leaves what a file tells, and the put
--- of the epoch leaves its record or none.)
+-- of the epoch leaves both of its records or none.)
 pub record IsLeftByOpening (one other older newer : List ℕ) : Type 0 where
   pub ones : List KeptRecord
   pub others : List KeptRecord
@@ -19,7 +18,7 @@ pub record IsLeftByOpening (one other older newer : List ℕ) : Type 0 where
   pub number : ℕ
   pub older_epochs : greatest_epoch (older_of ones others) < number
   pub newer_epochs : greatest_epoch (newer_of ones others) < number
-  pub left : TellBoth older newer (older_of ones others) (newer_of ones others) ⊎ TellBoth older newer (older_of ones others) (newer_of ones others ++ Epoch number ∷ [])
+  pub left : TellBoth older newer (older_of ones others) (newer_of ones others) ⊎ TellBoth older newer (older_of ones others) (newer_of ones others ++ epoch_records number)
 
 -- So many openings stopped, one after another, each over what the one before it left, whichever of both files it was handed first.
 abbrev pub StopOpening : ℕ → List ℕ → List ℕ → List ℕ → List ℕ → Type 0

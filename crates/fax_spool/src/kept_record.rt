@@ -2,6 +2,7 @@
 ghost use Rattle.std.specs.Prelude.{◌≡◌, ◌≢◌, ◌<◌, ℕ, List, length, map, IfOk, MatchOption};
 ghost use Rattle.fax_spool.specs.RecordOctets.{PageValue, EndedValue, epoch_octets};
 ghost use Rattle.fax_spool.specs.KeptRecords.{AreReadAs, IsReadAs, kept_of};
+ghost use Rattle.fax_spool.specs.Spools.{epoch_records};
 
 use crate::record::{
     number_of, read_ended_record, read_page_record, write_ended_record, write_page_record,
@@ -84,13 +85,24 @@ pub(crate) fn seal_ended(alloc: Global, ended: &EndedRecord<'_>) -> Result<Vec<u
 }
 
 /// The record of an epoch, sealed.
-pub(crate) fn seal_epoch(alloc: Global, number: u32) -> Result<Vec<u8>, AllocError>
+fn seal_epoch(alloc: Global, number: u32) -> Result<Vec<u8>, AllocError>
     ensures { IfOk result (λ octets. IsReadAs octets.items (KeptRecord.Epoch number)) }
 {
     let mut kept = Vec::with_capacity(alloc, 5)?;
     kept.push(EPOCH)?;
     kept.extend_from_slice(&number.to_be_bytes())?;
     seal(alloc, kept.as_slice())
+}
+
+/// The records of an epoch, sealed: it is put twice.
+pub(crate) fn seal_epochs(alloc: Global, number: u32) -> Result<Vec<Vec<u8>>, AllocError>
+    ensures { IfOk result (λ items. AreReadAs (map (λ v. v.items) items.items) (epoch_records number)) }
+{
+    let mut items = Vec::with_capacity(alloc, 2)?;
+    items.push(seal_epoch(alloc, number)?)?;
+    let again = seal_epoch(alloc, number)?;
+    items.push(again)?;
+    Ok(items)
 }
 
 /// The number of the epoch whose record octets are; `None` where they are none.

@@ -4,7 +4,7 @@ ghost use Rattle.fax_spool.specs.Opened.{OpeningsFindWhatCrashesLeave};
 ghost use Rattle.fax_spool.specs.Stopped.{OpeningsLeaveTheirEpoch, StoppedOpeningsLeaveWhatWaits};
 ghost use Rattle.fax_spool.specs.Waits.{SharesWhatWaits};
 ghost use Rattle.fax_spool.specs.Records.{StandsForOneList};
-ghost use Rattle.fax_spool.specs.Harm.{LostPagesTearTheirCall};
+ghost use Rattle.fax_spool.specs.Harm.{HarmKeepsTheOrder, HarmLosesItsOwn, LostPagesTearTheirCall, OneHarmKeepsTheOrder};
 ghost use Rattle.fax_spool.specs.Torn.{NothingIsTornWithoutDamage};
 ghost use Rattle.fax_spool.specs.Turned.{OneTurnedOctet};
 ghost use Rattle.fax_spool.specs.Spools.{TellsOneList};
@@ -74,4 +74,20 @@ pub fn nothing_is_torn_without_damage()
 /// Where the records of some pages of a job are damaged and those of others are not, whichever they are, the call is told to be torn.
 pub fn lost_pages_tear_their_call()
     ensures { LostPagesTearTheirCall }
+{}
+
+/// Whatever records of the files of a spool are harmed, which of them is the older one is found still, as long as a record of an epoch
+/// of the newer one can be read.
+pub fn harm_keeps_the_order()
+    ensures { HarmKeepsTheOrder }
+{}
+
+/// So it is where one record of the newer file is harmed, since each epoch is put twice.
+pub fn one_harm_keeps_the_order()
+    ensures { OneHarmKeepsTheOrder }
+{}
+
+/// A harmed record loses its own alone: its page, or that its job ended. All other pages wait as before, in their order.
+pub fn harm_loses_its_own()
+    ensures { HarmLosesItsOwn }
 {}

@@ -6,7 +6,7 @@ ghost use Rattle.fax_spool.specs.Settled.{IsSettled};
 ghost use Rattle.fax_spool.specs.KeptRecords.{AreReadAs};
 ghost use Rattle.fax_spool.specs.Waits.{waiting};
 ghost use Rattle.fax_spool.specs.Calls.{Accepts};
-ghost use Rattle.fax_spool.specs.Spools.{AreClean, Keeps, epoch_now, files_of, greatest_epoch};
+ghost use Rattle.fax_spool.specs.Spools.{AreClean, Keeps, epoch_now, epoch_records, files_of, greatest_epoch};
 ghost use Rattle.fax_spool.specs.Opened.{IsOpened, closed};
 ghost use Rattle.fax_spool.specs.Torn.{damaged, same_call, torn_calls};
 
@@ -43,7 +43,7 @@ pub struct Opened<D: Disk> {
 }
 
 /// Opens a spool over its two files, whichever of them is the older one: reads what a crash may have left, and begins a life. At
-/// an `Err` (the disk's failure, or no memory) the files stand for the same records, with the epoch's or without.
+/// an `Err` (the disk's failure, or no memory) the files stand for the same records, with both of the epoch's or without.
 pub fn open_spool<D: Disk + Drop>(alloc: Global, one: D, other: D) -> io::Result<Opened<D>>
     requires one_usable { IsTrue (D.is_usable one) }
     requires other_usable { IsTrue (D.is_usable other) }
@@ -101,7 +101,7 @@ fn begin<D: Disk + Drop>(
     ensures begun { IfOk result (λ opened. (older_items newer_items : List (List ℕ))
         → IsSettled D.seen D.may_leave D.is_usable older.disk older.end older_items → AreReadAs older_items olds.now
         → IsSettled D.seen D.may_leave D.is_usable newer.disk newer.end newer_items → AreReadAs newer_items news.now
-        → Keeps D.seen D.may_leave D.is_usable opened.spool olds.now (news.now ++ KeptRecord.Epoch (epoch_now opened.spool) ∷ [])) }
+        → Keeps D.seen D.may_leave D.is_usable opened.spool olds.now (news.now ++ epoch_records (epoch_now opened.spool))) }
     ensures clean { IfOk result (λ opened. AreClean D.is_clean (files_of opened.spool) → AreClean D.is_clean (older, newer)) }
     ensures older_epochs { IfOk result (λ opened. greatest_epoch olds.now < epoch_now opened.spool) }
     ensures newer_epochs { IfOk result (λ opened. greatest_epoch news.now < epoch_now opened.spool) }

@@ -8,10 +8,10 @@ ghost use Rattle.fax_spool.specs.Records.{Stands};
 ghost use Rattle.fax_spool.specs.Settled.{IsSettled};
 ghost use Rattle.fax_spool.specs.KeptRecords.{AreReadAs, kept_of};
 ghost use Rattle.fax_spool.specs.Waits.{ends};
-ghost use Rattle.fax_spool.specs.Spools.{AreClean, Keeps, NoneIsLeft, MayLeaveBoth, TellBoth, epoch_now, epoch_of, files_of, greatest_epoch};
+ghost use Rattle.fax_spool.specs.Spools.{AreClean, Keeps, NoneIsLeft, MayLeaveBoth, TellBoth, epoch_now, epoch_records, files_of, greatest_epoch};
 ghost use Rattle.fax_spool.specs.declared.kept_record.KeptRecord.{KeptRecord as KeptShown};
 
-use crate::kept_record::{seal_ended, seal_epoch, seal_page, seal_pages};
+use crate::kept_record::{seal_ended, seal_epochs, seal_page, seal_pages};
 use crate::page_name::PageName;
 use crate::waiting::{drop_ended, names_of, newest_epoch};
 use crate::{EndedRecord, KeptRecord, PageRecord, RecordFile, waiting_pages};
@@ -51,7 +51,7 @@ impl<D: Disk + Drop> Spool<D> {
         ensures begun { IfOk result (λ spool. (older_items newer_items : List (List ℕ))
             → IsSettled D.seen D.may_leave D.is_usable older.disk older.end older_items → AreReadAs older_items olds.now
             → IsSettled D.seen D.may_leave D.is_usable newer.disk newer.end newer_items → AreReadAs newer_items news.now
-            → Keeps D.seen D.may_leave D.is_usable spool olds.now (news.now ++ KeptRecord.Epoch (epoch_now spool) ∷ [])) }
+            → Keeps D.seen D.may_leave D.is_usable spool olds.now (news.now ++ epoch_records (epoch_now spool))) }
         ensures clean { IfOk result (λ spool. AreClean D.is_clean (files_of spool) → AreClean D.is_clean (older, newer)) }
         ensures older_epochs { IfOk result (λ spool. greatest_epoch olds.now < epoch_now spool) }
         ensures newer_epochs { IfOk result (λ spool. greatest_epoch news.now < epoch_now spool) }
@@ -67,10 +67,10 @@ impl<D: Disk + Drop> Spool<D> {
         let older_pages = names_of(alloc, pages.as_slice())?;
         let pages = waiting_pages(alloc, news)?;
         let newer_pages = names_of(alloc, pages.as_slice())?;
-        let octets = seal_epoch(alloc, epoch)?;
+        let items = seal_epochs(alloc, epoch)?;
         let mut newer = newer;
         let mut refuses = false;
-        append(&mut newer, &mut refuses, alloc, octets.as_slice())?;
+        append_all(&mut newer, &mut refuses, alloc, items.as_slice())?;
         Ok(Spool {
             older,
             newer,
@@ -206,11 +206,11 @@ impl<D: Disk> Spool<D> {
     /// Takes the other file into use where it is empty, and answers whether it did. A new epoch begins.
     pub fn change(&mut self, alloc: Global) -> io::Result<bool>
         ensures changed { IfOk result (λ was. (olds news : List KeptShown) → Keeps D.seen D.may_leave D.is_usable self.old olds news
-            → MatchBool was ((olds ≡ []) × (epoch_of news < epoch_now self.new) × Keeps D.seen D.may_leave D.is_usable self.new news (KeptRecord.Epoch (epoch_now self.new) ∷ [])) (Keeps D.seen D.may_leave D.is_usable self.new olds news)) }
-        // Whenever the machine stops, the files tell the records from before, with the epoch's or without.
+            → MatchBool was ((olds ≡ []) × (greatest_epoch news < epoch_now self.new) × Keeps D.seen D.may_leave D.is_usable self.new news (epoch_records (epoch_now self.new))) (Keeps D.seen D.may_leave D.is_usable self.new olds news)) }
+        // Whenever the machine stops, the files tell the records from before, with both of the epoch's or without.
         ensures crash { (olds news : List KeptShown) → Keeps D.seen D.may_leave D.is_usable self.old olds news
             → (older newer : List ℕ) → MayLeaveBoth D.may_leave self.new older newer
-            → TellBoth older newer olds news ⊎ TellBoth older newer news [] ⊎ TellBoth older newer news (KeptRecord.Epoch (epoch_now self.new) ∷ []) }
+            → TellBoth older newer olds news ⊎ TellBoth older newer news [] ⊎ TellBoth older newer news (epoch_records (epoch_now self.new)) }
         ensures does { Does D.seen D.may_leave D.is_usable Turns (is_ok result) self.old self.new }
     {
         if self.refuses {
@@ -222,11 +222,11 @@ impl<D: Disk> Spool<D> {
         if self.epoch == u32::MAX {
             return Err(io::ErrorKind::Other.into());
         }
-        let octets = seal_epoch(alloc, self.epoch + 1)?;
+        let items = seal_epochs(alloc, self.epoch + 1)?;
         self.epoch += 1;
         mem::swap(&mut self.older, &mut self.newer);
         mem::swap(&mut self.older_pages, &mut self.newer_pages);
-        append(&mut self.newer, &mut self.refuses, alloc, octets.as_slice())?;
+        append_all(&mut self.newer, &mut self.refuses, alloc, items.as_slice())?;
         Ok(true)
     }
 }
@@ -242,9 +242,7 @@ fn append<D: Disk>(
         → IsSettled D.seen D.may_leave D.is_usable file.new.disk file.new.end (rs ++ item.now ∷ [])) }
     ensures crash { (rs : List (List ℕ)) → IsSettled D.seen D.may_leave D.is_usable file.old.disk file.old.end rs
         → (c : List ℕ) → D.may_leave file.new.disk c → Stands c rs ⊎ Stands c (rs ++ item.now ∷ []) }
-    ensures clean { IsTrue (D.is_clean file.new.disk) → IsTrue (D.is_clean file.old.disk) }
     ensures failed { OnErr result (refuses.new ≡ true) }
-    ensures goes_on { OnOk result (refuses.new ≡ false) }
 {
     *refuses = true;
     if !file.disk.may_be_used() {
@@ -266,7 +264,9 @@ fn append_all<D: Disk>(
         → IsSettled D.seen D.may_leave D.is_usable file.new.disk file.new.end (rs ++ map (λ v. v.items) items.now)) }
     ensures crash { (rs : List (List ℕ)) → IsSettled D.seen D.may_leave D.is_usable file.old.disk file.old.end rs
         → (c : List ℕ) → D.may_leave file.new.disk c → Stands c rs ⊎ Stands c (rs ++ map (λ v. v.items) items.now) }
+    ensures clean { IsTrue (D.is_clean file.new.disk) → IsTrue (D.is_clean file.old.disk) }
     ensures failed { OnErr result (refuses.new ≡ true) }
+    ensures goes_on { OnOk result (refuses.new ≡ false) }
 {
     *refuses = true;
     if !file.disk.may_be_used() {

@@ -69,15 +69,17 @@ pub(crate) fn names_of(alloc: Global, pages: &[PageRecord<'_>]) -> Result<Vec<Pa
     Ok(names)
 }
 
-/// The number of the epoch whose record stands first, 0 where none does. Of the two files of a spool, that of the smaller number is
+/// The number of the first epoch that can be read, 0 where there is none. Of the two files of a spool, that of the smaller number is
 /// the older one.
 pub fn first_epoch(records: &[KeptRecord<'_>]) -> u32
     ensures { result ≡ epoch_of records.now }
 {
-    match records.first() {
-        Some(KeptRecord::Epoch(number)) => *number,
-        _ => 0,
+    for kept in records {
+        if let KeptRecord::Epoch(number) = kept {
+            return *number;
+        }
     }
+    0
 }
 
 /// The greatest number of an epoch in these records, 0 where there is none.

@@ -49,10 +49,10 @@ returns-in_err-reserve-clause-does g c = does_err _ _ _ c.args.self.now _ _ c.fr
 
 pub returns-in_err-append-clause-does : goal.returns-in_err-append-clause-does
 returns-in_err-append-clause-does g c = does_err _ _ _ c.args.self.now _ _ c.from_residual-in_err-append.result (Puts (c.args.page.now ∷ [])) c.from_residual-in_err-append.ensures.1
-    (may_have_put _ _ _ c.args.self.now _ (Puts (c.args.page.now ∷ [])) (Page c.args.page.now ∷ []) (more_pages (c.args.page.now ∷ [])) c.if-self.false (returns-in_err-append-clause-crash g c) c.in_err-append.ensures.failed)
+    (may_have_put _ _ _ c.args.self.now _ (Puts (c.args.page.now ∷ [])) (Page c.args.page.now ∷ []) (more_pages (c.args.page.now ∷ [])) (λ n. tt) c.if-self.false (returns-in_err-append-clause-crash g c) c.in_err-append.ensures.failed)
 
 pub returns-clause-does : goal.returns-clause-does
-returns-clause-does g c = does_put _ _ _ c.args.self.now _ (Puts (c.args.page.now ∷ [])) (Page c.args.page.now ∷ []) (more_pages (c.args.page.now ∷ [])) c.if-self.false (returns-clause-acknowledged g c)
+returns-clause-does g c = does_put _ _ _ c.args.self.now _ (Puts (c.args.page.now ∷ [])) (Page c.args.page.now ∷ []) (more_pages (c.args.page.now ∷ [])) (λ n. tt) c.if-self.false (returns-clause-acknowledged g c)
 
 pub returns-then-self-clause-crash : goal.returns-then-self-clause-crash
 returns-then-self-clause-crash g c = λ olds news k older newer left. inl (at_rest _ _ _ _ c.args.self.now olds news k older newer left)

@@ -3,6 +3,7 @@ use Rattle.fax_spool.specs.KeptRecords.{kept_of}
 use Rattle.fax_spool.specs.Waits.{PageName}
 use Rattle.fax_spool.specs.Calls.{Puts}
 use Rattle.fax_spool.proofs.Doing.{as_before, does_err, does_none, does_nothing, does_put, may_have_put, more_pages}
+use Rattle.fax_spool.proofs.Order.{above_pages}
 use Rattle.fax_spool.proofs.SpoolSteps.{at_rest, keeps_pages, leaves_pages, read_all_through}
 use Rattle.fax_spool.proofs.spool.Spool.put_all.Goals as goal
 
@@ -38,10 +39,10 @@ returns-in_err-append-clause-does g c = does_err _ _ _ c.args.self.now _ _ c.fro
 
 pub returns-in_err-append_all-clause-does : goal.returns-in_err-append_all-clause-does
 returns-in_err-append_all-clause-does g c = does_err _ _ _ c.args.self.now _ _ c.from_residual-in_err-append_all.result (Puts c.args.pages.now) c.from_residual-in_err-append_all.ensures.1
-    (may_have_put _ _ _ c.args.self.now _ (Puts c.args.pages.now) (map kept_of c.args.pages.now) (more_pages c.args.pages.now) c.if-self.false (returns-in_err-append_all-clause-crash g c) c.in_err-append_all.ensures.failed)
+    (may_have_put _ _ _ c.args.self.now _ (Puts c.args.pages.now) (map kept_of c.args.pages.now) (more_pages c.args.pages.now) (λ n. above_pages n c.args.pages.now) c.if-self.false (returns-in_err-append_all-clause-crash g c) c.in_err-append_all.ensures.failed)
 
 pub returns-clause-does : goal.returns-clause-does
-returns-clause-does g c = does_put _ _ _ c.args.self.now _ (Puts c.args.pages.now) (map kept_of c.args.pages.now) (more_pages c.args.pages.now) c.if-self.false (returns-clause-acknowledged g c)
+returns-clause-does g c = does_put _ _ _ c.args.self.now _ (Puts c.args.pages.now) (map kept_of c.args.pages.now) (more_pages c.args.pages.now) (λ n. above_pages n c.args.pages.now) c.if-self.false (returns-clause-acknowledged g c)
 
 pub returns-then-self-clause-crash : goal.returns-then-self-clause-crash
 returns-then-self-clause-crash g c = λ olds news k older newer left. inl (at_rest _ _ _ _ c.args.self.now olds news k older newer left)
