@@ -31,6 +31,8 @@ pub enum Refusal {
     NoCall,
     /// 12: the configuration gives the called leg its peer, and no word changes that.
     Fixed,
+    /// 13: the spool takes no page, since its disk has failed.
+    NoSpool,
 }
 
 impl Refusal {
@@ -51,6 +53,7 @@ impl Refusal {
             Refusal::NoRoute => 10,
             Refusal::NoCall => 11,
             Refusal::Fixed => 12,
+            Refusal::NoSpool => 13,
         }
     }
 
@@ -71,6 +74,7 @@ impl Refusal {
             Refusal::NoRoute => "NoRoute",
             Refusal::NoCall => "NoCall",
             Refusal::Fixed => "Fixed",
+            Refusal::NoSpool => "NoSpool",
         }
     }
 }
