@@ -43,9 +43,14 @@ spool_counts counters =
     ++ count_text (codes "faxgate_put_failures_total") Counter counters.put_failures
     ++ count_text (codes "faxgate_put_microseconds_total") Counter counters.put_micros
     ++ count_text (codes "faxgate_pages_kept") Gauge counters.pages_kept
-    ++ count_text (codes "faxgate_pages_set_aside_total") Counter counters.pages_set_aside
+
+unfoldable pub damage_counts : Counters → List ℕ
+damage_counts counters =
+    count_text (codes "faxgate_pages_set_aside_total") Counter counters.pages_set_aside
     ++ count_text (codes "faxgate_records_damaged_total") Counter counters.records_damaged
+    ++ count_text (codes "faxgate_octets_passed_over_total") Counter counters.octets_passed_over
+    ++ count_text (codes "faxgate_spool_failures_total") Counter counters.spool_failures
 
 -- all counts, and the mark of the end
 abbrev pub metrics_text : Counters → List ℕ
-metrics_text counters = call_counts counters ++ job_counts counters ++ wire_counts counters ++ spool_counts counters ++ codes "# EOF\n"
+metrics_text counters = call_counts counters ++ job_counts counters ++ wire_counts counters ++ spool_counts counters ++ damage_counts counters ++ codes "# EOF\n"

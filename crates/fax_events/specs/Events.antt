@@ -18,7 +18,7 @@ use Rattle.fax_events.specs.declared.event.Direction.TheVariants.{Receives, Send
 use Rattle.fax_events.specs.declared.event.Ending.{Ending}
 use Rattle.fax_events.specs.declared.event.Ending.TheVariants.{Done, HungUp, GivenUp, NotKept}
 use Rattle.fax_events.specs.declared.event.What.{What}
-use Rattle.fax_events.specs.declared.event.What.TheVariants.{Rung, Page, RefusedPage, Ended, Dial, Asked, Connected, Job, Wire, Late, SetAside}
+use Rattle.fax_events.specs.declared.event.What.TheVariants.{Rung, Page, RefusedPage, Ended, Dial, Asked, Connected, Job, Wire, Late, SetAside, Damaged, SpoolFailed}
 use Rattle.fax_events.specs.declared.event.What.TheVariants as what
 use Rattle.fax_events.specs.declared.event.Event.{Event}
 
@@ -61,6 +61,8 @@ event_name (Wire leg direction count) = codes "wire"
 event_name (Late span) = codes "late"
 event_name (what.NotKept call tag) = codes "not_kept"
 event_name (SetAside call n) = codes "set_aside"
+event_name (Damaged records octets) = codes "damaged"
+event_name SpoolFailed = codes "spool_failed"
 
 -- ---- members of an object
 
@@ -125,11 +127,18 @@ what_members (Wire leg direction count) =
 what_members (Late span) = number_member (codes "ms") span
 what_members (what.NotKept call tag) = number_member (codes "call") call ++ tag_member (option_map (λ text. text.now) tag)
 what_members (SetAside call n) = number_member (codes "call") call ++ number_member (codes "number") n
+what_members (Damaged records octets) = number_member (codes "records") records ++ number_member (codes "octets") octets
+what_members SpoolFailed = []
+
+-- the line that it happened on; none where it happened to all of them
+abbrev pub line_members : Option (List ℕ) → List Token
+line_members None = []
+line_members (Some line) = text_member (codes "line") line
 
 -- an event as an object: its name, its line, its moment, and what it tells
 abbrev pub event_tokens : Event → List Token
 event_tokens event =
-    begin_object ∷ (text_member (codes "event") (event_name event.what) ++ (text_member (codes "line") event.line.now
+    begin_object ∷ (text_member (codes "event") (event_name event.what) ++ (line_members (option_map (λ text. text.now) event.line)
     ++ (number_member (codes "at") event.at ++ (what_members event.what ++ end_object ∷ []))))
 
 -- the line of an event, its line feed with it: JSON with no space

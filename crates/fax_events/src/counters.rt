@@ -39,9 +39,13 @@ pub struct Counters {
     pub put_micros: u64,
     /// Pages that wait on the disk now.
     pub pages_kept: u64,
-    /// Pages of earlier lives that mean none, and records that are damaged, as the start found them.
+    /// Pages of earlier lives that mean none, records that are damaged, and octets that were passed over since nothing could be read
+    /// there, as the start found them.
     pub pages_set_aside: u64,
     pub records_damaged: u64,
+    pub octets_passed_over: u64,
+    /// How often the spool's disk has failed, in this run and in those before it.
+    pub spool_failures: u64,
     /// Lines of events that readers lost.
     pub events_lost: u64,
 }

@@ -1,4 +1,4 @@
-//! What happens on a line.
+//! What happens on a line, or to all of them.
 ghost use Rattle.std.specs.Prelude.{◌≡◌};
 ghost use Rattle.fax_events.specs.Events.{direction_name, ending_name, event_name};
 
@@ -108,6 +108,11 @@ pub enum What<'a> {
     /// A page that was kept in an earlier life means none, and is not sent: the number of its call there, and its own in the call,
     /// from 1 on.
     SetAside(u32, u32),
+    /// The start found so many damaged records in the spool, and passed so many octets over in which nothing could be read. It is told
+    /// of no line.
+    Damaged(u64, u64),
+    /// A call of the spool's disk failed: no page is kept from now on, until the spool is opened anew. It is told of no line.
+    SpoolFailed,
 }
 
 impl<'a> What<'a> {
@@ -127,15 +132,17 @@ impl<'a> What<'a> {
             What::Late(_) => "late",
             What::NotKept(_, _) => "not_kept",
             What::SetAside(_, _) => "set_aside",
+            What::Damaged(_, _) => "damaged",
+            What::SpoolFailed => "spool_failed",
         }
     }
 }
 
-/// Something that happened on a line.
+/// Something that happened.
 #[derive(Clone, Copy, PartialEq, Eq, Debug)]
 pub struct Event<'a> {
-    /// The name of the line.
-    pub line: &'a str,
+    /// The name of the line; none where it happened to all of them.
+    pub line: Option<&'a str>,
     /// When, in milliseconds since the gateway began.
     pub at: u64,
     pub what: What<'a>,

@@ -1,6 +1,6 @@
 //! Counts in the text format of Prometheus.
 ghost use Rattle.std.specs.Prelude.{◌≡◌, ◌++◌, IfOk, OnOk, string_bytes};
-ghost use Rattle.fax_events.specs.Counts.{call_counts, count_text, job_counts, kind_name, metrics_text, spool_counts, wire_counts};
+ghost use Rattle.fax_events.specs.Counts.{call_counts, count_text, damage_counts, job_counts, kind_name, metrics_text, spool_counts, wire_counts};
 
 use crate::counters::Counters;
 use fax_bits::NoMemory;
@@ -34,6 +34,7 @@ pub fn write_metrics(alloc: Global, counters: &Counters) -> Result<String, NoMem
     put_job_counts(&mut text, counters)?;
     put_wire_counts(&mut text, counters)?;
     put_spool_counts(&mut text, counters)?;
+    put_damage_counts(&mut text, counters)?;
     text.push_str("# EOF\n")?;
     Ok(text)
 }
@@ -161,7 +162,13 @@ fn put_spool_counts(text: &mut String, counters: &Counters) -> Result<(), AllocE
         Kind::Counter,
         counters.put_micros,
     )?;
-    put(text, "faxgate_pages_kept", Kind::Gauge, counters.pages_kept)?;
+    put(text, "faxgate_pages_kept", Kind::Gauge, counters.pages_kept)
+}
+
+/// Writes the counts of what a disk did to them.
+fn put_damage_counts(text: &mut String, counters: &Counters) -> Result<(), AllocError>
+    ensures { OnOk result (string_bytes text.new ≡ string_bytes text.old ++ damage_counts counters.now) }
+{
     put(
         text,
         "faxgate_pages_set_aside_total",
@@ -173,5 +180,17 @@ fn put_spool_counts(text: &mut String, counters: &Counters) -> Result<(), AllocE
         "faxgate_records_damaged_total",
         Kind::Counter,
         counters.records_damaged,
+    )?;
+    put(
+        text,
+        "faxgate_octets_passed_over_total",
+        Kind::Counter,
+        counters.octets_passed_over,
+    )?;
+    put(
+        text,
+        "faxgate_spool_failures_total",
+        Kind::Counter,
+        counters.spool_failures,
     )
 }

@@ -1,7 +1,7 @@
 //! From an event to its line.
 ghost use Rattle.std.specs.Prelude.{◌≡◌, option_map, IfOk, OnOk};
 ghost use Rattle.fax_jobs.specs.ReportTexts.{resolution_name};
-ghost use Rattle.fax_events.specs.Events.{Adds, cause_members, detail_members, event_line, fault_members, fault_name, format_members, refusal_members, refusal_name, row_members, number_member, tag_member, text_member, what_members};
+ghost use Rattle.fax_events.specs.Events.{Adds, cause_members, detail_members, event_line, fault_members, fault_name, format_members, line_members, refusal_members, refusal_name, row_members, number_member, tag_member, text_member, what_members};
 
 use crate::event::{AskedJob, Direction, Ending, Event, PageKept, What};
 use fax_answer::Refusal;
@@ -19,7 +19,7 @@ pub fn write_event(alloc: Global, event: &Event<'_>) -> Result<Vec<u8>, NoMemory
     let mut writer = Writer::new(Vec::new(alloc));
     writer.begin_object()?;
     put_text(&mut writer, "event", event.what.name())?;
-    put_text(&mut writer, "line", event.line)?;
+    put_line(&mut writer, event.line)?;
     put_number(&mut writer, "at", event.at)?;
     put_what(&mut writer, &event.what)?;
     writer.end_object()?;
@@ -34,6 +34,16 @@ fn put_text(writer: &mut Writer, name: &str, text: &str) -> Result<(), AllocErro
 {
     writer.key(name)?;
     writer.string(text)
+}
+
+/// Writes the line that something happened on, where it is one.
+fn put_line(writer: &mut Writer, line: Option<&str>) -> Result<(), AllocError>
+    ensures { OnOk result (Adds writer.old writer.new (line_members (option_map (λ text. text.now) line.entry))) }
+{
+    match line {
+        Some(name) => put_text(writer, "line", name),
+        None => Ok(()),
+    }
 }
 
 /// Writes a member whose value is a number.
@@ -249,5 +259,10 @@ fn put_what(writer: &mut Writer, what: &What<'_>) -> Result<(), AllocError>
             put_number(writer, "call", u64::from(call))?;
             put_number(writer, "number", u64::from(number))
         }
+        What::Damaged(records, octets) => {
+            put_number(writer, "records", records)?;
+            put_number(writer, "octets", octets)
+        }
+        What::SpoolFailed => Ok(()),
     }
 }

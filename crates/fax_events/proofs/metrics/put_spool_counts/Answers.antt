@@ -1,6 +1,6 @@
 use Rattle.std.proofs.Common.{◌≡◌, ℕ, List, ◌++◌, codes, string_bytes}
 use Rattle.fax_events.specs.declared.metrics.Kind.TheVariants.{Counter, Gauge}
-use Rattle.fax_events.specs.Counts.{spool_counts, count_text}
+use Rattle.fax_events.specs.Counts.{count_text, spool_counts}
 use Rattle.fax_events.proofs.TextLemmas.{then_text, last_text}
 use Rattle.fax_events.proofs.metrics.put_spool_counts.Goals as goal
 
@@ -12,17 +12,11 @@ returns c =
     let t2 : List ℕ = string_bytes c.put-2.new.text in
     let t3 : List ℕ = string_bytes c.put-3.new.text in
     let t4 : List ℕ = string_bytes c.put-4.new.text in
-    let t5 : List ℕ = string_bytes c.put-5.new.text in
-    let t6 : List ℕ = string_bytes c.put-6.new.text in
     let n1 : List ℕ = count_text (codes "faxgate_puts_total") Counter c.args.counters.now.puts in
     let n2 : List ℕ = count_text (codes "faxgate_put_failures_total") Counter c.args.counters.now.put_failures in
     let n3 : List ℕ = count_text (codes "faxgate_put_microseconds_total") Counter c.args.counters.now.put_micros in
     let n4 : List ℕ = count_text (codes "faxgate_pages_kept") Gauge c.args.counters.now.pages_kept in
-    let n5 : List ℕ = count_text (codes "faxgate_pages_set_aside_total") Counter c.args.counters.now.pages_set_aside in
-    let n6 : List ℕ = count_text (codes "faxgate_records_damaged_total") Counter c.args.counters.now.records_damaged in
     let e1 : t1 ≡ t0 ++ n1 = c.in_ok-put.ensures in
     let e2 : t2 ≡ t0 ++ (n1 ++ n2) = then_text t0 t1 t2 n1 n2 e1 c.in_ok-put-2.ensures in
     let e3 : t3 ≡ t0 ++ (n1 ++ n2 ++ n3) = then_text t0 t2 t3 (n1 ++ n2) n3 e2 c.in_ok-put-3.ensures in
-    let e4 : t4 ≡ t0 ++ (n1 ++ n2 ++ n3 ++ n4) = then_text t0 t3 t4 (n1 ++ n2 ++ n3) n4 e3 c.in_ok-put-4.ensures in
-    let e5 : t5 ≡ t0 ++ (n1 ++ n2 ++ n3 ++ n4 ++ n5) = then_text t0 t4 t5 (n1 ++ n2 ++ n3 ++ n4) n5 e4 c.in_ok-put-5.ensures in
-    last_text c.put-6.result t0 t5 t6 (n1 ++ n2 ++ n3 ++ n4 ++ n5) n6 e5 c.put-6.ensures
+    last_text c.put-4.result t0 t3 t4 (n1 ++ n2 ++ n3) n4 e3 c.put-4.ensures
