@@ -131,11 +131,21 @@ named desk lines name said got e = of_here desk.cards.items lines said (line_nam
 
 -- ---- a ring
 
-takes : (takes : Bool) (desk : Desk) (lines : ℕ → Option LineView) (name : Option (List ℕ)) (bounds : Bounds) (tag : Option (Option Tag)) (got : Order)
-    → ring_if takes desk lines name bounds tag ≡ next.Orders got → takes ≡ true
-takes true desk lines name bounds tag got e = refl
-takes false desk lines name bounds tag got e = cc
+takes : (takes has_failed : Bool) (desk : Desk) (lines : ℕ → Option LineView) (name : Option (List ℕ)) (bounds : Bounds) (tag : Option (Option Tag)) (got : Order)
+    → ring_if takes has_failed desk lines name bounds tag ≡ next.Orders got → takes ≡ true
+takes true has_failed desk lines name bounds tag got e = refl
+takes false has_failed desk lines name bounds tag got e = cc
 
-pub serving : (desk : Desk) (lines : ℕ → Option LineView) (name tag : Option (List ℕ)) (bounds : Bounds) (got : Order)
-    → next_ring desk lines name tag bounds ≡ next.Orders got → takes_rings desk.stop ≡ true
-serving desk lines name tag bounds got e = takes (takes_rings desk.stop) desk lines name bounds (tag_said tag) got e
+keeps : (takes has_failed : Bool) (desk : Desk) (lines : ℕ → Option LineView) (name : Option (List ℕ)) (bounds : Bounds) (tag : Option (Option Tag)) (got : Order)
+    → ring_if takes has_failed desk lines name bounds tag ≡ next.Orders got → has_failed ≡ false
+keeps takes false desk lines name bounds tag got e = refl
+keeps true true desk lines name bounds tag got e = cc
+keeps false true desk lines name bounds tag got e = cc
+
+pub serving : (desk : Desk) (lines : ℕ → Option LineView) (has_failed : Bool) (name tag : Option (List ℕ)) (bounds : Bounds) (got : Order)
+    → next_ring desk lines has_failed name tag bounds ≡ next.Orders got → takes_rings desk.stop ≡ true
+serving desk lines has_failed name tag bounds got e = takes (takes_rings desk.stop) has_failed desk lines name bounds (tag_said tag) got e
+
+pub keeping : (desk : Desk) (lines : ℕ → Option LineView) (has_failed : Bool) (name tag : Option (List ℕ)) (bounds : Bounds) (got : Order)
+    → next_ring desk lines has_failed name tag bounds ≡ next.Orders got → has_failed ≡ false
+keeping desk lines has_failed name tag bounds got e = keeps (takes_rings desk.stop) has_failed desk lines name bounds (tag_said tag) got e

@@ -92,14 +92,16 @@ behind_done said (Some answered.NoRoute) card = card
 behind_done said (Some answered.Done) card = card
 
 -- a page was confirmed, and a job ended, in a turn
-abbrev pub behind_page : Option Kept → Card → Card
-behind_page None card = card
-behind_page (Some kept) card =
-    record card { counts = record card.counts { pages = min (card.counts.pages + 1) (2 ^ 64 - 1) }; pages_in_call = min (card.pages_in_call + 1) (2 ^ 32 - 1); is_closed = kept.closes }
 
 abbrev pub one_more_if : Bool → ℕ → ℕ
 one_more_if true count = min (count + 1) (2 ^ 64 - 1)
 one_more_if false count = count
+
+-- a page that could not be kept does not count as one that was confirmed
+abbrev pub behind_page : Bool → Option Kept → Card → Card
+behind_page is_kept None card = card
+behind_page is_kept (Some kept) card =
+    record card { counts = record card.counts { pages = one_more_if is_kept card.counts.pages }; pages_in_call = min (card.pages_in_call + 1) (2 ^ 32 - 1); is_closed = kept.closes }
 
 abbrev pub behind_job : Bool → Option Report → Card → Card
 behind_job is_restored None card = card

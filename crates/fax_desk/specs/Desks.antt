@@ -55,7 +55,7 @@ use Rattle.fax_desk.specs.Words.{next_of, refusal_order, refuses, reply_to, ring
 -- nothing happened
 abbrev pub desk_new : Vec (String Global) Global → Vec Card Global → ℕ → Desk
 desk_new names cards within =
-    record { names = names; cards = cards; stop = stop.No; stop_ms = within; time = record { heard = 0; last = 0 }; is_heard = false; waits = None; any_from = 0 }
+    record { names = names; cards = cards; stop = stop.No; stop_ms = within; damage = record { records = 0; octets = 0 }; failed = None; time = record { heard = 0; last = 0 }; is_heard = false; waits = None; any_from = 0 }
 
 -- the line of this name
 abbrev pub line_named : List (String Global) → List ℕ → Option ℕ
@@ -122,13 +122,14 @@ abbrev pub ring_tagged : Desk → (ℕ → Option LineView) → Option (List ℕ
 ring_tagged desk lines name bounds None = refuses refusal.NoWord
 ring_tagged desk lines name bounds (Some tag) = ring_on desk lines name (record { tag = tag; bounds = bounds_of bounds })
 
-abbrev pub ring_if : Bool → Desk → (ℕ → Option LineView) → Option (List ℕ) → SaidBounds → Option (Option Tag) → Next
-ring_if true desk lines name bounds tag = ring_tagged desk lines name bounds tag
-ring_if false desk lines name bounds tag = refuses refusal.Stopping
+abbrev pub ring_if : (takes_rings has_failed : Bool) → Desk → (ℕ → Option LineView) → Option (List ℕ) → SaidBounds → Option (Option Tag) → Next
+ring_if false has_failed desk lines name bounds tag = refuses refusal.Stopping
+ring_if true true desk lines name bounds tag = refuses refusal.NoSpool
+ring_if true false desk lines name bounds tag = ring_tagged desk lines name bounds tag
 
--- a ring needs a server that does not stop
-abbrev pub next_ring : Desk → (ℕ → Option LineView) → (name tag : Option (List ℕ)) → SaidBounds → Next
-next_ring desk lines name tag bounds = ring_if (takes_rings desk.stop) desk lines name bounds (tag_said tag)
+-- A ring needs a server that does not stop, and whose spool has not failed: whichever line it names, and whatever that is.
+abbrev pub next_ring : Desk → (ℕ → Option LineView) → (has_failed : Bool) → (name tag : Option (List ℕ)) → SaidBounds → Next
+next_ring desk lines has_failed name tag bounds = ring_if (takes_rings desk.stop) has_failed desk lines name bounds (tag_said tag)
 
 abbrev pub peer_next : Desk → (ℕ → Option LineView) → List ℕ → Option PeerAsk → Next
 peer_next desk lines name None = refuses refusal.NoWord
@@ -138,16 +139,16 @@ abbrev pub refuse_next : Desk → (ℕ → Option LineView) → List ℕ → Opt
 refuse_next desk lines name None = refuses refusal.NoWord
 refuse_next desk lines name (Some why) = next_at desk lines name (ask.Refuse why)
 
-abbrev pub step_of : Desk → (ℕ → Option LineView) → Word → Next
-step_of desk lines (word.Ring ring) = next_ring desk lines (option_map (λ text. text.now) ring.line) (option_map (λ text. text.now) ring.tag) ring.bounds
-step_of desk lines (word.Peer peer) = peer_next desk lines peer.line.now (peer_said peer.leg peer.address peer.bounds peer.is_moved)
-step_of desk lines (word.HangUp name leg) = next_at desk lines name.now (ask.HangUp (record { side = side_of leg }))
-step_of desk lines (word.Refuse name why) = refuse_next desk lines name.now (tag_of_text why.now)
-step_of desk lines (word.Report name) = next_at desk lines name.now ask.Report
-step_of desk lines word.Status = next.Status
-step_of desk lines word.Metrics = next.Metrics
-step_of desk lines word.Events = next.Events
-step_of desk lines word.Stop = next.Replies reply.Done
+abbrev pub step_of : Desk → (ℕ → Option LineView) → (has_failed : Bool) → Word → Next
+step_of desk lines has_failed (word.Ring ring) = next_ring desk lines has_failed (option_map (λ text. text.now) ring.line) (option_map (λ text. text.now) ring.tag) ring.bounds
+step_of desk lines has_failed (word.Peer peer) = peer_next desk lines peer.line.now (peer_said peer.leg peer.address peer.bounds peer.is_moved)
+step_of desk lines has_failed (word.HangUp name leg) = next_at desk lines name.now (ask.HangUp (record { side = side_of leg }))
+step_of desk lines has_failed (word.Refuse name why) = refuse_next desk lines name.now (tag_of_text why.now)
+step_of desk lines has_failed (word.Report name) = next_at desk lines name.now ask.Report
+step_of desk lines has_failed word.Status = next.Status
+step_of desk lines has_failed word.Metrics = next.Metrics
+step_of desk lines has_failed word.Events = next.Events
+step_of desk lines has_failed word.Stop = next.Replies reply.Done
 
 abbrev pub stop_behind : Word → (now within : ℕ) → Stop → Stop
 stop_behind (word.Ring ring) now within before = before

@@ -1,5 +1,5 @@
 -- Laws of what passes at a desk. Lists have the newest first. (This project's profile.)
-use Rattle.std.specs.Prelude.{◌≡◌, ℕ, true, List, [], ◌∷◌, ◌++◌, Option, Some, None}
+use Rattle.std.specs.Prelude.{◌≡◌, ℕ, Bool, true, false, List, [], ◌∷◌, ◌++◌, Option, Some, None}
 use Rattle.fax_line.specs.declared.asked.Answered.{Answered}
 use Rattle.fax_desk.specs.declared.card.Card.{Card}
 use Rattle.fax_desk.specs.declared.desk.Desk.{Desk}
@@ -117,5 +117,10 @@ OrdersTheNamed = (desk : Desk) (lines : ℕ → Option LineView) (name : List �
 
 -- NO RING COMES TO AN ORDER at a server that stops.
 abbrev pub NoRingWhileStopping : Type 0
-NoRingWhileStopping = (desk : Desk) (lines : ℕ → Option LineView) (name tag : Option (List ℕ)) (bounds : Bounds) (given : Order)
-    → next_ring desk lines name tag bounds ≡ next.Orders given → takes_rings desk.stop ≡ true
+NoRingWhileStopping = (desk : Desk) (lines : ℕ → Option LineView) (has_failed : Bool) (name tag : Option (List ℕ)) (bounds : Bounds) (given : Order)
+    → next_ring desk lines has_failed name tag bounds ≡ next.Orders given → takes_rings desk.stop ≡ true
+
+-- NO RING COMES TO AN ORDER while the spool takes no page.
+abbrev pub NoRingWithoutASpool : Type 0
+NoRingWithoutASpool = (desk : Desk) (lines : ℕ → Option LineView) (has_failed : Bool) (name tag : Option (List ℕ)) (bounds : Bounds) (given : Order)
+    → next_ring desk lines has_failed name tag bounds ≡ next.Orders given → has_failed ≡ false

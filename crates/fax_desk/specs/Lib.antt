@@ -4,6 +4,7 @@ pub mod Laws
 pub mod Questions
 pub mod Said
 pub mod Shown
+pub mod Spools
 pub mod Stops
 pub mod Tags
 pub mod Telling

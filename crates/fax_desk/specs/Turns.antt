@@ -37,9 +37,11 @@ not_kept_told card is_kept None = None
 not_kept_told card true (Some kept) = None
 not_kept_told card false (Some kept) = Some (happened.NotKept (tagged_of card kept.call))
 
-abbrev pub page_told : Card → Option Kept → Option Happened
-page_told card None = None
-page_told card (Some kept) =
+-- one that could not be kept is told by that alone
+abbrev pub page_told : Card → Bool → Option Kept → Option Happened
+page_told card is_kept None = None
+page_told card false (Some kept) = None
+page_told card true (Some kept) =
     Some (happened.Page (record { call = kept.call; number = min (card.pages_in_call + 1) (2 ^ 32 - 1); format = kept.format; rows = kept.rows }) (tag_of card kept.call))
 
 abbrev pub refused_told : Card → Option Refused → Option Happened
@@ -59,7 +61,7 @@ dial_told card first None = None
 dial_told card first (Some call) = Some (happened.Dial (tagged_job card first call))
 
 abbrev pub card_behind : Card → Turn → Card
-card_behind card turn = behind_job turn.first.is_restored turn.turned.report (behind_page turn.turned.kept card)
+card_behind card turn = behind_job turn.first.is_restored turn.turned.report (behind_page turn.is_kept turn.turned.kept card)
 
 -- EACH TURN IS TOLD by exactly this: its page, with the tag of its call; the job that ended, with the tag of its own, and the cause for
 -- which its call was not placed; and so on.
@@ -67,9 +69,9 @@ abbrev pub told_of : Card → Turn → Told
 told_of card turn =
     record {
       not_kept = not_kept_told card turn.is_kept turn.turned.kept;
-      page = page_told card turn.turned.kept;
+      page = page_told card turn.is_kept turn.turned.kept;
       refused = refused_told card turn.turned.refused;
-      ended = ended_told (behind_page turn.turned.kept card) turn turn.turned.ended;
+      ended = ended_told (behind_page turn.is_kept turn.turned.kept card) turn turn.turned.ended;
       job = job_told card turn.first turn.turned.report;
       dialled = dial_told (card_behind card turn) turn.first turn.turned.dialled;
     }

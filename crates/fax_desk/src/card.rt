@@ -205,12 +205,14 @@ impl Card {
         }
     }
 
-    /// This page was confirmed.
-    pub(crate) fn keep_page(&mut self, kept: Option<Kept>)
-        ensures { self.new ≡ behind_page kept self.old }
+    /// This page was confirmed, and was kept or not.
+    pub(crate) fn keep_page(&mut self, is_kept: bool, kept: Option<Kept>)
+        ensures { self.new ≡ behind_page is_kept kept self.old }
     {
         if let Some(kept) = kept {
-            self.counts.pages = self.counts.pages.saturating_add(1);
+            if is_kept {
+                self.counts.pages = self.counts.pages.saturating_add(1);
+            }
             self.pages_in_call = self.pages_in_call.saturating_add(1);
             self.is_closed = kept.closes;
         }

@@ -1,8 +1,9 @@
 //! The desk.
-ghost use Rattle.std.specs.Prelude.{◌≡◌, ◌↔◌, IsTrue, None, Some, length, not, option_map, slice_get};
+ghost use Rattle.std.specs.Prelude.{◌≡◌, ◌↔◌, IsTrue, None, Some, is_some, length, not, option_map, slice_get};
 ghost use Rattle.fax_desk.specs.Desks.{asked_cards, connected_happened, desk_new, done_of, due_of, free_line, happened_of, heard_until, line_named, looked_at, looked_cards, name_at, next_any, next_at, next_ring, noted, noted_at, peer_next, question_at, refuse_next, step_of, stop_behind, told_at, turned_at};
 ghost use Rattle.fax_desk.specs.Said.{any_behind, peer_said, unasked_if, waits_if};
-ghost use Rattle.fax_desk.specs.Stops.{is_over, stop_after, takes_rings};
+ghost use Rattle.fax_desk.specs.Spools.{are_at_rest, end_of, failed_after, is_news, run_is_over};
+ghost use Rattle.fax_desk.specs.Stops.{stop_after, takes_rings};
 ghost use Rattle.fax_desk.specs.Tags.{tag_of_text};
 
 use crate::answer::{next_of, refuses, reply_to, ring_order};
@@ -13,6 +14,7 @@ use crate::said::{
     any_behind, bounds_of, first_free, peer_of, rung_happened, side_of, tag_said, unasked_if,
     waits_if,
 };
+use crate::spool::{Damage, Failed, RunEnd, end_of, failed_after, is_drained};
 use crate::stop::Stop;
 use crate::tag::Tag;
 use crate::told::{Happened, Told, Turn};
@@ -56,6 +58,10 @@ pub struct Desk {
     pub stop: Stop,
     /// A stop takes so many milliseconds at most.
     pub stop_ms: u64,
+    /// What the start found in the spool that cannot be read.
+    pub damage: Damage,
+    /// When the run ends since the spool has failed; none: it has not.
+    pub failed: Option<Failed>,
     /// The time of questions, and whether a client hears events.
     pub time: HeardTime,
     pub is_heard: bool,
@@ -75,6 +81,11 @@ impl Desk {
             cards,
             stop: Stop::No,
             stop_ms,
+            damage: Damage {
+                records: 0,
+                octets: 0,
+            },
+            failed: None,
             time: HeardTime::new(),
             is_heard: false,
             waits: None,
@@ -109,7 +120,7 @@ impl Desk {
     /// A word comes while no order waits. It is answered by this, or by what is told of the order that it gives.
     pub fn step<V: View>(&mut self, asker: Asker, word: Word<'_>, view: &V, now: u64) -> Next
         requires { self.old.waits ≡ None }
-        ensures next { result ≡ step_of self.old (V.line view.now) word.entry }
+        ensures next { result ≡ step_of self.old (V.line view.now) (V.failed view.now) word.entry }
         ensures waits { self.new.waits ≡ waits_if asker result }
         ensures stop { self.new.stop ≡ stop_behind word.entry now self.old.stop_ms self.old.stop }
         ensures any { self.new.any_from ≡ any_behind self.old.any_from result }
@@ -126,7 +137,7 @@ impl Desk {
 
     /// What a word comes to.
     fn next<V: View>(&self, word: Word<'_>, view: &V) -> Next
-        ensures { result ≡ step_of self.now (V.line view.now) word.entry }
+        ensures { result ≡ step_of self.now (V.line view.now) (V.failed view.now) word.entry }
     {
         match word {
             Word::Ring(ring) => self.ring(ring, view),
@@ -159,10 +170,13 @@ impl Desk {
 
     /// What a ring comes to.
     fn ring<V: View>(&self, ring: RingWord<'_>, view: &V) -> Next
-        ensures { result ≡ next_ring self.now (V.line view.now) (option_map (λ text. text.now) ring.entry.line) (option_map (λ text. text.now) ring.entry.tag) ring.entry.bounds }
+        ensures { result ≡ next_ring self.now (V.line view.now) (V.failed view.now) (option_map (λ text. text.now) ring.entry.line) (option_map (λ text. text.now) ring.entry.tag) ring.entry.bounds }
     {
         if !self.stop.takes_rings() {
             return refuses(Refusal::Stopping);
+        }
+        if view.has_failed() {
+            return refuses(Refusal::NoSpool);
         }
         let Some(tag) = tag_said(ring.tag) else {
             return refuses(Refusal::NoWord);
@@ -355,10 +369,56 @@ impl Desk {
         !self.stop.takes_rings()
     }
 
-    /// Whether the run is over.
-    pub fn is_over(&self, now: u64, are_idle: bool) -> bool
-        ensures { result ≡ is_over self.now.stop now are_idle }
+    /// This was found in the spool, as it was opened.
+    pub fn set_damage(&mut self, damage: Damage)
+        ensures { self.new ≡ record self.old { damage = damage } }
     {
-        self.stop.is_over(now, are_idle)
+        self.damage = damage;
+    }
+
+    /// At this moment the spool has failed, or not. It answers whether that is news.
+    pub fn see_spool(&mut self, has_failed: bool, now: u64) -> bool
+        ensures news { result ≡ is_news self.old.failed has_failed }
+        ensures failed { self.new ≡ record self.old { failed = failed_after self.old.failed has_failed now self.old.stop_ms } }
+    {
+        let is_news = self.failed.is_none() && has_failed;
+        self.failed = failed_after(self.failed, has_failed, now, self.stop_ms);
+        is_news
+    }
+
+    /// Whether the spool has failed, as far as was seen.
+    pub fn has_failed(&self) -> bool
+        ensures { result ≡ is_some self.now.failed }
+    {
+        self.failed.is_some()
+    }
+
+    /// Whether the run is over at this moment, where no line has a call or a job, or one has; and no line a call, or one has.
+    pub fn is_over(&self, now: u64, are_idle: bool, are_calm: bool) -> bool
+        ensures { result ≡ run_is_over self.now.stop self.now.failed now are_idle are_calm }
+    {
+        if self.stop.takes_rings() {
+            is_drained(self.failed, now, are_calm)
+        } else {
+            self.stop.is_over(now, self.are_at_rest(are_idle, are_calm))
+        }
+    }
+
+    /// Whether what a stop waits for is so: no line has a call or a job, and where the spool has failed, no line a call.
+    fn are_at_rest(&self, are_idle: bool, are_calm: bool) -> bool
+        ensures { result ≡ are_at_rest self.now.failed are_idle are_calm }
+    {
+        if self.failed.is_some() {
+            are_calm
+        } else {
+            are_idle
+        }
+    }
+
+    /// How the run ends, once it is over.
+    pub fn end(&self) -> RunEnd
+        ensures { result ≡ end_of self.now.stop self.now.failed }
+    {
+        end_of(self.stop, self.failed)
     }
 }

@@ -1,5 +1,5 @@
 //! Laws of the definitions: functions that do nothing, each of whose contracts is a theorem.
-ghost use Rattle.fax_desk.specs.Laws.{AnsweredOnce, AnswersWhatWasDone, NoRingWhileStopping, OrdersTheNamed};
+ghost use Rattle.fax_desk.specs.Laws.{AnsweredOnce, AnswersWhatWasDone, NoRingWhileStopping, NoRingWithoutASpool, OrdersTheNamed};
 
 /// Each word is answered once, in the order in which they came.
 pub fn words_are_answered_once()
@@ -19,4 +19,9 @@ pub fn orders_go_to_the_named_line()
 /// No ring is ordered by a server that stops.
 pub fn no_ring_while_stopping()
     ensures { NoRingWhileStopping }
+{}
+
+/// No ring is ordered while the spool takes no page.
+pub fn no_ring_without_a_spool()
+    ensures { NoRingWithoutASpool }
 {}

@@ -12,6 +12,7 @@ mod next;
 mod questions;
 mod said;
 mod shown;
+mod spool;
 mod stop;
 mod tag;
 mod telling;
@@ -26,6 +27,7 @@ pub use next::{
     Ask, ConnectNote, HangUpAsk, Next, Note, Order, PeerAsk, Refused, Reply, RingAsk, RungOn,
 };
 pub use questions::{Cause, HeardTime, Question};
+pub use spool::{Damage, Failed, RunEnd, SpoolTold, unserved_reply};
 pub use stop::Stop;
 pub use tag::{Tag, Tagged};
 pub use telling::{Listener, tell_at, tell_turn};

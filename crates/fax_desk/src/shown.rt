@@ -1,16 +1,28 @@
 //! What a desk knows of lines.
 ghost use Rattle.std.specs.Prelude.{◌≡◌, slice_get};
 ghost use Rattle.fax_desk.specs.Desks.{IsAnswer, counts_if, state_at, tag_at, tags_at, texts_at};
+ghost use Rattle.fax_desk.specs.Spools.{spool_told};
 
 use crate::card::{LineCounts, ReportTexts, TagsOn};
 use crate::desk::Desk;
 use crate::next::Reply;
+use crate::spool::{SpoolTold, failure_told};
 use crate::tag::Tag;
 use crate::told::LineState;
 use crate::view::LineView;
 use fax_control::Answer;
 
 impl Desk {
+    /// What is told of the spool to a client that wants events from now on, before what is on on the lines.
+    pub fn spool_told(&self) -> SpoolTold
+        ensures { result ≡ spool_told self.now.damage self.now.failed }
+    {
+        SpoolTold {
+            damage: self.damage.told(),
+            failure: failure_told(self.failed),
+        }
+    }
+
     /// What is on on line i, which is so.
     pub fn state(&self, i: usize, line: LineView) -> Option<LineState>
         ensures { result ≡ state_at self.now.cards.items self.now.time.heard i line }

@@ -17,10 +17,10 @@ impl Card {
     {
         let turned = turn.turned;
         let not_kept = self.not_kept_told(turn.is_kept, turned.kept);
-        let page = self.page_told(turned.kept);
+        let page = self.page_told(turn.is_kept, turned.kept);
         let refused = self.refused_told(turned.refused);
         let job = self.job_told(turn.first, turned.report);
-        self.keep_page(turned.kept);
+        self.keep_page(turn.is_kept, turned.kept);
         let ended = self.ended_told(turn, turned.ended);
         self.end_job(turn.first, turned.report);
         let dialled = self.dial_told(turn.first, turned.dialled);
@@ -43,12 +43,11 @@ impl Card {
         }
     }
 
-    fn page_told(&self, kept: Option<Kept>) -> Option<Happened>
-        ensures { result ≡ page_told self.now kept }
+    fn page_told(&self, is_kept: bool, kept: Option<Kept>) -> Option<Happened>
+        ensures { result ≡ page_told self.now is_kept kept }
     {
         match kept {
-            None => None,
-            Some(kept) => Some(Happened::Page(
+            Some(kept) if is_kept => Some(Happened::Page(
                 PageKept {
                     call: kept.call,
                     number: self.pages_in_call.saturating_add(1),
@@ -57,6 +56,7 @@ impl Card {
                 },
                 self.tag(kept.call),
             )),
+            _ => None,
         }
     }
 

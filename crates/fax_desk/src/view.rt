@@ -39,14 +39,20 @@ pub struct LineView {
     pub called: LegView,
 }
 
-/// What the lines are.
+/// What the lines are, and whether their spool has failed.
 pub trait View {
-    ghost use Rattle.std.specs.Prelude.{◌≡◌, ℕ, Option};
+    ghost use Rattle.std.specs.Prelude.{◌≡◌, ℕ, Bool, Option};
     ghost use Rattle.fax_desk.specs.declared.view.LineView.{LineView as Shown};
 
     ghost line: { Self → ℕ → Option Shown };
 
+    ghost failed: { Self → Bool };
+
     /// What line i is.
     fn line(&self, i: usize) -> Option<LineView>
         ensures { result ≡ line self.now i };
+
+    /// Whether the spool's disk has failed, so that it takes no page.
+    fn has_failed(&self) -> bool
+        ensures { result ≡ failed self.now };
 }
