@@ -1,6 +1,6 @@
 //! The pages of a server that are kept on a disk.
 ghost use Rattle.std.specs.Prelude.{ℕ, ◌≡◌, ◌<◌, false, true, List, [], ◌++◌, All, IfErr, IsErr, MatchOption, None, Some, OnErr, OnOk, is_ok, length, slice_get};
-ghost use Rattle.fax_spool.specs.Calls.{Accepts, Refuses};
+ghost use Rattle.fax_spool.specs.Calls.{Accepts, Refuses, refuses_now};
 ghost use Rattle.fax_spool.specs.RecordOctets.{PageValue as SpoolPage};
 ghost use Rattle.fax_spool.specs.Spools.{epoch_now};
 ghost use Rattle.fax_spool.specs.Waits.{PageName};
@@ -86,6 +86,13 @@ impl<D: Disk> Keeping<D> {
             kept: _,
         } = self;
         spool
+    }
+
+    /// Whether a call of the disk has failed: then it keeps no page, and notes no end.
+    pub fn refuses(&self) -> bool
+        ensures { result ≡ refuses_now self.now.spool }
+    {
+        self.spool.refuses()
     }
 
     /// What is known of the lines' pages.
