@@ -1,5 +1,5 @@
 -- What the desk sees of a line, part by part.
-use Rattle.std.proofs.Common.{◌≡◌, ℕ, Option, ◌∙◌, ap}
+use Rattle.std.proofs.Common.{◌≡◌, ℕ, Bool, Option, ◌∙◌, ap}
 use Rattle.std.specs.Prelude.{option_map}
 use Rattle.fax_desk.specs.declared.view.AskedView.{AskedView}
 use Rattle.fax_desk.specs.declared.view.FirstJob.{FirstJob}
@@ -9,16 +9,16 @@ use Rattle.fax_gateway.specs.Turns.{call_kept}
 use Rattle.fax_gateway.specs.declared.side.Side.TheVariants as side
 use Rattle.fax_line.specs.Actions.{LineValue}
 use Rattle.fax_repeat.specs.Peers.{peer_on, state_of}
-use Rattle.fax_serve.specs.Views.{job_seen, leg_seen, line_seen}
+use Rattle.fax_serve.specs.Views.{asked_seen, leg_seen, line_seen}
 
 pub seen_as :
-    (line : LineValue) (first : FirstJob) (call sending : Option ℕ) (asked : Option AskedView) (calling called : LegView)
+    (line : LineValue) (first : FirstJob) (has_failed : Bool) (call sending : Option ℕ) (asked : Option AskedView) (calling called : LegView)
     → call ≡ call_kept line.gateway.calling → sending ≡ option_map (λ job. job.call) line.gateway.book.sending
-    → asked ≡ option_map job_seen (job_asked line.gateway.settings.asks line.gateway.book)
+    → asked ≡ asked_seen has_failed (job_asked line.gateway.settings.asks line.gateway.book)
     → calling ≡ leg_seen (state_of (peer_on side.Calling line.peers)) → called ≡ leg_seen (state_of (peer_on side.Called line.peers))
-    → record { call = call; sending = sending; asked = asked; calling = calling; called = called; first = first } ≡ line_seen line first
-seen_as line first call sending asked calling called call_is sending_is asked_is calling_is called_is =
-    let seen = line_seen line first in
+    → record { call = call; sending = sending; asked = asked; calling = calling; called = called; first = first } ≡ line_seen line first has_failed
+seen_as line first has_failed call sending asked calling called call_is sending_is asked_is calling_is called_is =
+    let seen = line_seen line first has_failed in
     ap (λ (x : Option ℕ). record { call = x; sending = sending; asked = asked; calling = calling; called = called; first = first }) call_is
     ∙ ap (λ (x : Option ℕ). record { call = seen.call; sending = x; asked = asked; calling = calling; called = called; first = first }) sending_is
     ∙ ap (λ (x : Option AskedView). record { call = seen.call; sending = seen.sending; asked = x; calling = calling; called = called; first = first }) asked_is

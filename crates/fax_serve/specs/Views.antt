@@ -1,5 +1,5 @@
 -- What the desk sees of a line (this project's profile).
-use Rattle.std.specs.Prelude.{ℕ, false, true, List, length, Option, Some, None, option_map, slice_get, if◌then◌else◌}
+use Rattle.std.specs.Prelude.{ℕ, Bool, false, true, List, length, Option, Some, None, option_map, slice_get, if◌then◌else◌}
 use Rattle.fax_desk.specs.Tags.{tag_of_text}
 use Rattle.fax_desk.specs.declared.tag.Tag.{Tag}
 use Rattle.fax_desk.specs.declared.view.AskedView.{AskedView}
@@ -22,12 +22,17 @@ leg_seen leg = record { has_peer = leg.has_peer; is_fixed = leg.is_fixed; is_hea
 abbrev pub job_seen : JobValue → AskedView
 job_seen job = record { call = job.call; pages = length job.pages }
 
+-- While the spool has failed, so that the end of a job cannot be noted, none is asked for.
+abbrev pub asked_seen : (has_failed : Bool) → Option JobValue → Option AskedView
+asked_seen true job = None
+asked_seen false job = option_map job_seen job
+
 -- THE DESK SEES A LINE AS IT IS: the call that is on, the job that is being sent and the one whose call is asked for, and what its legs are.
-abbrev pub line_seen : LineValue → FirstJob → LineView
-line_seen line first = record {
+abbrev pub line_seen : LineValue → FirstJob → (has_failed : Bool) → LineView
+line_seen line first has_failed = record {
   call = call_kept line.gateway.calling;
   sending = option_map (λ job. job.call) line.gateway.book.sending;
-  asked = option_map job_seen (job_asked line.gateway.settings.asks line.gateway.book);
+  asked = asked_seen has_failed (job_asked line.gateway.settings.asks line.gateway.book);
   calling = leg_seen (state_of (peer_on side.Calling line.peers));
   called = leg_seen (state_of (peer_on side.Called line.peers));
   first = first;
@@ -51,6 +56,11 @@ abbrev pub first_if : {K : Type 0} → Option K → (K → FirstJob) → FirstJo
 first_if None first = of_this_life
 first_if (Some keeper) first = first keeper
 
+-- whether what keeps the pages of the lines takes none, since its disk has failed
+abbrev pub failed_if : {K : Type 0} → Option K → (K → Bool) → Bool
+failed_if None failed = false
+failed_if (Some keeper) failed = failed keeper
+
 -- line i, counted from 0
-abbrev pub line_at : List PlaceValue → (ℕ → FirstJob) → ℕ → Option LineView
-line_at lines first i = option_map (λ place. line_seen place.line (first i)) (slice_get lines i)
+abbrev pub line_at : List PlaceValue → (has_failed : Bool) → (ℕ → FirstJob) → ℕ → Option LineView
+line_at lines has_failed first i = option_map (λ place. line_seen place.line (first i) has_failed) (slice_get lines i)

@@ -1,10 +1,10 @@
 //! The texts that control words are answered with.
 use crate::failures::Failures;
 use crate::sockets::SocketLegs;
-use crate::view::{Seen, first_job, view_of};
+use crate::view::Seen;
 use fax_bits::NoMemory;
 use fax_control::Answer;
-use fax_desk::{Desk, Happened, LineView, Tag};
+use fax_desk::{Desk, Happened, LineView, Tag, View};
 use fax_events::{Counters, Event, What, write_event};
 use fax_gateway::Side;
 use fax_hold::LineWire;
@@ -70,8 +70,8 @@ fn reports_kept<W: LineWire + Drop>(line: &Line<W>) -> usize {
     count
 }
 
-/// The pages that are not sent, of which these lines of events tell, each call that is on, and each job whose call is on or is asked
-/// for, as events of this moment, and `ok`: for a client that wants events from now on.
+/// What is damaged in the spool, and that it has failed, the pages that are not sent, of which these lines of events tell, each call that
+/// is on, and each job whose call is on or is asked for, as events of this moment, and `ok`: for a client that wants events from now on.
 pub(crate) fn state_text<W: LineWire + Drop, D: Disk>(
     alloc: Global,
     aside: &[Vec<u8>],
@@ -80,6 +80,7 @@ pub(crate) fn state_text<W: LineWire + Drop, D: Disk>(
     at: u64,
 ) -> Result<Vec<u8>, NoMemory> {
     let mut text = Vec::new(alloc);
+    put_spool(alloc, desk, at, &mut text)?;
     for told in aside {
         text.extend_from_slice(told.as_slice())?;
     }
@@ -88,6 +89,18 @@ pub(crate) fn state_text<W: LineWire + Drop, D: Disk>(
     }
     text.extend_from_slice(b"ok\n")?;
     Ok(text)
+}
+
+/// Adds the lines that tell what is told of the spool first.
+fn put_spool(alloc: Global, desk: &Desk, at: u64, text: &mut Vec<u8>) -> Result<(), NoMemory> {
+    let told = desk.spool_told();
+    if let Some(damage) = told.damage {
+        put_event(alloc, None, at, damage, text)?;
+    }
+    if let Some(failure) = told.failure {
+        put_event(alloc, None, at, failure, text)?;
+    }
+    Ok(())
 }
 
 /// Adds the lines that tell what is on on line i.
@@ -99,8 +112,8 @@ fn put_state<W: LineWire + Drop, D: Disk>(
     at: u64,
     text: &mut Vec<u8>,
 ) -> Result<(), NoMemory> {
-    if let Some(line) = seen.lines.line(i)
-        && let Some(state) = desk.state(i, view_of(line, first_job(seen.keeper, i)))
+    if let Some(line) = seen.line(i)
+        && let Some(state) = desk.state(i, line)
     {
         put_happened(alloc, desk, i, at, state.rung, text)?;
         put_happened(alloc, desk, i, at, state.job, text)?;
@@ -120,15 +133,15 @@ fn put_happened(
     if let Some(happened) = happened
         && let Some(name) = desk.name(i)
     {
-        put_event(alloc, name, at, happened.shown(), text)?;
+        put_event(alloc, Some(name), at, happened.shown(), text)?;
     }
     Ok(())
 }
 
-/// Adds the line of what happens on the line of this name.
+/// Adds the line of what happens on the line of this name, or to all of them.
 fn put_event(
     alloc: Global,
-    line: &str,
+    line: Option<&str>,
     at: u64,
     what: What<'_>,
     text: &mut Vec<u8>,
@@ -138,22 +151,37 @@ fn put_event(
     Ok(())
 }
 
-/// A line for each line of the configuration, and `ok`.
+/// A line for each line of the configuration, one for the spool, where there is one, and `ok`.
 pub(crate) fn status_text<W: SocketLegs + Drop, D: Disk>(
     alloc: Global,
     desk: &Desk,
+    counters: &Counters,
     seen: &Seen<'_, W, D>,
 ) -> Result<Vec<u8>, NoMemory> {
     let mut text = Vec::new(alloc);
     for i in 0..seen.lines.len() {
-        if let Some(line) = seen.lines.line(i) {
-            let view = view_of(line, first_job(seen.keeper, i));
+        if let Some(line) = seen.lines.line(i)
+            && let Some(view) = seen.line(i)
+        {
             let told = line_text(alloc, desk, i, line, view)?;
             text.extend_from_slice(told.as_bytes())?;
         }
     }
+    if seen.keeper.is_some() {
+        let told = spool_text(alloc, counters, seen.has_failed())?;
+        text.extend_from_slice(told.as_bytes())?;
+    }
     text.extend_from_slice(b"ok\n")?;
     Ok(text)
+}
+
+/// How the spool is: whether it takes pages, what its start found damaged, and how many pages are not sent.
+fn spool_text(alloc: Global, counters: &Counters, has_failed: bool) -> Result<String, AllocError> {
+    let state = if has_failed { "failed" } else { "keeps" };
+    let records = counters.records_damaged;
+    let octets = counters.octets_passed_over;
+    let aside = counters.pages_set_aside;
+    format!(in alloc; "spool {state} damaged {records} passed_over {octets} set_aside {aside}\n")
 }
 
 /// How line i is.
@@ -201,7 +229,12 @@ fn tag_text(alloc: Global, what: &str, tag: Option<Tag>) -> Result<String, Alloc
 
 /// Whether a line has no call and no job.
 pub(crate) fn is_idle<W: LineWire + Drop>(line: &Line<W>) -> bool {
-    line.call().is_none() && line.sending().is_none() && line.waiting() == 0
+    is_calm(line) && line.waiting() == 0
+}
+
+/// Whether a line has no call on either leg.
+pub(crate) fn is_calm<W: LineWire + Drop>(line: &Line<W>) -> bool {
+    line.call().is_none() && line.sending().is_none()
 }
 
 /// What failed on a line.

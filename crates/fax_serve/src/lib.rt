@@ -13,13 +13,16 @@ mod run;
 mod schedule;
 mod sockets;
 mod telling;
+mod unserved;
 mod view;
 mod watch;
 
 pub use fault::ServeFault;
+pub use fax_desk::RunEnd;
 pub use keeper::SpoolKeeper;
 pub use pace::RealPace;
 pub use run::{run_serve, serve_clients};
 pub use schedule::Schedule;
 pub use sockets::{ServedLines, SocketLegs, open_lines};
+pub use unserved::answer_unserved;
 pub use watch::Watch;

@@ -6,15 +6,16 @@ ghost use Rattle.fax_shelf.specs.SpoolKeeping.{IsUnchanged};
 mod telling;
 mod words;
 
-use crate::answers::is_idle;
+use crate::answers::{is_calm, is_idle};
 use crate::clock::Stopwatch;
 use crate::keeper::SpoolKeeper;
 use crate::schedule::Schedule;
 use crate::sockets::SocketLegs;
 use crate::telling::Teller;
+use crate::view::has_failed;
 use crate::watch::Watch;
 use fax_clients::Clients;
-use fax_desk::{Desk, Tag};
+use fax_desk::{Desk, RunEnd, Tag};
 use fax_gateway::Kept;
 use fax_hold::LineWire;
 use fax_line::{Answered, Lines, Order, Pace, SLOTS, SlotEnd};
@@ -86,7 +87,7 @@ impl<'a, C: Clock, I: Read + Drop, O: Write + Drop> Model for RealPace<'a, C, I,
 }
 
 impl<'a, C: Clock, I: Read + Drop, O: Write + Drop> RealPace<'a, C, I, O> {
-    /// The time begins now, and nothing was ordered.
+    /// The time begins now, and nothing was ordered. The spool has failed so often in runs before this one.
     pub(crate) fn new(
         alloc: Global,
         clock: Stopwatch<'a, C>,
@@ -94,6 +95,7 @@ impl<'a, C: Clock, I: Read + Drop, O: Write + Drop> RealPace<'a, C, I, O> {
         desk: Desk,
         lines: usize,
         watch: Option<Watch>,
+        spool_failures: u64,
     ) -> Result<Self, AllocError>
         requires { desk.waits ≡ None }
         ensures { IfOk result (λ pace. pace.waits ≡ None) }
@@ -110,7 +112,7 @@ impl<'a, C: Clock, I: Read + Drop, O: Write + Drop> RealPace<'a, C, I, O> {
             late_from: 0,
             desk,
             to_ask: Vec::new(alloc),
-            teller: Teller::new(alloc, clients, lines)?,
+            teller: Teller::new(alloc, clients, lines, spool_failures)?,
             watch,
             woken: Vec::new(alloc),
             has_looked: false,
@@ -143,7 +145,20 @@ impl<'a, C: Clock, I: Read + Drop, O: Write + Drop> RealPace<'a, C, I, O> {
         if !self.desk.is_stopping() && self.teller.clients.have_ended() {
             self.desk.stop(self.now);
         }
-        self.desk.is_stopping() && self.desk.is_over(self.now, are_idle(lines))
+        let may_end = self.desk.is_stopping() || self.desk.has_failed();
+        may_end
+            && self
+                .desk
+                .is_over(self.now, are_idle(lines), are_calm(lines))
+    }
+
+    /// Looks whether the spool has failed, and tells that once.
+    fn look_at_spool<D: Disk>(&mut self, keeper: Option<&SpoolKeeper<D>>)
+        ensures { self.new ≡ self.old }
+    {
+        if self.desk.see_spool(has_failed(keeper), self.now) {
+            self.teller.tell_spool_failed(self.now);
+        }
     }
 
     /// Whether the clients are asked now.
@@ -268,9 +283,10 @@ impl<'a, C: Clock, I: Read + Drop, O: Write + Drop> RealPace<'a, C, I, O> {
         Some(self.turn_or_wake(lines))
     }
 
-    /// Writes what clients are still to be told, for a while.
-    pub(crate) fn finish(&mut self) {
+    /// Writes what clients are still to be told, for a while. It answers how the run ends.
+    pub(crate) fn finish(&mut self) -> RunEnd {
         self.teller.clients.finish();
+        self.desk.end()
     }
 }
 
@@ -365,6 +381,18 @@ fn are_idle<W: LineWire + Drop>(lines: &Lines<W>) -> bool {
     true
 }
 
+/// Whether no line has a call.
+fn are_calm<W: LineWire + Drop>(lines: &Lines<W>) -> bool {
+    for i in 0..lines.len() {
+        if let Some(line) = lines.line(i)
+            && !is_calm(line)
+        {
+            return false;
+        }
+    }
+    true
+}
+
 impl<'a, C: Clock, I: Read + Drop, O: Write + Drop, W: SocketLegs + Drop, D: Disk> Pace<
     W,
     SpoolKeeper<D>,
@@ -384,6 +412,7 @@ impl<'a, C: Clock, I: Read + Drop, O: Write + Drop, W: SocketLegs + Drop, D: Dis
         if !self.desk.is_free() {
             self.tell_done(None);
         }
+        self.look_at_spool(keeper);
         self.next_order(lines, keeper)
     }
 

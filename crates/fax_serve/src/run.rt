@@ -13,7 +13,7 @@ use crate::sockets::{ServedLines, open_lines, open_restored_lines};
 use crate::watch::Watch;
 use fax_clients::Clients;
 use fax_config::{Config, LineConfig};
-use fax_desk::{Card, Desk};
+use fax_desk::{Card, Damage, Desk, RunEnd};
 use fax_hold::Keeper;
 use fax_keep::{Folders, KeptFile};
 use fax_line::{PageToKeep, RunKeeper, serve};
@@ -29,16 +29,19 @@ use std::rt::Clock;
 /// Milliseconds of a second.
 const SECOND_MS: u64 = 1_000;
 
-/// Serves the lines of a configuration until it is told to stop. Words come on the control socket where the configuration
-/// has one, and else on the input, whose answers and events go to the output. An `Err` tells why nothing was served.
+/// Serves the lines of a configuration until it is told to stop, or its spool has failed and no line has a call, 10 s behind the failure
+/// at the earliest: then it is to be served by another run, over a spool that is opened anew. Words come on the control socket where
+/// the configuration has one, and else on the input, whose answers and events go to the output. The spool has failed so often in runs
+/// before this one. An `Err` tells why nothing was served.
 pub fn run_serve<N: Net + Files + Clock + Folders, I: Read + Drop, O: Write + Drop, S: Start>(
     system: &N,
     alloc: Global,
     config: &Config,
     input: I,
     output: O,
+    spool_failures: u64,
     start: S,
-) -> Result<(), ServeFault>
+) -> Result<RunEnd, ServeFault>
     ensures alone { OnOk result (ServedAlone (length config.now.lines.items) (is_some config.now.spool)) }
     ensures kept { OnOk result (is_some config.now.spool ≡ true → ServedOver ⟦<KeptFile<S> as Disk>⟧.seen ⟦<KeptFile<S> as Disk>⟧.may_leave ⟦<KeptFile<S> as Disk>⟧.is_usable ⟦<KeptFile<S> as Disk>⟧.is_clean ⟦<SpoolKeeper<KeptFile<S>> as RunKeeper>⟧.is_same ⟦<SpoolKeeper<KeptFile<S>> as Keeper<PageToKeep>>⟧.puts ⟦<SpoolKeeper<KeptFile<S>> as RunKeeper>⟧.notes ⟦<SpoolKeeper<KeptFile<S>> as RunKeeper>⟧.ends (λ keeper. keeper.keeping.spool) (λ keeper. keeper.keeping.shelves.items) S.db S.log config.now.lines.items) }
 {
@@ -47,31 +50,40 @@ pub fn run_serve<N: Net + Files + Clock + Folders, I: Read + Drop, O: Write + Dr
             let path = path.as_str();
             let listener = open_control(system, path)?;
             let clients: Clients<I, O> = Clients::of_socket(alloc, listener)?;
-            let served = serve_clients(system, alloc, config, clients, start);
+            let served = serve_clients(system, alloc, config, clients, spool_failures, start);
             close_control(system, path);
             served
         }
         None => {
             let clients = Clients::standard(alloc, input, output)?;
-            serve_clients(system, alloc, config, clients, start)
+            serve_clients(system, alloc, config, clients, spool_failures, start)
         }
     }
 }
 
-/// Serves the lines of a configuration until one of these clients says `stop`.
+/// Serves the lines of a configuration until one of these clients says `stop`, or its spool has failed.
 pub fn serve_clients<N: Net + Clock + Folders, I: Read + Drop, O: Write + Drop, S: Start>(
     system: &N,
     alloc: Global,
     config: &Config,
     clients: Clients<I, O>,
+    spool_failures: u64,
     start: S,
-) -> Result<(), ServeFault>
+) -> Result<RunEnd, ServeFault>
     ensures alone { OnOk result (ServedAlone (length config.now.lines.items) (is_some config.now.spool)) }
     ensures kept { OnOk result (is_some config.now.spool ≡ true → ServedOver ⟦<KeptFile<S> as Disk>⟧.seen ⟦<KeptFile<S> as Disk>⟧.may_leave ⟦<KeptFile<S> as Disk>⟧.is_usable ⟦<KeptFile<S> as Disk>⟧.is_clean ⟦<SpoolKeeper<KeptFile<S>> as RunKeeper>⟧.is_same ⟦<SpoolKeeper<KeptFile<S>> as Keeper<PageToKeep>>⟧.puts ⟦<SpoolKeeper<KeptFile<S>> as RunKeeper>⟧.notes ⟦<SpoolKeeper<KeptFile<S>> as RunKeeper>⟧.ends (λ keeper. keeper.keeping.spool) (λ keeper. keeper.keeping.shelves.items) S.db S.log config.now.lines.items) }
 {
     match &config.spool {
         None => serve_in_memory(system, alloc, config, clients, start),
-        Some(folder) => serve_spooled(system, alloc, config, clients, folder.as_str(), start),
+        Some(folder) => serve_spooled(
+            system,
+            alloc,
+            config,
+            clients,
+            folder.as_str(),
+            spool_failures,
+            start,
+        ),
     }
 }
 
@@ -82,14 +94,13 @@ fn serve_in_memory<N: Net + Clock, I: Read + Drop, O: Write + Drop, S: Start>(
     config: &Config,
     clients: Clients<I, O>,
     _start: S,
-) -> Result<(), ServeFault>
+) -> Result<RunEnd, ServeFault>
     ensures { OnOk result (ServedAlone (length config.now.lines.items) false) }
 {
     let lines = open_lines(system, alloc, config.lines.as_slice())?;
-    let mut pace = pace_of(system, alloc, config, clients, &lines)?;
+    let mut pace = pace_of(system, alloc, config, clients, &lines, 0)?;
     serve_new::<N, I, O, S>(lines, &mut pace);
-    pace.finish();
-    Ok(())
+    Ok(pace.finish())
 }
 
 /// The same where pages are kept in the spool of this folder: each line begins with those of its own that wait there.
@@ -99,8 +110,9 @@ fn serve_spooled<N: Net + Clock + Folders, I: Read + Drop, O: Write + Drop, S: S
     config: &Config,
     clients: Clients<I, O>,
     folder: &str,
+    spool_failures: u64,
     start: S,
-) -> Result<(), ServeFault>
+) -> Result<RunEnd, ServeFault>
     ensures alone { OnOk result (ServedAlone (length config.now.lines.items) true) }
     ensures kept { OnOk result (ServedOver ⟦<KeptFile<S> as Disk>⟧.seen ⟦<KeptFile<S> as Disk>⟧.may_leave ⟦<KeptFile<S> as Disk>⟧.is_usable ⟦<KeptFile<S> as Disk>⟧.is_clean ⟦<SpoolKeeper<KeptFile<S>> as RunKeeper>⟧.is_same ⟦<SpoolKeeper<KeptFile<S>> as Keeper<PageToKeep>>⟧.puts ⟦<SpoolKeeper<KeptFile<S>> as RunKeeper>⟧.notes ⟦<SpoolKeeper<KeptFile<S>> as RunKeeper>⟧.ends (λ keeper. keeper.keeping.spool) (λ keeper. keeper.keeping.shelves.items) S.db S.log config.now.lines.items) }
 {
@@ -118,27 +130,27 @@ fn serve_spooled<N: Net + Clock + Folders, I: Read + Drop, O: Write + Drop, S: S
         pages.as_slice(),
         &mut shelves,
     )?;
-    let mut pace = pace_of(system, alloc, config, clients, &lines)?;
-    pace.tell_aside(
-        older_damaged.saturating_add(newer_damaged),
-        pages.as_slice(),
-        shelves.as_slice(),
-    );
+    let mut pace = pace_of(system, alloc, config, clients, &lines, spool_failures)?;
+    let damage = Damage {
+        records: older_damaged.saturating_add(newer_damaged) as u64,
+        octets: 0,
+    };
+    pace.tell_aside(damage, pages.as_slice(), shelves.as_slice());
     let keeper = SpoolKeeper {
         keeping: Keeping::new(alloc, spool, shelves),
     };
     serve_restored(lines, keeper, &mut pace);
-    pace.finish();
-    Ok(())
+    Ok(pace.finish())
 }
 
-/// What gives the orders to these lines.
+/// What gives the orders to these lines, whose spool has failed so often before.
 fn pace_of<'a, N: Net + Clock, I: Read + Drop, O: Write + Drop>(
     system: &'a N,
     alloc: Global,
     config: &Config,
     clients: Clients<I, O>,
     lines: &ServedLines,
+    spool_failures: u64,
 ) -> Result<RealPace<'a, N, I, O>, ServeFault>
     ensures { IfOk result (λ pace. pace.waits ≡ None) }
 {
@@ -149,7 +161,15 @@ fn pace_of<'a, N: Net + Clock, I: Read + Drop, O: Write + Drop>(
         Err(error) => return Err(ServeFault::Clock(error)),
     };
     let watch = Watch::new(system, alloc, lines).ok();
-    Ok(RealPace::new(alloc, clock, clients, desk, lines.len(), watch)?)
+    Ok(RealPace::new(
+        alloc,
+        clock,
+        clients,
+        desk,
+        lines.len(),
+        watch,
+        spool_failures,
+    )?)
 }
 
 /// Serves lines that are new.

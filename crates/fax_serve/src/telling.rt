@@ -3,7 +3,7 @@ use crate::answers::failures_of;
 use crate::failures::Failures;
 use crate::sockets::SocketLegs;
 use fax_clients::Clients;
-use fax_desk::{Happened, Listener};
+use fax_desk::{Damage, Happened, Listener};
 use fax_events::{Counters, Event, What, write_event};
 use fax_jobs::{Outcome, Report};
 use fax_line::Line;
@@ -25,11 +25,12 @@ pub(crate) struct Teller<I: Read + Drop, O: Write + Drop> {
 }
 
 impl<I: Read + Drop, O: Write + Drop> Teller<I, O> {
-    /// Nothing was told; there are so many lines.
+    /// Nothing was told; there are so many lines, and the spool has failed so often before.
     pub(crate) fn new(
         alloc: Global,
         clients: Clients<I, O>,
         lines: usize,
+        spool_failures: u64,
     ) -> Result<Self, AllocError> {
         let mut failures = Vec::new(alloc);
         failures.resize(lines, Failures::default())?;
@@ -38,6 +39,7 @@ impl<I: Read + Drop, O: Write + Drop> Teller<I, O> {
             clients,
             counters: Counters {
                 lines: lines as u64,
+                spool_failures,
                 ..Counters::default()
             },
             lost: 0,
@@ -54,8 +56,8 @@ impl<I: Read + Drop, O: Write + Drop> Teller<I, O> {
         }
     }
 
-    /// Tells an event of the line of this name. Without memory it is lost.
-    pub(crate) fn tell_event(&mut self, line: &str, at: u64, what: What<'_>) {
+    /// Tells an event of the line of this name, or of all of them. Without memory it is lost.
+    pub(crate) fn tell_event(&mut self, line: Option<&str>, at: u64, what: What<'_>) {
         if !self.clients.tell_events() {
             return;
         }
@@ -71,10 +73,26 @@ impl<I: Read + Drop, O: Write + Drop> Teller<I, O> {
         self.counters.put_micros = self.counters.put_micros.saturating_add(micros);
     }
 
+    /// Counts what a start found damaged in the spool, and tells it, where there is something.
+    pub(crate) fn tell_damage(&mut self, damage: Damage) {
+        self.counters.records_damaged = damage.records;
+        self.counters.octets_passed_over = damage.octets;
+        if let Some(what) = damage.told() {
+            self.tell_event(None, 0, what);
+        }
+    }
+
+    /// Counts that the spool has failed, and tells it.
+    pub(crate) fn tell_spool_failed(&mut self, at: u64) {
+        self.counters.spool_failures = self.counters.spool_failures.saturating_add(1);
+        self.tell_event(None, at, What::SpoolFailed);
+    }
+
     /// Tells a page of an earlier life that is not sent: its call there, and its number in the call.
     pub(crate) fn tell_aside(&mut self, line: &str, call: u32, number: u32) {
         self.counters.pages_set_aside = self.counters.pages_set_aside.saturating_add(1);
         let what = What::SetAside(call, number);
+        let line = Some(line);
         self.tell_event(line, 0, what);
         if let Ok(text) = write_event(self.alloc, &Event { line, at: 0, what }) {
             let _ = self.aside.push(text);
@@ -135,7 +153,7 @@ impl<I: Read + Drop, O: Write + Drop> Teller<I, O> {
             return;
         };
         told.tell(leg, direction, count);
-        self.tell_event(name, at, What::Wire(leg, direction, count));
+        self.tell_event(Some(name), at, What::Wire(leg, direction, count));
     }
 }
 
@@ -145,6 +163,6 @@ impl<I: Read + Drop, O: Write + Drop> Listener for Teller<I, O> {
 
     fn tell(&mut self, line: &str, at: u64, what: Happened) {
         self.count(what);
-        self.tell_event(line, at, what.shown());
+        self.tell_event(Some(line), at, what.shown());
     }
 }

@@ -2,7 +2,8 @@
 ghost use Rattle.std.specs.Prelude.{◌≡◌, option_map, slice_get};
 ghost use Rattle.fax_gateway.specs.Sides.{job_asked};
 ghost use Rattle.fax_repeat.specs.Peers.{peer_on, state_of};
-ghost use Rattle.fax_serve.specs.Views.{first_if, first_on, job_seen, leg_seen, line_seen, tag_if};
+ghost use Rattle.fax_serve.specs.Views.{asked_seen, failed_if, first_if, first_on, job_seen, leg_seen, line_seen, tag_if};
+ghost use Rattle.fax_spool.specs.Calls.{refuses_now};
 
 use crate::keeper::SpoolKeeper;
 use fax_desk::{AskedView, FirstJob, LegView, LineView, Tag, View};
@@ -20,24 +21,41 @@ pub(crate) struct Seen<'a, W: LineWire + Drop, D: Disk> {
 
 impl<'a, W: LineWire + Drop, D: Disk> View for Seen<'a, W, D> {
     ghost use Rattle.std.specs.Prelude.{slice_get};
-    ghost use Rattle.fax_serve.specs.Views.{first_if, first_on, line_at};
+    ghost use Rattle.fax_spool.specs.Calls.{refuses_now};
+    ghost use Rattle.fax_serve.specs.Views.{failed_if, first_if, first_on, line_at};
 
-    ghost line = { λ seen i. line_at seen.lines.now.lines (λ i. first_if seen.keeper (λ keeper. first_on keeper.now.keeping.life (slice_get keeper.now.keeping.shelves.items i))) i };
+    ghost line = { λ seen i. line_at seen.lines.now.lines (failed_if seen.keeper (λ keeper. refuses_now keeper.now.keeping.spool)) (λ i. first_if seen.keeper (λ keeper. first_on keeper.now.keeping.life (slice_get keeper.now.keeping.shelves.items i))) i };
+
+    ghost failed = { λ seen. failed_if seen.keeper (λ keeper. refuses_now keeper.now.keeping.spool) };
 
     fn line(&self, i: usize) -> Option<LineView> {
         let line = self.lines.line(i)?;
-        Some(view_of(line, first_job(self.keeper, i)))
+        Some(view_of(line, first_job(self.keeper, i), has_failed(self.keeper)))
+    }
+
+    fn has_failed(&self) -> bool {
+        has_failed(self.keeper)
     }
 }
 
-/// What a line is, the job that is first in turn on which was confirmed so.
-pub(crate) fn view_of<W: LineWire + Drop>(line: &Line<W>, first: FirstJob) -> LineView
-    ensures { result ≡ line_seen line.now first }
+/// Whether the spool's disk has failed; none has where pages are kept in memory alone.
+pub(crate) fn has_failed<D: Disk>(keeper: Option<&SpoolKeeper<D>>) -> bool
+    ensures { result ≡ failed_if keeper.entry (λ keeper. refuses_now keeper.now.keeping.spool) }
+{
+    match keeper {
+        Some(keeper) => keeper.keeping.refuses(),
+        None => false,
+    }
+}
+
+/// What a line is, the job that is first in turn on which was confirmed so, and whose spool has failed, or not.
+fn view_of<W: LineWire + Drop>(line: &Line<W>, first: FirstJob, has_failed: bool) -> LineView
+    ensures { result ≡ line_seen line.now first has_failed }
 {
     LineView {
         call: line.call(),
         sending: sending(line),
-        asked: asked(line),
+        asked: asked(line, has_failed),
         calling: leg_view(line, Side::Calling),
         called: leg_view(line, Side::Called),
         first,
@@ -54,10 +72,13 @@ fn sending<W: LineWire + Drop>(line: &Line<W>) -> Option<u32>
     }
 }
 
-/// The job whose call is asked for.
-fn asked<W: LineWire + Drop>(line: &Line<W>) -> Option<AskedView>
-    ensures { result ≡ option_map job_seen (job_asked line.now.gateway.settings.asks line.now.gateway.book) }
+/// The job whose call is asked for: none while the end of a job cannot be noted, since it would be sent a second time.
+fn asked<W: LineWire + Drop>(line: &Line<W>, has_failed: bool) -> Option<AskedView>
+    ensures { result ≡ asked_seen has_failed (job_asked line.now.gateway.settings.asks line.now.gateway.book) }
 {
+    if has_failed {
+        return None;
+    }
     match line.job_asked() {
         Some(job) => Some(AskedView {
             call: job.call(),

@@ -7,7 +7,7 @@ use crate::sockets::SocketLegs;
 use crate::telling::Teller;
 use crate::view::first_job;
 use crate::watch::{asks, wake_legs};
-use fax_desk::{Desk, Turn, tell_turn};
+use fax_desk::{Damage, Desk, Turn, tell_turn};
 use fax_events::What;
 use fax_gateway::Side;
 use fax_line::{Line, Lines, SLOTS};
@@ -18,12 +18,13 @@ use std::io::{Read, Write};
 use std::rt::Clock;
 
 impl<'a, C: Clock, I: Read + Drop, O: Write + Drop> RealPace<'a, C, I, O> {
-    /// Tells what the spool was found to hold that is not sent: so many damaged records, pages whose texts mean none, and of the
-    /// pages that waited those of lines that are not served.
-    pub(crate) fn tell_aside(&mut self, damaged: usize, pages: &[WaitingPage], shelves: &[Shelf])
+    /// Tells what the spool was found to hold that is not sent: this damage, pages whose texts mean none, and of the pages that waited
+    /// those of lines that are not served. It is kept for those who come later.
+    pub(crate) fn tell_aside(&mut self, damage: Damage, pages: &[WaitingPage], shelves: &[Shelf])
         ensures { self.new ≡ self.old }
     {
-        self.teller.counters.records_damaged = damaged as u64;
+        self.desk.set_damage(damage);
+        self.teller.tell_damage(damage);
         tell_shelves_aside(&mut self.teller, shelves);
         tell_pages_aside(&mut self.teller, &self.desk, pages);
     }
@@ -110,7 +111,8 @@ impl<'a, C: Clock, I: Read + Drop, O: Write + Drop> RealPace<'a, C, I, O> {
         }
         if let Some(name) = self.desk.name(slot) {
             self.late_from = self.now.saturating_add(BETWEEN_LATE_MS);
-            self.teller.tell_event(name, self.now, What::Late(late));
+            self.teller
+                .tell_event(Some(name), self.now, What::Late(late));
         }
     }
 }

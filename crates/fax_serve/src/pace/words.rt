@@ -6,11 +6,11 @@ use super::RealPace;
 use crate::answers::{answer_text, counters_of, report_text, state_text, status_text};
 use crate::keeper::SpoolKeeper;
 use crate::sockets::SocketLegs;
-use crate::view::{Seen, first_job, view_of};
+use crate::view::Seen;
 use fax_bits::NoMemory;
 use fax_clients::Asker;
 use fax_control::{Answer, Heard, Refusal, Word, read_word};
-use fax_desk::{Desk, Done, LineView, Looked, Next, Order as DeskOrder, tell_at};
+use fax_desk::{Desk, Done, LineView, Looked, Next, Order as DeskOrder, View, tell_at};
 use fax_events::write_metrics;
 use fax_hold::LineWire;
 use fax_line::{Answered, Lines, Order};
@@ -69,7 +69,7 @@ impl<'a, C: Clock, I: Read + Drop, O: Write + Drop> RealPace<'a, C, I, O> {
             }
             Next::Reports(i) => self.report(asker, i, lines),
             Next::Status => {
-                let text = status_text(self.alloc, &self.desk, &seen);
+                let text = status_text(self.alloc, &self.desk, &self.teller.counters, &seen);
                 self.put(asker, text);
             }
             Next::Metrics => self.tell_metrics(asker, lines, keeper),
@@ -134,10 +134,11 @@ impl<'a, C: Clock, I: Read + Drop, O: Write + Drop> RealPace<'a, C, I, O> {
         requires { self.old.waits ≡ None }
         ensures { GivesOrder result self.old self.new }
     {
+        let seen = Seen { lines, keeper };
         for _ in 0..self.to_ask.len() {
             let i = self.to_ask.pop()?;
-            if let Some(line) = lines.line(i)
-                && let Some(order) = self.look_at_question(i, view_of(line, first_job(keeper, i)))
+            if let Some(line) = seen.line(i)
+                && let Some(order) = self.look_at_question(i, line)
             {
                 return Some(order);
             }
@@ -215,8 +216,8 @@ fn ask_all<W: LineWire + Drop, D: Disk>(desk: &mut Desk, seen: &Seen<'_, W, D>)
     ensures { desk.new.waits ≡ desk.old.waits }
 {
     for i in 0..seen.lines.len() {
-        if let Some(line) = seen.lines.line(i) {
-            desk.ask_at(i, view_of(line, first_job(seen.keeper, i)));
+        if let Some(line) = seen.line(i) {
+            desk.ask_at(i, line);
         }
     }
 }

@@ -1,0 +1,102 @@
+//! What clients are answered while no line is served, since the spool cannot be opened.
+use crate::answers::answer_text;
+use crate::clock::Stopwatch;
+use crate::control::{close_control, open_control};
+use crate::fault::ServeFault;
+use fax_clients::{Clients, MOST_CLIENTS};
+use fax_control::{Answer, Heard, Refusal, Word, read_word};
+use fax_desk::{Reply, unserved_reply};
+use std::alloc::Global;
+use std::fs::Files;
+use std::net::Net;
+use std::os::unix::net::UnixStream;
+use std::rt::Clock;
+
+/// Clients are waited for so many milliseconds at once, at most.
+const WAIT_MS: u64 = 1_000;
+
+/// Whether a word of a client said to stop.
+#[derive(Clone, Copy, PartialEq, Eq, Debug)]
+enum Said {
+    Stop,
+    Nothing,
+}
+
+/// Answers the clients of the control socket at this path for so many milliseconds, while no line is served: `stop` is done, and each
+/// other word refused. It answers whether it was told to stop.
+pub fn answer_unserved<N: Net + Files + Clock>(
+    system: &N,
+    alloc: Global,
+    path: &str,
+    within_ms: u64,
+) -> Result<bool, ServeFault> {
+    let watch = match Stopwatch::new(system) {
+        Ok(watch) => watch,
+        Err(error) => return Err(ServeFault::Clock(error)),
+    };
+    let listener = open_control(system, path)?;
+    let mut clients: Clients<UnixStream, UnixStream> = Clients::of_socket(alloc, listener)?;
+    let said = answer_until(&watch, alloc, &mut clients, within_ms);
+    clients.finish();
+    close_control(system, path);
+    Ok(said == Said::Stop)
+}
+
+/// Answers clients until so many milliseconds have passed, or one of them said to stop.
+fn answer_until<C: Clock>(
+    watch: &Stopwatch<'_, C>,
+    alloc: Global,
+    clients: &mut Clients<UnixStream, UnixStream>,
+    within_ms: u64,
+) -> Said {
+    for _ in 0..u64::MAX {
+        let left = match watch.now() {
+            Some(now) => within_ms.saturating_sub(now),
+            None => 0,
+        };
+        if left == 0 {
+            return Said::Nothing;
+        }
+        clients.wait(left.min(WAIT_MS) as i32);
+        if answer_words(alloc, clients) == Said::Stop {
+            return Said::Stop;
+        }
+    }
+    Said::Nothing
+}
+
+/// Answers the words that were said, one of each client.
+fn answer_words(alloc: Global, clients: &mut Clients<UnixStream, UnixStream>) -> Said {
+    for _ in 0..MOST_CLIENTS {
+        let Some((asker, heard)) = clients.hear() else {
+            return Said::Nothing;
+        };
+        let answer = answer_to(&heard);
+        if let Ok(text) = answer_text(alloc, answer) {
+            clients.answer(asker, text);
+        }
+        if let Answer::Done = answer {
+            return Said::Stop;
+        }
+    }
+    Said::Nothing
+}
+
+/// How a line of a client is answered.
+fn answer_to(heard: &Heard) -> Answer<'static> {
+    match heard {
+        Heard::TooLong => Answer::Refused(Refusal::TooLong),
+        Heard::Line(octets) => match read_word(octets.as_slice()) {
+            Some(word) => answer_of(word),
+            None => Answer::Refused(Refusal::NoWord),
+        },
+    }
+}
+
+/// The answer to a word.
+fn answer_of(word: Word<'_>) -> Answer<'static> {
+    match unserved_reply(word) {
+        Reply::Refused(refused) => Answer::Refused(refused.why),
+        _ => Answer::Done,
+    }
+}
