@@ -1,9 +1,11 @@
 -- With which status a run ends of which something is told. (This project's profile.)
-use Rattle.std.specs.Prelude.{◌≡◌, ◌⊎◌}
+use Rattle.std.specs.Prelude.{◌≡◌, ◌⊎◌, Bool, true, false, Option, Some, None, IsSomeAnd}
 use Rattle.clap.specs.declared.error.kind.ErrorKind.{ErrorKind}
 use Rattle.clap.specs.declared.error.kind.ErrorKind.TheVariants.{DisplayHelp, DisplayVersion, OutOfMemory}
 use Rattle.fax_command.specs.declared.status.Status.{Status}
 use Rattle.fax_command.specs.declared.status.Status.TheVariants as status
+use Rattle.fax_desk.specs.declared.spool.RunEnd.{RunEnd}
+use Rattle.fax_desk.specs.declared.spool.RunEnd.TheVariants.{Stopped, SpoolFailed}
 use Rattle.fax_jobs.specs.declared.outcome.Outcome.{Outcome}
 use Rattle.fax_jobs.specs.declared.outcome.Outcome.TheVariants.{Delivered}
 
@@ -22,3 +24,10 @@ refusal_status kind = status.Usage
 abbrev pub outcome_status : Outcome → Status
 outcome_status Delivered = status.Done
 outcome_status outcome = status.Undelivered
+
+-- THE PROCESS ENDS behind a run of a server that was told to stop. One whose spool has failed is followed by another one, which opens
+-- that anew, where words come on a control socket; words that come on the standard input are of one run alone.
+abbrev pub IsEndedBy : RunEnd → (has_control : Bool) → Option Status → Type 0
+IsEndedBy Stopped has_control ends = ends ≡ Some status.Done
+IsEndedBy SpoolFailed true ends = ends ≡ None
+IsEndedBy SpoolFailed false ends = IsSomeAnd ends (IsToldAs status.Usage)

@@ -11,4 +11,5 @@ mod streams;
 mod terminals;
 
 pub use failures::tell_loop;
-pub use run::run_words;
+pub use run::{Ran, run_words};
+pub use serving::Service;

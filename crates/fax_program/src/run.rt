@@ -2,31 +2,36 @@
 ghost use Rattle.fax_request.specs.Requests.{IsAllowed};
 
 use crate::refusals::{tell_refusal, tell_unread_words};
-use crate::serving::serve_file;
+use crate::serving::{Service, service_of};
 use crate::streams::{answer_capture, answer_explain, answer_loop, answer_page, answer_trace};
 use crate::terminals::{receive, send};
-use fax_keep::Folders;
 use fax_request::{Request, request_of};
-use sqlite_disk::Start;
 use std::net::Net;
 use std::rt::{Clock, Env, Files};
 use std::{env, io};
 
-/// Does what the words of the command line ask for, and says with which exit status the process ends. Sockets, files
-/// and the clock are those of the system. No contract says what words a runtime has, or what its streams bring and take; what a
-/// command answers is told by `run_page` and its kin. `S` stands for what the files of a spool hold.
+/// What a run of the program comes to.
+#[derive(Drop)]
+pub enum Ran {
+    /// The process ends with this exit status.
+    Ends(u8),
+    /// These lines are to be served (`Service::run`).
+    Serves(Service),
+}
+
+/// Does what the words of the command line ask for. Sockets, files and the clock are those of the system. No contract says what words a
+/// runtime has, or what its streams bring and take; what a command answers is told by `run_page` and its kin.
 pub fn run_words<
     R: Print + Eprint + Input + Env + AllocGlobal,
-    N: Net + Files + Clock + AllocGlobal + Folders,
-    S: Start,
->(rt: &R, system: &N, start: S) -> u8 {
+    N: Net + Files + Clock + AllocGlobal,
+>(rt: &R, system: &N) -> Ran {
     let words = match words_of(rt) {
         Ok(words) => words,
-        Err(error) => return tell_unread_words(rt, error).code(),
+        Err(error) => return Ran::Ends(tell_unread_words(rt, error).code()),
     };
     match request_of(rt.alloc(), words.as_slice()) {
-        Ok(request) => run_request(rt, system, request, start),
-        Err(error) => tell_refusal(rt, &error).code(),
+        Ok(request) => run_request(rt, system, request),
+        Err(error) => Ran::Ends(tell_refusal(rt, &error).code()),
     }
 }
 
@@ -35,22 +40,26 @@ fn words_of<R: Env + AllocGlobal>(rt: &R) -> io::Result<Vec<String>> {
     Ok(env::args(rt)?.collect(rt.alloc())?)
 }
 
-/// Does what is asked for, and says with which exit status the process ends.
-fn run_request<
-    R: Print + Eprint + Input + AllocGlobal,
-    N: Net + Files + Clock + AllocGlobal + Folders,
-    S: Start,
->(rt: &R, system: &N, request: Request<'_>, start: S) -> u8
+/// Does what is asked for.
+fn run_request<R: Print + Eprint + Input + AllocGlobal, N: Net + Files + Clock + AllocGlobal>(
+    rt: &R,
+    system: &N,
+    request: Request<'_>,
+) -> Ran
     requires { IsAllowed request }
 {
-    match request {
+    let status = match request {
         Request::Page(options) => answer_page(rt, options),
         Request::Trace(settings) => answer_trace(rt, settings),
         Request::Explain(options) => answer_explain(rt, system, options),
         Request::Capture(machines) => answer_capture(rt, machines),
         Request::Loop(settings) => answer_loop(rt, system, settings),
-        Request::Serve(path) => serve_file(rt, system, path, start).code(),
+        Request::Serve(path) => match service_of(rt, system, path) {
+            Ok(service) => return Ran::Serves(service),
+            Err(status) => status.code(),
+        },
         Request::Send(options, files) => send(rt, system, options, files.as_slice()).code(),
         Request::Receive(options) => receive(rt, system, options).code(),
-    }
+    };
+    Ran::Ends(status)
 }

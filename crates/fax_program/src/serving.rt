@@ -1,60 +1,176 @@
 //! `faxgate serve`.
-ghost use Rattle.fax_program.specs.Statuses.{IsToldAs};
+ghost use Rattle.fax_program.specs.Statuses.{IsEndedBy, IsToldAs};
 
 use crate::failures::tell_unprinted;
 use fax_command::Status;
 use fax_config::{Config, ConfigFault, Misfit, read_config};
-use fax_keep::Folders;
-use fax_serve::{ServeFault, run_serve};
+use fax_keep::{FolderFault, Folders};
+use fax_serve::{RunEnd, ServeFault, answer_unserved, run_serve};
 use sqlite_disk::Start;
 use std::fmt::Display;
 use std::net::Net;
 use std::rt::{Clock, Files};
 use std::{fs, io};
 
-/// Serves the lines of the configuration in the file at this path. Faults are told in one line on the standard error.
-pub(crate) fn serve_file<
-    R: Print + Eprint + Input + AllocGlobal,
-    N: Net + Files + Clock + AllocGlobal + Folders,
-    S: Start,
->(rt: &R, system: &N, path: &str, start: S) -> Status {
-    let text = match fs::read_to_string(system, path) {
-        Ok(text) => text,
-        Err(error) => return tell(rt, path, error, Status::Stream),
-    };
-    match read_config(rt.alloc(), text.as_str()) {
-        Ok(config) => serve_config(rt, system, path, &config, start),
-        Err(ConfigFault::Misfit(Misfit::NoMemory)) => {
-            tell(rt, path, "memory was refused", Status::NoMemory)
+/// A spool that could not be opened anew is tried again so many milliseconds later.
+const BETWEEN_OPENINGS_MS: u64 = 10_000;
+
+/// The lines of a configuration, which are served by one run behind the other: a run whose spool has failed ends, and the next one opens
+/// that anew.
+#[derive(Drop)]
+pub struct Service {
+    /// The path of the configuration.
+    path: String,
+    config: Config,
+    /// How often the spool has failed.
+    failures: u64,
+    /// The fault that was told last for which the spool could not be opened anew, since it was open; else nothing.
+    told: String,
+}
+
+impl Service {
+    /// Serves the lines until one says `stop`, or the spool has failed and no line has a call. It answers with which status the process
+    /// ends. `None`: the lines are to be served once more, by another run, over files of its own (`S` stands for what they hold). Faults
+    /// are told in one line on the standard error.
+    pub fn run<R: Print + Eprint + Input + AllocGlobal, N: Net + Files + Clock + Folders, S: Start>(
+        &mut self,
+        rt: &R,
+        system: &N,
+        start: S,
+    ) -> Option<u8> {
+        let ran = run_serve(
+            system,
+            rt.alloc(),
+            &self.config,
+            rt.reader(),
+            io::writer(rt),
+            self.failures,
+            start,
+        );
+        let ended = match ran {
+            Ok(end) => self.end(rt, end),
+            Err(fault) => self.fail(rt, system, fault),
+        };
+        match ended {
+            Some(status) => Some(status.code()),
+            None => None,
         }
-        Err(fault) => tell(rt, path, fault, Status::Usage),
+    }
+
+    /// A run over a spool that was opened has ended so.
+    fn end<R: Eprint>(&mut self, rt: &R, end: RunEnd) -> Option<Status> {
+        self.told.clear();
+        if end == RunEnd::SpoolFailed {
+            self.failures = self.failures.saturating_add(1);
+        }
+        ended_by(rt, self.path.as_str(), self.config.control.is_some(), end)
+    }
+
+    /// A run did not begin, for this fault: one of a spool that was open before passes.
+    fn fail<R: Eprint + AllocGlobal, N: Net + Files + Clock>(
+        &mut self,
+        rt: &R,
+        system: &N,
+        fault: ServeFault,
+    ) -> Option<Status> {
+        if self.failures == 0 {
+            return Some(tell_fault(rt, self.path.as_str(), fault));
+        }
+        match fault {
+            ServeFault::Spool(fault) => self.wait(rt, system, fault),
+            fault => Some(tell_fault(rt, self.path.as_str(), fault)),
+        }
+    }
+
+    /// The spool could not be opened anew. That is told once; and until it is tried again, what clients say is refused.
+    fn wait<R: Eprint + AllocGlobal, N: Net + Files + Clock>(
+        &mut self,
+        rt: &R,
+        system: &N,
+        fault: FolderFault,
+    ) -> Option<Status> {
+        self.tell_once(rt, fault);
+        let Some(control) = &self.config.control else {
+            return Some(Status::Usage);
+        };
+        match answer_unserved(system, rt.alloc(), control.as_str(), BETWEEN_OPENINGS_MS) {
+            Ok(true) => Some(Status::Done),
+            Ok(false) => None,
+            Err(fault) => Some(tell_fault(rt, self.path.as_str(), fault)),
+        }
+    }
+
+    /// Tells why the spool could not be opened anew, where that is another fault than the one that was told last.
+    fn tell_once<R: Eprint + AllocGlobal>(&mut self, rt: &R, fault: FolderFault) {
+        let text = match format!(in rt.alloc(); "{fault}") {
+            Ok(text) => text,
+            Err(_) => String::new(rt.alloc()),
+        };
+        if text.is_empty() || self.told.as_str() != text.as_str() {
+            let _ = tell_fault(rt, self.path.as_str(), ServeFault::Spool(fault));
+        }
+        self.told = text;
     }
 }
 
-/// Serves the lines of a configuration.
-fn serve_config<
-    R: Print + Eprint + Input + AllocGlobal,
-    N: Net + Files + Clock + Folders,
-    S: Start,
->(rt: &R, system: &N, path: &str, config: &Config, start: S) -> Status {
+/// The lines of the configuration in the file at this path. An `Err` is the status behind a fault that was told.
+pub(crate) fn service_of<R: Print + Eprint + AllocGlobal, N: Files + AllocGlobal>(
+    rt: &R,
+    system: &N,
+    path: &str,
+) -> Result<Service, Status> {
+    let text = match fs::read_to_string(system, path) {
+        Ok(text) => text,
+        Err(error) => return Err(tell(rt, path, error, Status::Stream)),
+    };
+    let config = match read_config(rt.alloc(), text.as_str()) {
+        Ok(config) => config,
+        Err(ConfigFault::Misfit(Misfit::NoMemory)) => return Err(tell_no_memory(rt, path)),
+        Err(fault) => return Err(tell(rt, path, fault, Status::Usage)),
+    };
     if config.spool.is_none()
         && let Err(error) = rt.print("pages are kept in memory alone: no spool is set\n")
     {
-        return tell_unprinted(rt, error);
+        return Err(tell_unprinted(rt, error));
     }
-    match run_serve(
-        system,
-        rt.alloc(),
-        config,
-        rt.reader(),
-        io::writer(rt),
-        start,
-    ) {
-        Ok(()) => Status::Done,
-        Err(ServeFault::NoMemory) => tell(rt, path, ServeFault::NoMemory, Status::NoMemory),
-        Err(ServeFault::Spool(fault)) => { tell(rt, path, ServeFault::Spool(fault), Status::Usage) }
-        Err(fault) => tell(rt, path, fault, Status::Stream),
+    match String::from_str(rt.alloc(), path) {
+        Ok(path) => Ok(Service {
+            path,
+            config,
+            failures: 0,
+            told: String::new(rt.alloc()),
+        }),
+        Err(_) => Err(tell_no_memory(rt, path)),
     }
+}
+
+/// A run of the configuration at this path has ended so, whose words come on a control socket or not: with which status the process
+/// ends, or that it serves once more. That the spool has failed is told.
+fn ended_by<R: Eprint>(rt: &R, path: &str, has_control: bool, end: RunEnd) -> Option<Status>
+    ensures { IsEndedBy end has_control result }
+{
+    if end == RunEnd::Stopped {
+        return Some(Status::Done);
+    }
+    let status = tell(rt, path, "spool: its disk failed", Status::Usage);
+    if has_control { None } else { Some(status) }
+}
+
+/// Tells why a run did not begin, and gives the status that says it.
+fn tell_fault<R: Eprint>(rt: &R, path: &str, fault: ServeFault) -> Status {
+    let status = match &fault {
+        ServeFault::NoMemory => Status::NoMemory,
+        ServeFault::Spool(_) => Status::Usage,
+        _ => Status::Stream,
+    };
+    tell(rt, path, fault, status)
+}
+
+/// Tells that memory was wanted and refused.
+fn tell_no_memory<R: Eprint>(rt: &R, path: &str) -> Status
+    ensures { IsToldAs Status.NoMemory result }
+{
+    tell(rt, path, "memory was refused", Status::NoMemory)
 }
 
 /// Tells a fault of a configuration in one line, and gives the status that says it.

@@ -4,10 +4,20 @@
 //! of a configuration; `faxgate send` and `faxgate receive` send and receive pages as a machine does.
 #![tactic(auto)]
 
-use fax_program::run_words;
+use fax_program::{Ran, run_words};
 use sqlite_disk::Unknown;
 use std::process::ExitCode;
 
 fn main(rt: HostRuntime) -> ExitCode {
-    ExitCode::from(run_words(&rt, &rt, Unknown))
+    let mut service = match run_words(&rt, &rt) {
+        Ran::Ends(status) => return ExitCode::from(status),
+        Ran::Serves(service) => service,
+    };
+    for _ in 0..u64::MAX {
+        // Each run opens its spool with a value of its own.
+        if let Some(status) = service.run(&rt, &rt, Unknown) {
+            return ExitCode::from(status);
+        }
+    }
+    ExitCode::SUCCESS
 }
