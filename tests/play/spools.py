@@ -10,11 +10,13 @@ import unittest
 import t4
 import t38
 from playing import PAGE, PATIENCE, SHORT_T4, Playing, numbers
-from server import Line, Server, until
+from server import Line, Server, event_line, until
 
 # A page of one row: as a machine sends it, and as its record has it, in the two-dimensional coding.
 ROW = [[0, 1, 1719, 8]]
 OTHER_ROW = [[100, 3, 1625]]
+# One whose record is longer than what a server says on its standard error, where that is a file of the same limit.
+TALL = 150 * ROW
 FILES = ("pages", "pages-wal")
 # What the records of pages, of jobs that ended and of epochs begin with.
 PAGE_KIND, ENDED_KIND, EPOCH = b"\x01", b"\x02", b"\x03"
@@ -278,6 +280,11 @@ class DamagedRecords(Spooling):
             counts = server.metrics()
             told = counts["faxgate_records_damaged_total"], counts["faxgate_pages_kept"], counts["faxgate_pages_set_aside_total"]
             self.assertEqual(told, (1, 2, 0), at)
+        # who comes later is told so too
+        client = server.client()
+        self.assertEqual(client.say("events"), ["ok"])
+        self.assertEqual(event_line(client.events[0]), '{"event":"damaged","at":N,"records":1,"octets":0}')
+        self.assertIn("spool keeps damaged 1 passed_over 0 set_aside 0", server.say("status"))
 
     def test_an_octet_of_a_header_harms_nothing(self):
         """Nor does one of the shut gate behind the last record."""
@@ -305,11 +312,13 @@ class DamagedRecords(Spooling):
 
 class AFullDisk(Spooling):
     def refused(self, server, line, call, pages, confirmed):
-        """A call whose disk is full behind so many pages: no MCF comes for the next, and nothing at all from then on, until it ends."""
+        """A call whose disk is full behind so many pages: no MCF comes for the next, and nothing at all from then on, until it ends. No
+        line is rung from then on, and who comes later is told why first."""
         events = server.events()
         machine = self.calling(line, pages, t4=SHORT_T4)
         self.assertEqual(server.say("ring a1"), [f"ok {call}"])
         events.event("not_kept", PATIENCE, call=call)
+        events.event("spool_failed", PATIENCE)
         mute = time.time() + 0.1
         machine.join(PATIENCE)
         leg = machine.leg
@@ -320,34 +329,109 @@ class AFullDisk(Spooling):
         machine.end()
         self.assertEqual(server.say("hangup a1 calling"), ["ok"])
         events.event("ended", PATIENCE, call=call, how="NotKept")
+        # what was not kept is told as that alone
+        self.assertEqual(len([it for it in events.events if it["event"] == "page"]), confirmed)
+        self.assertEqual([server.say("ring a1"), server.say("ring any")], 2 * [["refused 13 NoSpool"]])
+        later = server.client()
+        self.assertEqual(later.say("events"), ["ok"])
+        self.assertEqual([it["event"] for it in later.events[:1]], ["spool_failed"])
+        self.assertIn("spool failed damaged 0 passed_over 0 set_aside 0", server.say("status"))
+
+    def mended(self, server):
+        """The disk has room again, and the spool is opened anew: a client that is told events then."""
+        self.limit(server, resource.RLIM_INFINITY)
+
+        def keeps():
+            # between two runs nobody listens
+            with contextlib.suppress(OSError, AssertionError):
+                return any(line.startswith("spool keeps ") for line in server.say("status"))
+
+        until(keeps, PATIENCE, "a spool that is opened anew")
+        self.assertEqual(server.metrics()["faxgate_spool_failures_total"], 1)
+        return server.events()
 
     def test_it_claims_nothing(self):
-        """A page fits, and then the disk is full. What was confirmed is sent by the next life, with the page behind it at most; the pages
-        that were not kept are sent on all the same, and the next life keeps pages again."""
+        """A page fits, and then the disk is full. What was confirmed is sent by the next run, with the page behind it at most, though both
+        were sent before, since the end of that job was not noted; and that run keeps pages again."""
         line = Line(self.ports)
         server = self.serve(line)
-        events, called = server.events(), self.called(line, calls=2)
+        events, called = server.events(), self.called(line, calls=3)
         pages = [t4.text(ROW), t4.text(OTHER_ROW)]
         self.limit(server, len(file_of(*epochs(1), page(b"a1", 1, 0, 1, kept(ROW), False))) + 20)
         self.refused(server, line, 0, pages, 1)
-        # the leg is mute no more, and still nothing is kept
-        self.refused(server, line, 1, pages[:1], 0)
-        self.assertEqual(server.metrics()["faxgate_put_failures_total"], 2)
-        self.jobs(events, ("a1", 0, None, 2), ("a1", 1, None, 1))
-        called.end()
-        self.assertEqual(called.pages, pages + pages[:1])
-        server.kill()
-        called = self.called(line)
-        server.start()
-        events = server.events()
-        machine = self.calling(line, pages[:1])
-        self.assertEqual(server.say("ring a1"), ["ok 0"])
+        counts = server.metrics()
+        told = counts["faxgate_put_failures_total"], counts["faxgate_pages_confirmed_total"], counts["faxgate_spool_failures_total"]
+        self.assertEqual(told, (1, 1, 1))
+        self.jobs(events, ("a1", 0, None, 2))
+        events = self.mended(server)
+        machine = self.calling(line, pages[1:])
+        self.assertEqual(server.say("ring a1 anew"), ["ok 0"])
         machine.end()
         self.assertEqual(machine.confirmed, 1)
-        job = self.await_job(events, call=0)
+        self.jobs(events, ("a1", 0, "anew", 1))
         called.end()
-        self.assertIn(called.pages, (pages[:1], pages))
-        self.assertEqual(job["delivered"], len(called.pages))
+        self.assertIn(called.pages, (pages + pages[:1] + pages[1:], pages + pages + pages[1:]))
+
+
+class ADiskThatStaysFull(AFullDisk):
+    def test_it_claims_nothing(self):
+        """A page is kept and waits for its call, and the next one finds the disk full, which it stays for a while: no call is asked for
+        and no line rung meanwhile. Then the page that was kept goes out, alone, and another one behind it."""
+        line = Line(self.ports, called_peer=False)
+        server = self.serve(line)
+        events = server.events()
+        self.confirm(server, line, "kept", TALL)
+        events.event("dial", PATIENCE, call=0, tag="kept")
+        self.limit(server, 20 + max(len(self.file(server, name).rstrip(b"\0")) for name in FILES))
+        self.refused(server, line, 1, [t4.text(OTHER_ROW)], 0)
+        peer = f"peer a1 called 127.0.0.1:{line.called_peer}"
+        self.assertEqual(server.say(peer), ["refused 11 NoCall"])
+        until(lambda: server.errors().count("\n") == 2, PATIENCE, "that the spool cannot be opened")
+        for said in ("ring a1", "ring any", "status", "no word"):
+            answer = "refused 8 NoWord" if said == "no word" else "refused 13 NoSpool"
+            self.assertEqual(until(lambda: self.answer(server, said), PATIENCE), [answer])
+        events = self.mended(server)
+        self.assertEqual(server.errors().count("\n"), 2)
+        called = self.called(line, calls=2)
+        events.event("dial", PATIENCE, call=0, tag="kept")
+        self.assertEqual(server.say(peer), ["ok"])
+        self.jobs(events, ("a1", 0, "kept", 1))
+        self.confirm(server, line, "anew", OTHER_ROW)
+        events.event("dial", PATIENCE, call=0, tag="anew")
+        self.assertEqual(server.say(peer), ["ok"])
+        self.jobs(events, ("a1", 0, "anew", 1))
+        called.end()
+        self.assertEqual(called.pages, [t4.text(TALL), t4.text(OTHER_ROW)])
+
+    def confirm(self, server, line, tag, rows):
+        """A page of the line's first call is confirmed."""
+        machine = self.calling(line, [t4.text(rows)])
+        self.assertEqual(server.say(f"ring a1 {tag}"), ["ok 0"])
+        machine.end()
+        self.assertEqual(machine.confirmed, 1)
+
+    @staticmethod
+    def answer(server, word):
+        """What a word is answered; none where nobody listens."""
+        with contextlib.suppress(OSError, AssertionError):
+            return server.say(word)
+
+
+class WordsOfStandardInput(Spooling):
+    def test_they_are_of_one_run(self):
+        """Where words come from there and the disk fails, the process ends, and says why."""
+        line = Line(self.ports)
+        self.silent(line)
+        server = Server([line], spool=True, control=False, head="stop_seconds = 1")
+        self.addCleanup(server.close)
+        server.start()
+        self.limit(server, 300)
+        machine = self.calling(line, [t4.text(TALL)], t4=SHORT_T4)
+        self.assertEqual(server.say("ring a1"), ["ok 0"])
+        server.standard.event("spool_failed", PATIENCE)
+        machine.end()
+        self.assertEqual(server.ends(), 2)
+        self.assertRegex(server.errors(), "^faxgate: [^ ]*: spool: its disk failed\n$")
 
 
 class TwinLeg(t38.Leg):
