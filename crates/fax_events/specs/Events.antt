@@ -17,6 +17,8 @@ use Rattle.fax_events.specs.declared.event.Direction.{Direction}
 use Rattle.fax_events.specs.declared.event.Direction.TheVariants.{Receives, Sends}
 use Rattle.fax_events.specs.declared.event.Ending.{Ending}
 use Rattle.fax_events.specs.declared.event.Ending.TheVariants.{Done, HungUp, GivenUp, NotKept}
+use Rattle.fax_events.specs.declared.event.WhyAside.{WhyAside}
+use Rattle.fax_events.specs.declared.event.WhyAside.TheVariants.{NoPage, TornCall, NoLine}
 use Rattle.fax_events.specs.declared.event.What.{What}
 use Rattle.fax_events.specs.declared.event.What.TheVariants.{Rung, Page, RefusedPage, Ended, Dial, Asked, Connected, Job, Wire, Late, SetAside, Damaged, SpoolFailed}
 use Rattle.fax_events.specs.declared.event.What.TheVariants as what
@@ -31,6 +33,11 @@ ending_name Done = codes "Done"
 ending_name HungUp = codes "HungUp"
 ending_name GivenUp = codes "GivenUp"
 ending_name NotKept = codes "NotKept"
+
+abbrev pub aside_name : WhyAside → List ℕ
+aside_name NoPage = codes "NoPage"
+aside_name TornCall = codes "TornCall"
+aside_name NoLine = codes "NoLine"
 
 abbrev pub fault_name : PageFault → List ℕ
 fault_name page.NoEol = codes "NoEol"
@@ -60,7 +67,7 @@ event_name (Job report tag cause) = codes "job"
 event_name (Wire leg direction count) = codes "wire"
 event_name (Late span) = codes "late"
 event_name (what.NotKept call tag) = codes "not_kept"
-event_name (SetAside call n) = codes "set_aside"
+event_name (SetAside aside tag) = codes "set_aside"
 event_name (Damaged records octets) = codes "damaged"
 event_name SpoolFailed = codes "spool_failed"
 
@@ -126,7 +133,9 @@ what_members (Wire leg direction count) =
     text_member (codes "leg") (leg_text leg) ++ (text_member (codes "direction") (direction_name direction) ++ number_member (codes "failures") count)
 what_members (Late span) = number_member (codes "ms") span
 what_members (what.NotKept call tag) = number_member (codes "call") call ++ tag_member (option_map (λ text. text.now) tag)
-what_members (SetAside call n) = number_member (codes "call") call ++ number_member (codes "number") n
+what_members (SetAside aside tag) =
+    number_member (codes "life") aside.life ++ (number_member (codes "call") aside.call ++ (tag_member (option_map (λ text. text.now) tag)
+    ++ (number_member (codes "number") aside.number ++ text_member (codes "why") (aside_name aside.why))))
 what_members (Damaged records octets) = number_member (codes "records") records ++ number_member (codes "octets") octets
 what_members SpoolFailed = []
 

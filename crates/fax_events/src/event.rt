@@ -1,6 +1,6 @@
 //! What happens on a line, or to all of them.
 ghost use Rattle.std.specs.Prelude.{◌≡◌};
-ghost use Rattle.fax_events.specs.Events.{direction_name, ending_name, event_name};
+ghost use Rattle.fax_events.specs.Events.{aside_name, direction_name, ending_name, event_name};
 
 use fax_answer::Refusal;
 use fax_control::Leg;
@@ -51,6 +51,42 @@ impl Ending {
             Ending::NotKept => "NotKept",
         }
     }
+}
+
+/// Why a page that was kept in an earlier life is not sent.
+#[derive(Clone, Copy, PartialEq, Eq, Debug)]
+pub enum WhyAside {
+    /// Its text means no page.
+    NoPage,
+    /// A page of its call is lost: its record is damaged.
+    TornCall,
+    /// No line of the configuration has the name of its line.
+    NoLine,
+}
+
+impl WhyAside {
+    /// The reason's name in an event.
+    pub(crate) fn name(self) -> &'static str
+        ensures { result.now ≡ aside_name self }
+    {
+        match self {
+            WhyAside::NoPage => "NoPage",
+            WhyAside::TornCall => "TornCall",
+            WhyAside::NoLine => "NoLine",
+        }
+    }
+}
+
+/// A page that was kept in an earlier life, and is not sent.
+#[derive(Clone, Copy, PartialEq, Eq, Debug)]
+pub struct PageAside {
+    /// The number of that life.
+    pub life: u32,
+    /// The number of its call there.
+    pub call: u32,
+    /// Its number in the call, from 1 on.
+    pub number: u32,
+    pub why: WhyAside,
 }
 
 /// A page that was confirmed.
@@ -105,9 +141,8 @@ pub enum What<'a> {
     /// A page was confirmed and could not be kept on the disk: the number of its call, and the tag of that. Nothing is said on
     /// the call's leg any more.
     NotKept(u32, Option<&'a str>),
-    /// A page that was kept in an earlier life means none, and is not sent: the number of its call there, and its own in the call,
-    /// from 1 on.
-    SetAside(u32, u32),
+    /// A page that was kept in an earlier life is not sent; the tag is that of its call.
+    SetAside(PageAside, Option<&'a str>),
     /// The start found so many damaged records in the spool, and passed so many octets over in which nothing could be read. It is told
     /// of no line.
     Damaged(u64, u64),

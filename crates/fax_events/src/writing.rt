@@ -3,7 +3,7 @@ ghost use Rattle.std.specs.Prelude.{◌≡◌, option_map, IfOk, OnOk};
 ghost use Rattle.fax_jobs.specs.ReportTexts.{resolution_name};
 ghost use Rattle.fax_events.specs.Events.{Adds, cause_members, detail_members, event_line, fault_members, fault_name, format_members, line_members, refusal_members, refusal_name, row_members, number_member, tag_member, text_member, what_members};
 
-use crate::event::{AskedJob, Direction, Ending, Event, PageKept, What};
+use crate::event::{AskedJob, Direction, Ending, Event, PageAside, PageKept, What};
 use fax_answer::Refusal;
 use fax_bits::NoMemory;
 use fax_control::Leg;
@@ -236,6 +236,17 @@ fn put_wire(
     put_number(writer, "failures", count)
 }
 
+/// Writes what is told of a page that is not sent.
+fn put_aside(writer: &mut Writer, page: PageAside, tag: Option<&str>) -> Result<(), AllocError>
+    ensures { OnOk result (Adds writer.old writer.new (what_members (What.SetAside page tag.entry))) }
+{
+    put_number(writer, "life", u64::from(page.life))?;
+    put_number(writer, "call", u64::from(page.call))?;
+    put_tag(writer, tag)?;
+    put_number(writer, "number", u64::from(page.number))?;
+    put_text(writer, "why", page.why.name())
+}
+
 /// Writes what an event tells beside its name, its line and its moment.
 fn put_what(writer: &mut Writer, what: &What<'_>) -> Result<(), AllocError>
     ensures { OnOk result (Adds writer.old writer.new (what_members what.now)) }
@@ -255,10 +266,7 @@ fn put_what(writer: &mut Writer, what: &What<'_>) -> Result<(), AllocError>
         What::Job(report, tag, cause) => put_job(writer, report, tag, cause),
         What::Wire(leg, direction, count) => put_wire(writer, leg, direction, count),
         What::Late(span) => put_number(writer, "ms", span),
-        What::SetAside(call, number) => {
-            put_number(writer, "call", u64::from(call))?;
-            put_number(writer, "number", u64::from(number))
-        }
+        What::SetAside(page, tag) => put_aside(writer, page, tag),
         What::Damaged(records, octets) => {
             put_number(writer, "records", records)?;
             put_number(writer, "octets", octets)
