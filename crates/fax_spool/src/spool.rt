@@ -3,7 +3,7 @@ ghost use Rattle.std.specs.Prelude.{◌≡◌, ◌⊎◌, ◌<◌, ◌≤◌, �
 ghost use Rattle.std.specs.List.{filter};
 ghost use Rattle.std.specs.Bool.{MatchBool};
 ghost use Rattle.std.specs.Result.{is_ok};
-ghost use Rattle.fax_spool.specs.Calls.{Accepts, Does, Puts, Ends, Turns, refuses_now};
+ghost use Rattle.fax_spool.specs.Calls.{Accepts, Does, Puts, Ends, Refuses, Turns, refuses_now};
 ghost use Rattle.fax_spool.specs.Records.{Stands};
 ghost use Rattle.fax_spool.specs.Settled.{IsSettled};
 ghost use Rattle.fax_spool.specs.KeptRecords.{AreReadAs, kept_of};
@@ -178,10 +178,11 @@ impl<D: Disk> Spool<D> {
         Ok(())
     }
 
-    /// Drops the records of the older file where none of its pages waits, and answers whether it did.
+    /// Drops the records of the older file where none of its pages waits, and answers whether it did: not where one waits.
     pub fn clear(&mut self) -> io::Result<bool>
         ensures cleared { IfOk result (λ was. (olds news : List KeptShown) → Keeps D.seen D.may_leave D.is_usable self.old olds news
-            → MatchBool was (NoneIsLeft olds news × Keeps D.seen D.may_leave D.is_usable self.new [] news) (Keeps D.seen D.may_leave D.is_usable self.new olds news)) }
+            → MatchBool was (NoneIsLeft olds news × Keeps D.seen D.may_leave D.is_usable self.new [] news) ((¬ NoneIsLeft olds news) × Keeps D.seen D.may_leave D.is_usable self.new olds news)) }
+        ensures failed { OnErr result ((olds news : List KeptShown) → Keeps D.seen D.may_leave D.is_usable self.old olds news → Refuses self.new) }
         // Whenever the machine stops, the files tell all records, or those of the newer one where no other page waits.
         ensures crash { (olds news : List KeptShown) → Keeps D.seen D.may_leave D.is_usable self.old olds news
             → (older newer : List ℕ) → MayLeaveBoth D.may_leave self.new older newer

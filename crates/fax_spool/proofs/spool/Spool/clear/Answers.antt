@@ -1,6 +1,7 @@
-use Rattle.std.proofs.Common.{◌≡◌, [], true, false, refl, inl, arith}
+use Rattle.std.proofs.Common.{◌≡◌, ◌∙◌, [], true, false, length, map, refl, ap, inl, arith}
 use Rattle.fax_spool.proofs.Loops.{none_more}
 use Rattle.fax_spool.specs.Calls.{Turns}
+use Rattle.fax_spool.specs.Waits.{name_of}
 use Rattle.fax_spool.proofs.Doing.{does_err, does_nothing, does_turn, may_have_turned, none_gone, told_cleared}
 use Rattle.fax_spool.proofs.SpoolSteps.{at_rest, none_waits, keeps_cleared, leaves_cleared}
 use Rattle.fax_spool.proofs.spool.Spool.clear.Goals as goal
@@ -22,6 +23,15 @@ returns-clause-cleared g c = λ olds news k.
       keeps_cleared _ _ _ c.args.self.now (record c.args.self.now { older = c.clear.new.self; refuses = false }) olds news k
           (c.in_ok-clear.ensures.acknowledged k.older_items k.older) refl none refl refl,
     )
+
+pub returns-then-not-is_empty-clause-cleared : goal.returns-then-not-is_empty-clause-cleared
+returns-then-not-is_empty-clause-cleared g c = λ olds news k. (
+  λ none. let zero : length c.args.self.now.older_pages.items ≡ 0 = ap length (k.older_waits ∙ ap (map name_of) none) in absurd (grind (arith, c.if-not-is_empty.true, c.is_empty.ensures, zero)),
+  k,
+)
+
+pub returns-then-not-may_be_used-clause-failed : goal.returns-then-not-may_be_used-clause-failed
+returns-then-not-may_be_used-clause-failed g c = λ olds news k. absurd (grind (arith, c.if-not-may_be_used.true, c.may_be_used.ensures, k.older.usable))
 
 pub returns-then-self-clause-does : goal.returns-then-self-clause-does
 returns-then-self-clause-does g c = does_nothing _ _ _ c.args.self.now c.args.self.now Turns
