@@ -1,5 +1,5 @@
 -- One more page of a line that is restored.
-use Rattle.std.proofs.Common.{◌≡◌, ◌≢◌, ◌∙◌, ℕ, zero, suc, ◌-◌, inl, inr, Bool, true, false, not, ◌&&◌, cond, if◌then◌else◌, List, [], ◌∷◌, ◌++◌, length, map, Some, slice_get, refl, sym, ap, subst, arith, nat_eq, bytes_eq, append_assoc, Result, Ok, Err, OnOk}
+use Rattle.std.proofs.Common.{◌≡◌, ◌≢◌, ◌∙◌, ℕ, zero, suc, ◌+◌, ◌-◌, ◌<◌, All, take, get_or, inl, inr, Bool, true, false, not, ◌&&◌, cond, if◌then◌else◌, List, [], ◌∷◌, ◌++◌, length, map, Some, slice_get, refl, sym, ap, subst, arith, nat_eq, bytes_eq, append_assoc, Result, Ok, Err, OnOk}
 use Rattle.std.proofs.lemmas.Bool.Decides.{nat_tests}
 use Rattle.fax_pagestore.specs.Pages.{PageValue}
 use Rattle.fax_jobs.specs.Cuts.{Confirmation}
@@ -7,11 +7,14 @@ use Rattle.fax_answer.specs.declared.step.Confirmed.{Confirmed}
 use Rattle.fax_spool.specs.RecordOctets as spool
 use Rattle.fax_gateway.specs.Restored.{RestoredCall, call_shown, confirmation_shown}
 use Rattle.fax_gateway.specs.declared.restored.RestoredCall as shown
-use Rattle.std.proofs.lemmas.List.{append-nil, map-append}
+use Rattle.std.proofs.lemmas.List.{append-nil, map-append, take_more}
+use Rattle.std.proofs.lemmas.List.Elements.{All-head, All-tail, filter-append}
+use Rattle.fax_spool.specs.Torn.{CallName, is_of_any}
 use Rattle.fax_shelf.specs.Shelves.{AreInOrder, TagValue}
+use Rattle.fax_shelf.specs.declared.shelf.Aside.{Aside}
 use Rattle.fax_shelf.specs.declared.shelf.Waiting.{Waiting}
 use Rattle.fax_shelf.specs.declared.restored.Restored.{Restored}
-use Rattle.fax_shelf.specs.Restorations.{AreAside, AreIn, AreRead, Means, MeansNone, ReadPage, Restores, before, before_all, begins, begun, call_with, calls_of, confirmation_of, in_one_call, onto_last, own_pages, own_tag, tags_behind, tags_of, waiting_of}
+use Rattle.fax_shelf.specs.Restorations.{AreAside, AreIn, AreRead, Means, MeansNone, ReadPage, Restores, aside_of, before, before_all, begins, begun, call_with, calls_of, confirmation_of, in_one_call, onto_last, own_pages, own_tag, tags_behind, tags_of, waiting_of, whole_pages, NoneIsTorn, WholeLinesAreRestored}
 use Rattle.fax_shelf.proofs.Naming.{in_order_front}
 
 -- ---- the calls
@@ -90,14 +93,14 @@ read_aside (v ∷ waits) [] w are none = (are.0, read_aside waits [] w are.1 non
 read_aside (v ∷ waits) (r ∷ read) w (inl is) none = inl (is.0, is.1, read_aside waits read w is.2 none)
 read_aside (v ∷ waits) (r ∷ read) w (inr is) none = inr (is.0, read_aside waits (r ∷ read) w is.1 none)
 
-aside_same : (waits : List spool.PageValue) (aside : List (ℕ × ℕ)) (w : spool.PageValue) (page : PageValue) → AreAside waits aside → Means w page → AreAside (waits ++ w ∷ []) aside
+aside_same : (waits : List spool.PageValue) (aside : List Aside) (w : spool.PageValue) (page : PageValue) → AreAside waits aside → Means w page → AreAside (waits ++ w ∷ []) aside
 aside_same [] [] w page are means = ((page, means), refl)
 aside_same [] (a ∷ aside) w page are means = absurd (cc)
 aside_same (v ∷ waits) [] w page are means = (are.0, aside_same waits [] w page are.1 means)
 aside_same (v ∷ waits) (a ∷ aside) w page (inl is) means = inl (is.0, aside_same waits (a ∷ aside) w page is.1 means)
 aside_same (v ∷ waits) (a ∷ aside) w page (inr is) means = inr (is.0, is.1, aside_same waits aside w page is.2 means)
 
-aside_more : (waits : List spool.PageValue) (aside : List (ℕ × ℕ)) (w : spool.PageValue) → AreAside waits aside → MeansNone w → AreAside (waits ++ w ∷ []) (aside ++ (w.call, w.number) ∷ [])
+aside_more : (waits : List spool.PageValue) (aside : List Aside) (w : spool.PageValue) → AreAside waits aside → MeansNone w → AreAside (waits ++ w ∷ []) (aside ++ aside_of w ∷ [])
 aside_more [] [] w are none = inr (none, refl, refl)
 aside_more [] (a ∷ aside) w are none = absurd (cc)
 aside_more (v ∷ waits) [] w are none = inl (are.0, aside_more waits [] w are.1 none)
@@ -205,11 +208,11 @@ restores_more line pages w page old new is means more same was = record {
       (read_more (own_pages line pages) was.read w page was.own means);
   are = more line was.read was.are;
   aside = subst (λ (l : List spool.PageValue). AreAside l new.shelf.aside) (sym (own_more line pages w ∙ ap (λ (l : List spool.PageValue). own_pages line pages ++ l) (own_one line w true is)))
-      (subst (λ (l : List (ℕ × ℕ)). AreAside (own_pages line pages ++ w ∷ []) l) (sym same) (aside_same (own_pages line pages) old.shelf.aside w page was.aside means));
+      (subst (λ (l : List Aside). AreAside (own_pages line pages ++ w ∷ []) l) (sym same) (aside_same (own_pages line pages) old.shelf.aside w page was.aside means));
 }
 
 pub restores_aside : (line : List ℕ) (pages : List spool.PageValue) (w : spool.PageValue) (old new : Restored) → bytes_eq w.line line ≡ true → MeansNone w
-    → map call_shown new.calls.items ≡ map call_shown old.calls.items → new.shelf.line ≡ old.shelf.line → new.shelf.waits ≡ old.shelf.waits → new.shelf.is_whole ≡ old.shelf.is_whole → new.shelf.tags ≡ old.shelf.tags → new.shelf.aside ≡ old.shelf.aside ++ (w.call, w.number) ∷ []
+    → map call_shown new.calls.items ≡ map call_shown old.calls.items → new.shelf.line ≡ old.shelf.line → new.shelf.waits ≡ old.shelf.waits → new.shelf.is_whole ≡ old.shelf.is_whole → new.shelf.tags ≡ old.shelf.tags → new.shelf.aside ≡ old.shelf.aside ++ aside_of w ∷ []
     → Restores line pages old → Restores line (pages ++ w ∷ []) new
 restores_aside line pages w old new is none calls named waits whole tags aside was = record {
   read = was.read;
@@ -223,7 +226,7 @@ restores_aside line pages w old new is none calls named waits whole tags aside w
     tags = tags ∙ was.are.tags;
   };
   aside = subst (λ (l : List spool.PageValue). AreAside l new.shelf.aside) (sym (own_more line pages w ∙ ap (λ (l : List spool.PageValue). own_pages line pages ++ l) (own_one line w true is)))
-      (subst (λ (l : List (ℕ × ℕ)). AreAside (own_pages line pages ++ w ∷ []) l) (sym aside) (aside_more (own_pages line pages) old.shelf.aside w was.aside none));
+      (subst (λ (l : List Aside). AreAside (own_pages line pages ++ w ∷ []) l) (sym aside) (aside_more (own_pages line pages) old.shelf.aside w was.aside none));
 }
 
 pub restores_other : (line : List ℕ) (pages : List spool.PageValue) (w : spool.PageValue) (old : Restored) → bytes_eq w.line line ≡ false → Restores line pages old → Restores line (pages ++ w ∷ []) old
@@ -245,10 +248,76 @@ taken (Err e) line w page old new is means more same = tt
 
 pub put_aside : {E : Type 0} (answer : Result (Unit {0}) E) (line : List ℕ) (w : spool.PageValue) (old new : Restored) → bytes_eq w.line line ≡ true → MeansNone w
     → map call_shown new.calls.items ≡ map call_shown old.calls.items → new.shelf.line ≡ old.shelf.line → new.shelf.waits ≡ old.shelf.waits → new.shelf.is_whole ≡ old.shelf.is_whole → new.shelf.tags ≡ old.shelf.tags
-    → OnOk answer (new.shelf.aside ≡ old.shelf.aside ++ (w.call, w.number) ∷ []) → OnOk answer ((pages : List spool.PageValue) → Restores line pages old → Restores line (pages ++ w ∷ []) new)
+    → OnOk answer (new.shelf.aside ≡ old.shelf.aside ++ aside_of w ∷ []) → OnOk answer ((pages : List spool.PageValue) → Restores line pages old → Restores line (pages ++ w ∷ []) new)
 put_aside (Ok u) line w old new is none calls named waits whole tags aside = λ pages was. restores_aside line pages w old new is none calls named waits whole tags aside was
 put_aside (Err e) line w old new is none calls named waits whole tags aside = tt
 
 -- where no page waits there is no call
 pub no_calls : (line : List ℕ) (pages : List spool.PageValue) (restored : Restored) → Restores line pages restored → pages ≡ [] → map call_shown restored.calls.items ≡ []
 no_calls line pages restored is none = is.are.calls ∙ ap (λ (l : List ReadPage). calls_of l) (subst (λ (l : List spool.PageValue). AreRead (own_pages line l) is.read) none is.own)
+
+-- ---- the pages of calls that are torn are left out
+
+whole_one : (torn : List CallName) (w : spool.PageValue) (b : Bool) → is_of_any torn w ≡ b → whole_pages torn (w ∷ []) ≡ cond (not b) (w ∷ []) []
+whole_one torn w b is = ap (λ (t : Bool). cond (not t) (w ∷ []) []) is
+
+whole_more : (torn : List CallName) (pages : List spool.PageValue) (n : ℕ) (w : spool.PageValue) (b : Bool) → n < length pages → get_or pages n w ≡ w → is_of_any torn w ≡ b
+    → whole_pages torn (take (n + 1) pages) ≡ whole_pages torn (take n pages) ++ cond (not b) (w ∷ []) []
+whole_more torn pages n w b low got is =
+    ap (λ (l : List spool.PageValue). whole_pages torn l) (take_more pages n w low ∙ ap (λ (v : spool.PageValue). take n pages ++ v ∷ []) got)
+    ∙ filter-append (λ (page : spool.PageValue). not (is_of_any torn page)) (take n pages) (w ∷ [])
+    ∙ ap (λ (l : List spool.PageValue). whole_pages torn (take n pages) ++ l) (whole_one torn w b is)
+
+-- one more page that is not of a torn call, and one that is
+pub more_of_whole : (line : List ℕ) (torn : List CallName) (pages : List spool.PageValue) (n : ℕ) (w : spool.PageValue) (new : Restored) → n < length pages → get_or pages n w ≡ w → is_of_any torn w ≡ false
+    → Restores line (whole_pages torn (take n pages) ++ w ∷ []) new → Restores line (whole_pages torn (take (n + 1) pages)) new
+more_of_whole line torn pages n w new low got is restores = subst (λ (l : List spool.PageValue). Restores line l new) (sym (whole_more torn pages n w false low got is)) restores
+
+pub more_of_torn : (line : List ℕ) (torn : List CallName) (pages : List spool.PageValue) (n : ℕ) (w : spool.PageValue) (old : Restored) → n < length pages → get_or pages n w ≡ w → is_of_any torn w ≡ true
+    → Restores line (whole_pages torn (take n pages)) old → Restores line (whole_pages torn (take (n + 1) pages)) old
+more_of_torn line torn pages n w old low got is restores =
+    subst (λ (l : List spool.PageValue). Restores line l old) (sym (whole_more torn pages n w true low got is ∙ append-nil (whole_pages torn (take n pages)))) restores
+
+-- ---- where each of a line's own pages is of a whole call
+
+own_rest : (line : List ℕ) (torn : List CallName) (p : spool.PageValue) (pages : List spool.PageValue) (own : Bool) → bytes_eq p.line line ≡ own → NoneIsTorn line torn (p ∷ pages) → NoneIsTorn line torn pages
+own_rest line torn p pages true own none =
+    All-tail (λ page. is_of_any torn page ≡ false) p (own_pages line pages) (subst (λ (b : Bool). All (λ page. is_of_any torn page ≡ false) (cond b (p ∷ own_pages line pages) (own_pages line pages))) own none)
+own_rest line torn p pages false own none = subst (λ (b : Bool). All (λ page. is_of_any torn page ≡ false) (cond b (p ∷ own_pages line pages) (own_pages line pages))) own none
+
+own_first : (line : List ℕ) (torn : List CallName) (p : spool.PageValue) (pages : List spool.PageValue) → bytes_eq p.line line ≡ true → NoneIsTorn line torn (p ∷ pages) → is_of_any torn p ≡ false
+own_first line torn p pages own none =
+    All-head (λ page. is_of_any torn page ≡ false) p (own_pages line pages) (subst (λ (b : Bool). All (λ page. is_of_any torn page ≡ false) (cond b (p ∷ own_pages line pages) (own_pages line pages))) own none)
+
+own_step : (line : List ℕ) (torn : List CallName) (p : spool.PageValue) (pages : List spool.PageValue) (own t : Bool) → bytes_eq p.line line ≡ own → is_of_any torn p ≡ t → (own ≡ true → t ≡ false)
+    → own_pages line (whole_pages torn pages) ≡ own_pages line pages → own_pages line (whole_pages torn (p ∷ pages)) ≡ own_pages line (p ∷ pages)
+own_step line torn p pages true true own is none rec = let no : true ≡ false = none refl in absurd (cc)
+own_step line torn p pages true false own is none rec =
+    ap (λ (b : Bool). own_pages line (cond (not b) (p ∷ whole_pages torn pages) (whole_pages torn pages))) is
+    ∙ ap (λ (b : Bool). cond b (p ∷ own_pages line (whole_pages torn pages)) (own_pages line (whole_pages torn pages))) own
+    ∙ ap (λ (l : List spool.PageValue). p ∷ l) rec
+    ∙ sym (ap (λ (b : Bool). cond b (p ∷ own_pages line pages) (own_pages line pages)) own)
+own_step line torn p pages false true own is none rec =
+    ap (λ (b : Bool). own_pages line (cond (not b) (p ∷ whole_pages torn pages) (whole_pages torn pages))) is
+    ∙ rec
+    ∙ sym (ap (λ (b : Bool). cond b (p ∷ own_pages line pages) (own_pages line pages)) own)
+own_step line torn p pages false false own is none rec =
+    ap (λ (b : Bool). own_pages line (cond (not b) (p ∷ whole_pages torn pages) (whole_pages torn pages))) is
+    ∙ ap (λ (b : Bool). cond b (p ∷ own_pages line (whole_pages torn pages)) (own_pages line (whole_pages torn pages))) own
+    ∙ rec
+    ∙ sym (ap (λ (b : Bool). cond b (p ∷ own_pages line pages) (own_pages line pages)) own)
+
+own_whole : (line : List ℕ) (torn : List CallName) (pages : List spool.PageValue) → NoneIsTorn line torn pages → own_pages line (whole_pages torn pages) ≡ own_pages line pages
+own_whole line torn [] none = refl
+own_whole line torn (p ∷ pages) none =
+    own_step line torn p pages (bytes_eq p.line line) (is_of_any torn p) refl refl (λ own. own_first line torn p pages own none) (own_whole line torn pages (own_rest line torn p pages (bytes_eq p.line line) refl none))
+
+pub whole_lines_are_restored : WholeLinesAreRestored
+whole_lines_are_restored line torn pages restored none restores =
+    let same : own_pages line (whole_pages torn pages) ≡ own_pages line pages = own_whole line torn pages none in
+    record {
+      read = restores.read;
+      own = subst (λ (l : List spool.PageValue). AreRead l restores.read) same restores.own;
+      are = restores.are;
+      aside = subst (λ (l : List spool.PageValue). AreAside l restored.shelf.aside) same restores.aside;
+    }

@@ -6,8 +6,10 @@ mod BookTidings
 mod BookTurns
 pub mod Calls
 mod Cut
+mod EndsIf
 mod Lives
 mod Naming
+mod Numbering
 mod NotedPasts
 mod Packing
 mod PastEnds
@@ -23,3 +25,4 @@ mod Waits
 mod Refusing
 mod Tagging
 mod Tags
+mod Tidying

@@ -19,7 +19,7 @@ use Rattle.fax_shelf.specs.declared.shelf.Waiting.{Waiting}
 use Rattle.fax_shelf.specs.Shelves.{AreAmong, IsAmong, IsShelved, ShelfValue, left_by, lines_of, name_in}
 use Rattle.fax_shelf.specs.Jobs.{EndsJobAt, PagesWait, WaitSo}
 use Rattle.fax_shelf.specs.Keeping.{AddAll, AddsAt, AddsTo, Agree, AllAreAmong, AllArePlaced, AllArePut, ArePut, AreRecordsUnder, HaveOwnNames, IsOther, IsPlaced, IsPut, IsRecordUnder, PutsRecords, noted_as, placed_as}
-use Rattle.fax_spool.proofs.Order.{order_stays}
+use Rattle.fax_spool.proofs.Order.{order_pages}
 use Rattle.fax_shelf.proofs.Waits.{ends_none_of, none_is_forgotten, put_behind}
 
 -- ---- what waits
@@ -32,7 +32,7 @@ wait_put old new values put waits was = record {
   olds = was.olds;
   news = was.news ++ map kept_of values;
   kept = put was.olds was.news was.kept;
-  in_order = order_stays was.olds was.news (map kept_of values) was.in_order;
+  in_order = order_pages was.olds was.news values was.in_order;
   wait = ap waiting (sym (append_assoc was.olds was.news (map kept_of values))) ∙ put_behind [] (was.olds ++ was.news) values ∙ ap (λ (l : List PageValue). l ++ values) was.wait;
 }
 

@@ -4,11 +4,11 @@ use Rattle.std.specs.Bool.{MatchBool}
 use Rattle.fax_spool.specs.RecordOctets.{EndedValue, PageValue}
 use Rattle.fax_spool.specs.Calls.{Refuses}
 use Rattle.fax_spool.specs.KeptRecords.{kept_of}
-use Rattle.fax_spool.specs.Spools.{Keeps, NoneIsLeft, epoch_of}
+use Rattle.fax_spool.specs.Spools.{Keeps, NoneIsLeft, epoch_records, greatest_epoch}
 use Rattle.fax_spool.specs.Waits.{PageName, SharesWhatWaits, after, ends, name_of, waiting, waiting_behind, without}
 use Rattle.fax_spool.specs.declared.kept_record.KeptRecord.{KeptRecord}
-use Rattle.fax_spool.specs.declared.kept_record.KeptRecord.TheVariants.{Epoch}
 use Rattle.fax_spool.specs.declared.spool.Spool.{Spool}
+use Rattle.fax_spool.proofs.Order.{order_changed, waits_behind_epoch}
 use Rattle.fax_shelf.specs.declared.shelf.Waiting.{Waiting}
 use Rattle.fax_shelf.specs.Shelves.{AreAmong, IsAmong, NoneIsForgotten, ShelfValue, left_by, name_in}
 use Rattle.fax_shelf.specs.Jobs.{EndsJob, PagesWait, WaitSo}
@@ -34,7 +34,7 @@ put_behind pages records values = behind_both pages records (map kept_of values)
 pub wait_cleared :
     {D : Type 0} {seen : D → List ℕ} {may_leave : D → List ℕ → Type 0} {is_usable : D → Bool} (old new : Spool D) (cleared : Bool) → SharesWhatWaits
     → ((olds news : List KeptRecord) → Keeps seen may_leave is_usable old olds news
-    → MatchBool cleared (NoneIsLeft olds news × Keeps seen may_leave is_usable new [] news) (Keeps seen may_leave is_usable new olds news))
+    → MatchBool cleared (NoneIsLeft olds news × Keeps seen may_leave is_usable new [] news) ((¬ NoneIsLeft olds news) × Keeps seen may_leave is_usable new olds news))
     → (waits : List PageValue) → PagesWait seen may_leave is_usable old waits → PagesWait seen may_leave is_usable new waits
 wait_cleared old new true shares cleared waits was =
     let is = cleared was.olds was.news was.kept in record {
@@ -44,20 +44,20 @@ wait_cleared old new true shares cleared waits was =
       in_order = inl refl;
       wait = ap (λ (l : List PageValue). l ++ waiting was.news) (sym is.0) ∙ sym (shares was.olds was.news) ∙ was.wait;
     }
-wait_cleared old new false shares cleared waits was = record { olds = was.olds; news = was.news; kept = cleared was.olds was.news was.kept; in_order = was.in_order; wait = was.wait }
+wait_cleared old new false shares cleared waits was = record { olds = was.olds; news = was.news; kept = (cleared was.olds was.news was.kept).1; in_order = was.in_order; wait = was.wait }
 
 pub wait_changed :
     {D : Type 0} {seen : D → List ℕ} {may_leave : D → List ℕ → Type 0} {is_usable : D → Bool} (old new : Spool D) (changed : Bool) (number : ℕ)
     → ((olds news : List KeptRecord) → Keeps seen may_leave is_usable old olds news
-    → MatchBool changed ((olds ≡ []) × (epoch_of news < number) × Keeps seen may_leave is_usable new news (Epoch number ∷ [])) (Keeps seen may_leave is_usable new olds news))
+    → MatchBool changed ((olds ≡ []) × (greatest_epoch news < number) × Keeps seen may_leave is_usable new news (epoch_records number)) (Keeps seen may_leave is_usable new olds news))
     → (waits : List PageValue) → PagesWait seen may_leave is_usable old waits → PagesWait seen may_leave is_usable new waits
 wait_changed old new true number changed waits was =
     let is = changed was.olds was.news was.kept in record {
       olds = was.news;
-      news = Epoch number ∷ [];
+      news = epoch_records number;
       kept = is.2;
-      in_order = inr is.1;
-      wait = one_more [] was.news (Epoch number) ∙ ap (λ (l : List KeptRecord). waiting (l ++ was.news)) (sym is.0) ∙ was.wait;
+      in_order = order_changed was.news number is.1;
+      wait = waits_behind_epoch was.news number ∙ ap (λ (l : List KeptRecord). waiting (l ++ was.news)) (sym is.0) ∙ was.wait;
     }
 wait_changed old new false number changed waits was = record { olds = was.olds; news = was.news; kept = changed was.olds was.news was.kept; in_order = was.in_order; wait = was.wait }
 

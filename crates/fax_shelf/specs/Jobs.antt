@@ -1,8 +1,10 @@
 -- The pages that wait on a disk, and what the end of a job makes of them. (This project's profile.)
-use Rattle.std.specs.Prelude.{◌≡◌, ◌⊎◌, ℕ, Bool, true, List, drop, Some, slice_get, slice_set}
+use Rattle.std.specs.Prelude.{◌≡◌, ◌⊎◌, ℕ, Bool, true, List, [], drop, Some, slice_get, slice_set}
 use Rattle.fax_spool.specs.RecordOctets.{EndedValue, PageValue}
 use Rattle.fax_spool.specs.Calls.{EachCrashTells, Refuses, Rests}
+use Rattle.fax_spool.specs.Spools.{Keeps, NoneIsLeft}
 use Rattle.fax_spool.specs.Waits.{without}
+use Rattle.fax_spool.specs.declared.kept_record.KeptRecord.{KeptRecord}
 use Rattle.fax_spool.specs.declared.spool.Spool.{Spool}
 use Rattle.fax_shelf.specs.Shelves.{ShelfValue, left_by}
 
@@ -14,6 +16,13 @@ PagesWait seen may_leave is_usable spool pages = Rests seen may_leave is_usable 
 abbrev pub WaitSo : {D : Type 0} → (D → List ℕ) → (D → List ℕ → Type 0) → (D → Bool) → Spool D → (List PageValue → Type 0) → Type 0
 WaitSo seen may_leave is_usable now P =
     ((told : List PageValue) × PagesWait seen may_leave is_usable now told × P told) ⊎ (Refuses now × EachCrashTells may_leave now P)
+
+-- NO FILE IS KEPT FOR NOTHING: where the older one has records, one of its pages waits.
+pub record IsTidy {D : Type 0} (seen : D → List ℕ) (may_leave : D → List ℕ → Type 0) (is_usable : D → Bool) (spool : Spool D) : Type 0 where
+  pub olds : List KeptRecord
+  pub news : List KeptRecord
+  pub kept : Keeps seen may_leave is_usable spool olds news
+  pub tidy : NoneIsLeft olds news → olds ≡ []
 
 -- A JOB OF SO MANY PAGES ENDED: they are the first of its line's shelf, and leave it, which stays whole; and the record of its end is on
 -- the disk, whatever crash follows, which names no page that stays on the shelf.

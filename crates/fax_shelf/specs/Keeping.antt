@@ -9,7 +9,7 @@ use Rattle.fax_spool.specs.declared.spool.Spool.{Spool}
 use Rattle.fax_spool.specs.KeptRecords.{kept_of}
 use Rattle.fax_spool.specs.Waits.{PageName, name_of}
 use Rattle.fax_shelf.specs.Jobs.{PagesWait}
-use Rattle.fax_shelf.specs.Shelves.{AreAmong, IsShelved, ShelfValue}
+use Rattle.fax_shelf.specs.Shelves.{AreAmong, IsShelved, ShelfValue, next_number}
 use Rattle.fax_shelf.specs.declared.shelf.Waiting.{Waiting}
 
 -- the record of a page: what the turn told of it, and its text
@@ -54,6 +54,35 @@ pub record PutsRecords {D : Type 0} (seen : D → List ℕ) (may_leave : D → L
   pub values : List PageValue
   pub are : AreRecordsUnder life lines pages numbers values
   pub put : (olds news : List KeptRecord) → Keeps seen may_leave is_usable before olds news → Keeps seen may_leave is_usable after olds (news ++ map kept_of values)
+
+-- ---- which page of its call it is
+
+-- the number of the page that is confirmed next in a call of the line at a place: 0 where there is no such line
+abbrev pub number_for : Option ShelfValue → ℕ → ℕ → ℕ
+number_for None life call = 0
+number_for (Some shelf) life call = next_number shelf.newest life call
+
+abbrev pub number_at : List ShelfValue → ℕ → ℕ → ℕ → ℕ
+number_at shelves life place call = number_for (slice_get shelves place) life call
+
+-- those of the first of these pages, where they are of lines one each
+abbrev pub AreNumbersOf : List ShelfValue → ℕ → List PageToKeep → List ℕ → Type 0
+AreNumbersOf shelves life pages [] = Unit {0}
+AreNumbersOf shelves life [] (number ∷ numbers) = ⊥
+AreNumbersOf shelves life (page ∷ pages) (number ∷ numbers) = (number ≡ number_at shelves life page.line page.kept.call) × AreNumbersOf shelves life pages numbers
+
+-- of these records of pages each has the next number of its line's call
+abbrev pub AreNumbered : List ShelfValue → ℕ → List PageToKeep → List PageValue → Type 0
+AreNumbered shelves life [] [] = Unit {0}
+AreNumbered shelves life (page ∷ pages) (value ∷ values) = (value.life ≡ life) × (value.number ≡ number_at shelves life page.line page.kept.call) × AreNumbered shelves life pages values
+AreNumbered shelves life pages values = ⊥
+
+-- PAGES ARE PUT UNDER THE NEXT NUMBERS OF THEIR CALLS, in this life: their records wait on the disk behind the others.
+pub record PutsNumbered {D : Type 0} (seen : D → List ℕ) (may_leave : D → List ℕ → Type 0) (is_usable : D → Bool) (shelves : List ShelfValue) (life : ℕ) (pages : List PageToKeep) (before after : Spool D) : Type 0 where
+  pub values : List PageValue
+  pub are : AreRecordsOf pages (map kept_of values)
+  pub numbered : AreNumbered shelves life pages values
+  pub wait : (waits : List PageValue) → PagesWait seen may_leave is_usable before waits → PagesWait seen may_leave is_usable after (waits ++ values)
 
 -- ---- the shelves
 

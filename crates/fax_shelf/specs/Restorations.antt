@@ -1,21 +1,27 @@
 -- What a line is restored with behind a crash: the pages of its own that wait, in the calls that they came in. Lists have the
 -- oldest first. (This project's profile.)
-use Rattle.std.specs.Prelude.{◌≡◌, ℕ, ◌⊎◌, Bool, true, not, ◌&&◌, nat_eq, bytes_eq, List, [], ◌∷◌, ◌++◌, length, map, if◌then◌else◌}
+use Rattle.std.specs.Prelude.{◌≡◌, ℕ, ◌⊎◌, Bool, true, false, not, ◌&&◌, nat_eq, bytes_eq, List, [], ◌∷◌, ◌++◌, length, map, if◌then◌else◌}
 use Rattle.std.specs.Str.{is_utf8}
-use Rattle.std.specs.List.{filter}
+use Rattle.std.specs.List.{All, filter}
 use Rattle.fax_runcodes.specs.declared.format.Coding.TheVariants.{Mr}
 use Rattle.fax_pagestore.specs.Pages.{PageValue}
 use Rattle.fax_pagestore.specs.PageTexts.{MeansPage}
 use Rattle.fax_jobs.specs.Cuts.{Confirmation}
 use Rattle.fax_spool.specs.RecordOctets as spool
+use Rattle.fax_spool.specs.Torn.{CallName, is_of_any}
 use Rattle.fax_gateway.specs.Restored.{RestoredCall, call_shown}
 use Rattle.fax_shelf.specs.Shelves.{AreInOrder, TagValue}
+use Rattle.fax_shelf.specs.declared.shelf.Aside.{Aside}
 use Rattle.fax_shelf.specs.declared.shelf.Waiting.{Waiting}
 use Rattle.fax_shelf.specs.declared.restored.Restored.{Restored}
 
 -- of the pages that wait, those of a line
 abbrev pub own_pages : List ℕ → List spool.PageValue → List spool.PageValue
 own_pages line pages = filter (λ page. bytes_eq page.line line) pages
+
+-- A FAX THAT LACKS A PAGE IS NOT SENT: of the pages that wait, those of calls of which no page is known to be lost.
+abbrev pub whole_pages : List CallName → List spool.PageValue → List spool.PageValue
+whole_pages torn pages = filter (λ page. not (is_of_any torn page)) pages
 
 -- what the text of its record means: a page of its format, in two-dimensional coding
 abbrev pub Means : spool.PageValue → PageValue → Type 0
@@ -79,11 +85,14 @@ tags_behind before (r ∷ read) = (if begins before r.waits then own_tag r.waits
 abbrev pub tags_of : List ReadPage → List TagValue
 tags_of read = tags_behind [] read
 
--- of these pages, those whose texts mean none, by their calls and numbers
-abbrev pub AreAside : List spool.PageValue → List (ℕ × ℕ) → Type 0
+abbrev pub aside_of : spool.PageValue → Aside
+aside_of w = record { life = w.life; call = w.call; number = w.number }
+
+-- of these pages, those whose texts mean none
+abbrev pub AreAside : List spool.PageValue → List Aside → Type 0
 AreAside [] aside = aside ≡ []
 AreAside (w ∷ waits) [] = ((page : PageValue) × Means w page) × AreAside waits []
-AreAside (w ∷ waits) (a ∷ aside) = (((page : PageValue) × Means w page) × AreAside waits (a ∷ aside)) ⊎ (MeansNone w × (a ≡ (w.call, w.number)) × AreAside waits aside)
+AreAside (w ∷ waits) (a ∷ aside) = (((page : PageValue) × Means w page) × AreAside waits (a ∷ aside)) ⊎ (MeansNone w × (a ≡ aside_of w) × AreAside waits aside)
 
 -- These pages are in the calls, and on the shelf of the line, and no others. The shelf is whole where they are in their order.
 pub record AreIn (line : List ℕ) (read : List ReadPage) (restored : Restored) : Type 0 where
@@ -100,6 +109,15 @@ pub record Restores (line : List ℕ) (pages : List spool.PageValue) (restored :
   pub own : AreRead (own_pages line pages) read
   pub are : AreIn line read restored
   pub aside : AreAside (own_pages line pages) restored.shelf.aside
+
+-- each of a line's own pages that wait is of a whole call
+abbrev pub NoneIsTorn : List ℕ → List CallName → List spool.PageValue → Type 0
+NoneIsTorn line torn pages = All (λ page. is_of_any torn page ≡ false) (own_pages line pages)
+
+-- WHERE NONE OF A LINE'S CALLS IS TORN it is restored with all of its pages, whatever became of other lines.
+abbrev pub WholeLinesAreRestored : Type 0
+WholeLinesAreRestored =
+    (line : List ℕ) (torn : List CallName) (pages : List spool.PageValue) (restored : Restored) → NoneIsTorn line torn pages → Restores line (whole_pages torn pages) restored → Restores line pages restored
 
 -- ---- one more page
 

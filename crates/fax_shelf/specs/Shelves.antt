@@ -1,8 +1,9 @@
 -- What a server knows of the pages of a line that wait. Lists have the oldest first. (This project's profile.)
-use Rattle.std.specs.Prelude.{◌≡◌, ℕ, ◌+◌, ◌-◌, ◌^◌, ◌<◌, ◌≤◌, ◌⊎◌, Bool, true, false, not, ◌&&◌, nat_eq, List, [], ◌∷◌, ◌++◌, length, map, take, drop, count_by, slice_get, Option, None, Some, if◌then◌else◌}
+use Rattle.std.specs.Prelude.{◌≡◌, ℕ, ◌+◌, ◌-◌, ◌^◌, ◌<◌, ◌≤◌, ◌⊎◌, min, Bool, true, false, not, ◌&&◌, nat_eq, List, [], ◌∷◌, ◌++◌, length, map, take, drop, count_by, slice_get, Option, None, Some, if◌then◌else◌}
 use Rattle.std.specs.List.{filter}
 use Rattle.fax_spool.specs.RecordOctets.{EndedValue, PageValue}
 use Rattle.fax_spool.specs.Waits.{PageName, ends, name_of, without}
+use Rattle.fax_shelf.specs.declared.shelf.Aside.{Aside}
 use Rattle.fax_shelf.specs.declared.shelf.Waiting.{Waiting}
 use Rattle.fax_shelf.specs.declared.shelf.Ended.{Ended}
 
@@ -13,13 +14,21 @@ pub record TagValue : Type 0 where
   pub tag : List ℕ
 
 -- The name of the line, its pages that wait, and whether these are all of them, in the order in which they came; the tags of calls
--- of earlier lives; and which pages of earlier lives mean none, by their calls and numbers.
+-- of earlier lives; which pages of earlier lives mean none; and the page that
+-- came last, whether it waits still or not.
 pub record ShelfValue : Type 0 where
   pub line : List ℕ
   pub waits : List Waiting
   pub is_whole : Bool
   pub tags : List TagValue
-  pub aside : List (ℕ × ℕ)
+  pub aside : List Aside
+  pub newest : Option Waiting
+
+-- A page that is confirmed next in a call has the number behind that of the one that came last, where that came in the same call of the
+-- same life, and else 1. (There are 2 ^ 32 - 1 at most.)
+abbrev pub next_number : Option Waiting → ℕ → ℕ → ℕ
+next_number None life call = 1
+next_number (Some page) life call = if nat_eq page.life life && nat_eq page.call call then min (page.number + 1) (2 ^ 32 - 1) else 1
 
 -- the tag of a call, where one of these is
 abbrev pub tag_in : List TagValue → ℕ → ℕ → Option (List ℕ)
@@ -74,6 +83,7 @@ pub record IsShelved (page : Waiting) (old new : ShelfValue) : Type 0 where
   pub stays : old.is_whole ≡ true → AreInOrder (old.waits ++ page ∷ []) → (new.is_whole ≡ true) ⊎ (new.waits ≡ old.waits)
   pub tags : new.tags ≡ old.tags
   pub aside : new.aside ≡ old.aside
+  pub newest : new.newest ≡ Some page
 
 -- A JOB OF SO MANY PAGES IS FIRST of these: the first of them and the last came in one call of one life, and the numbers from the one
 -- to the other can be counted in a record.

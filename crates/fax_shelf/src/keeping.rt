@@ -1,13 +1,13 @@
 //! The pages of a server that are kept on a disk.
-ghost use Rattle.std.specs.Prelude.{ℕ, ◌≡◌, ◌<◌, false, true, List, [], ◌++◌, All, IfErr, IsErr, MatchOption, None, Some, OnErr, OnOk, is_ok, length, slice_get};
+ghost use Rattle.std.specs.Prelude.{ℕ, ◌≡◌, ◌<◌, false, true, List, [], ◌++◌, All, IfErr, IfOk, IsErr, MatchOption, None, Some, OnErr, OnOk, is_ok, length, slice_get};
 ghost use Rattle.fax_spool.specs.Calls.{Accepts, Refuses, refuses_now};
 ghost use Rattle.fax_spool.specs.RecordOctets.{PageValue as SpoolPage};
 ghost use Rattle.fax_spool.specs.Spools.{epoch_now};
 ghost use Rattle.fax_spool.specs.Waits.{PageName};
 ghost use Rattle.fax_line.specs.declared.settling.PageToKeep.{PageToKeep as ToKeep};
 ghost use Rattle.fax_shelf.specs.EndFaults.{IsWhy, IsWhyAt};
-ghost use Rattle.fax_shelf.specs.Jobs.{EndsJob, EndsJobAt, PagesWait, WaitSo};
-ghost use Rattle.fax_shelf.specs.Keeping.{AddAll, AddsAt, Agree, AllAreAmong, ArePut, HaveOwnNames, KeepsPages};
+ghost use Rattle.fax_shelf.specs.Jobs.{EndsJob, EndsJobAt, IsTidy, PagesWait, WaitSo};
+ghost use Rattle.fax_shelf.specs.Keeping.{AddAll, AddsAt, Agree, AllAreAmong, AreNumbersOf, ArePut, HaveOwnNames, KeepsPages, PutsNumbered, number_at};
 ghost use Rattle.fax_shelf.specs.Refusals.{AreRefused, EndsSomehow, EndsSomehowAt, PutsEnd, notes_of};
 ghost use Rattle.fax_shelf.specs.Shelves.{ShelfValue, first_tag, is_of_earlier_life};
 ghost use Rattle.fax_shelf.specs.Tags.{NotesTag, PutsTagged};
@@ -154,7 +154,7 @@ impl<D: Disk> Keeping<D> {
     /// A page of line i that was confirmed in this call was not handed over, as for want of memory: it waits, and is not on the disk.
     pub fn note(&mut self, i: usize, call: u32)
         ensures spool { self.new.spool ≡ self.old.spool }
-        ensures waits { (number : ℕ) × AddsAt (record { life = self.old.life; call = call; number = number; is_kept = false }) i self.old.shelves.items self.new.shelves.items }
+        ensures waits { AddsAt (record { life = self.old.life; call = call; number = number_at self.old.shelves.items self.old.life i call; is_kept = false }) i self.old.shelves.items self.new.shelves.items }
         ensures names { (names : List PageName) → AllAreAmong self.old.shelves.items names → AllAreAmong self.new.shelves.items names }
     {
         let number = self.next_number(i, call);
@@ -162,14 +162,11 @@ impl<D: Disk> Keeping<D> {
     }
 
     /// Which page of this call of line i the next one is, from 1 on.
-    fn next_number(&mut self, i: usize, call: u32) -> u32
-        ensures spool { self.new.spool ≡ self.old.spool }
-        ensures life { self.new.life ≡ self.old.life }
-        ensures shelves { self.new.shelves.items ≡ self.old.shelves.items }
-        ensures tags { self.new.tags.items ≡ self.old.tags.items }
+    fn next_number(&self, i: usize, call: u32) -> u32
+        ensures { result ≡ number_at self.now.shelves.items self.now.life i call }
     {
-        match self.shelves.get_mut(i) {
-            Some(shelf) => shelf.number(call),
+        match self.shelves.get(i) {
+            Some(shelf) => shelf.next_number(self.life, call),
             None => 0,
         }
     }
@@ -191,12 +188,9 @@ impl<D: Disk> Keeping<D> {
         }
     }
 
-    /// Which pages of their calls these are, from 1 on: of the first of them, where memory is refused for more.
-    fn numbers_of(&mut self, pages: &[PageToKeep]) -> Vec<u32>
-        ensures spool { self.new.spool ≡ self.old.spool }
-        ensures life { self.new.life ≡ self.old.life }
-        ensures shelves { self.new.shelves.items ≡ self.old.shelves.items }
-        ensures tags { self.new.tags.items ≡ self.old.tags.items }
+    /// Which pages of their calls these are, of lines one each, from 1 on: of the first of them, where memory is refused for more.
+    fn numbers_of(&self, pages: &[PageToKeep]) -> Vec<u32>
+        ensures { AreNumbersOf self.now.shelves.items self.now.life pages.now result.items }
     {
         let mut numbers = Vec::new(self.alloc);
         for page in pages {
@@ -245,6 +239,8 @@ impl<D: Disk> Keeping<D> {
         ensures agree { OnOk result (HaveOwnNames self.old.shelves.items → Agree D.seen D.may_leave D.is_usable self.old.spool self.old.shelves.items
             → Accepts self.new.spool → Agree D.seen D.may_leave D.is_usable self.new.spool self.new.shelves.items) }
         ensures ends { OnOk result (EndsJobAt D.seen D.may_leave D.is_usable report.pages i self.old.shelves.items self.new.shelves.items self.old.spool self.new.spool) }
+        ensures tidy { OnOk result ((waits : List SpoolPage) → PagesWait D.seen D.may_leave D.is_usable self.old.spool waits → Accepts self.new.spool
+            → IsTidy D.seen D.may_leave D.is_usable self.new.spool) }
         ensures sure { OnOk result ((shelf : ShelfValue) → slice_get self.old.shelves.items i ≡ Some shelf → notes_of self.old.spool shelf ≡ true) }
         ensures unnoted { IfErr result (λ fault. IsWhyAt fault report.pages i self.old.shelves.items self.new.spool) }
         ensures deed { OnErr result (i < length self.old.shelves.items → EndsSomehowAt D.seen D.may_leave D.is_usable report.pages i self.old.shelves.items self.new.shelves.items self.old.spool self.new.spool) }
@@ -332,10 +328,12 @@ fn put_ended<D: Disk>(
 }
 
 /// The older file is cleared where nothing in it waits; and where so many octets were put into the newer one that they are enough,
-/// the other is taken into use. It answers how many count from then on. What fails is tried again behind the next end of a job.
+/// the other is taken into use, and the one before cleared, where nothing in it waits. It answers how many count from then on. What
+/// fails is tried again behind the next end of a job.
 fn change_files<D: Disk>(alloc: Global, spool: &mut Spool<D>, octets: usize) -> usize
     ensures told { (waits : List SpoolPage) → PagesWait D.seen D.may_leave D.is_usable spool.old waits
         → WaitSo D.seen D.may_leave D.is_usable spool.new (λ told. told ≡ waits) }
+    ensures tidy { (waits : List SpoolPage) → PagesWait D.seen D.may_leave D.is_usable spool.old waits → Accepts spool.new → IsTidy D.seen D.may_leave D.is_usable spool.new }
     ensures refuses { Refuses spool.old → spool.new ≡ spool.old }
 {
     let Ok(_) = clear_older(spool) else {
@@ -344,15 +342,20 @@ fn change_files<D: Disk>(alloc: Global, spool: &mut Spool<D>, octets: usize) -> 
     if octets < MOST_OCTETS {
         return octets;
     }
-    match change(alloc, spool) {
-        Ok(true) => 0,
-        Ok(false) => octets,
-        Err(_) => octets,
+    let Ok(was_changed) = change(alloc, spool) else {
+        return octets;
+    };
+    if !was_changed {
+        return octets;
     }
+    let _ = clear_older(spool);
+    0
 }
 
 /// The older file is cleared where nothing in it waits.
 fn clear_older<D: Disk>(spool: &mut Spool<D>) -> Result<bool, KeepFault>
+    ensures tidy { OnOk result ((waits : List SpoolPage) → PagesWait D.seen D.may_leave D.is_usable spool.old waits → IsTidy D.seen D.may_leave D.is_usable spool.new) }
+    ensures failed { OnErr result ((waits : List SpoolPage) → PagesWait D.seen D.may_leave D.is_usable spool.old waits → Refuses spool.new) }
     ensures stays { OnOk result ((waits : List SpoolPage) → PagesWait D.seen D.may_leave D.is_usable spool.old waits
         → PagesWait D.seen D.may_leave D.is_usable spool.new waits) }
     ensures told { OnErr result ((waits : List SpoolPage) → PagesWait D.seen D.may_leave D.is_usable spool.old waits
@@ -368,6 +371,8 @@ fn clear_older<D: Disk>(spool: &mut Spool<D>) -> Result<bool, KeepFault>
 
 /// The other file is taken into use where it is empty.
 fn change<D: Disk>(alloc: Global, spool: &mut Spool<D>) -> Result<bool, KeepFault>
+    ensures same { IfOk result (λ was. was ≡ false → IsTidy D.seen D.may_leave D.is_usable spool.old → IsTidy D.seen D.may_leave D.is_usable spool.new) }
+    ensures failed { OnErr result (IsTidy D.seen D.may_leave D.is_usable spool.old → Accepts spool.new → IsTidy D.seen D.may_leave D.is_usable spool.new) }
     ensures stays { OnOk result ((waits : List SpoolPage) → PagesWait D.seen D.may_leave D.is_usable spool.old waits
         → PagesWait D.seen D.may_leave D.is_usable spool.new waits) }
     ensures told { OnErr result ((waits : List SpoolPage) → PagesWait D.seen D.may_leave D.is_usable spool.old waits
@@ -390,6 +395,7 @@ impl<D: Disk> Keeper<PageToKeep> for Keeping<D> {
         ensures kept { OnOk result ((before : List ToKeep) → KeepsPages D.seen D.may_leave D.is_usable self.old.spool before
             → KeepsPages D.seen D.may_leave D.is_usable self.new.spool (before ++ pages.now)) }
         ensures tagged { OnOk result (PutsTagged D.seen D.may_leave D.is_usable self.old.tags.items pages.now self.old.spool self.new.spool) }
+        ensures numbered { OnOk result (PutsNumbered D.seen D.may_leave D.is_usable self.old.shelves.items self.old.life pages.now self.old.spool self.new.spool) }
         ensures put { OnOk result (ArePut D.seen D.may_leave D.is_usable pages.now self.old.shelves.items self.new.shelves.items self.old.spool self.new.spool) }
         ensures agree { OnOk result (Agree D.seen D.may_leave D.is_usable self.old.spool self.old.shelves.items → Agree D.seen D.may_leave D.is_usable self.new.spool self.new.shelves.items) }
         ensures names { OnErr result ((names : List PageName) → AllAreAmong self.old.shelves.items names → AllAreAmong self.new.shelves.items names) }

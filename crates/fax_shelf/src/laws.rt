@@ -1,6 +1,7 @@
 //! Laws of the definitions: functions that do nothing, each of whose contracts is a theorem.
 ghost use Rattle.fax_shelf.specs.Lives.{EndsAreDeeds, KeptPagesAreRead, OthersAreBeside, OwedIsRestored, OwedStays, PutFirst, PutsAreDeeds, RestartsAreDeeds, RestoredShelvesAgree, SlotsArePuts, WaitsAreOwed};
 ghost use Rattle.fax_shelf.specs.Refusals.{NoneIsNoted, NotesStay, RefusalsAreDeeds, SlotsAreRefusals};
+ghost use Rattle.fax_shelf.specs.Restorations.{WholeLinesAreRestored};
 ghost use Rattle.fax_shelf.specs.Shelves.{NoneIsForgotten};
 
 use fax_pagestore::laws::{pages_are_unique, written_pages_mean};
@@ -26,6 +27,11 @@ pub fn what_is_owed_is_restored()
 {
     pages_are_unique();
 }
+
+/// A line none of whose calls lacks a page is restored with all of its pages, whatever was damaged of other lines.
+pub fn whole_lines_are_restored()
+    ensures { WholeLinesAreRestored }
+{}
 
 /// Only the end of a job takes a page from what is owed.
 pub fn what_is_owed_stays()

@@ -14,4 +14,4 @@ pub use end_fault::EndFault;
 pub use keeper::SpoolKeeper;
 pub use keeping::Keeping;
 pub use restored::{Restored, restore_line};
-pub use shelf::{Ended, Shelf, Waiting};
+pub use shelf::{Aside, Ended, Shelf, Waiting};

@@ -3,15 +3,15 @@ ghost use Rattle.std.specs.Prelude.{◌≡◌, ◌&&◌, ℕ, List, [], ◌∷�
 ghost use Rattle.std.specs.Str.{is_utf8};
 ghost use Rattle.fax_spool.specs.RecordOctets.{PageValue as SpoolPage};
 ghost use Rattle.fax_gateway.specs.Restored.{call_shown, confirmation_shown};
-ghost use Rattle.fax_shelf.specs.Restorations.{AreIn, ReadPage, Restores, begins, begun, onto_last, own_tag};
+ghost use Rattle.fax_shelf.specs.Restorations.{AreIn, ReadPage, Restores, begins, begun, onto_last, own_tag, whole_pages};
 
-use crate::shelf::{Shelf, Waiting};
+use crate::shelf::{Aside, Shelf, Waiting};
 use fax_answer::Confirmed;
 use fax_bits::NoMemory;
 use fax_gateway::RestoredCall;
 use fax_keep::read_waiting_page;
 use fax_pagestore::{PackedRows, Page, PageFault};
-use fax_spool::WaitingPage;
+use fax_spool::{CallName, WaitingPage, is_torn};
 use std::alloc::Global;
 
 /// What a line begins with behind a crash.
@@ -47,7 +47,11 @@ impl Restored {
         };
         match fault {
             PageFault::NoMemory => Err(NoMemory),
-            _ => self.shelf.set_aside(waits.call, waits.number),
+            _ => self.shelf.set_aside(Aside {
+                life: waits.life,
+                call: waits.call,
+                number: waits.number,
+            }),
         }
     }
 
@@ -158,14 +162,21 @@ fn confirm(
     Ok(())
 }
 
-/// What the line of this name begins with where these pages wait: its own, the oldest first. One whose text means no page is set
-/// aside, and its record left as it is.
-pub fn restore_line(alloc: Global, line: &str, pages: &[WaitingPage]) -> Result<Restored, NoMemory>
-    ensures { IfOk result (λ restored. Restores line.now pages.now restored) }
+/// What the line of this name begins with where these pages wait, and these calls lack a page: its own pages of other calls, the oldest
+/// first. One whose text means no page is set aside. The records of all that are left out stay as they are.
+pub fn restore_line(
+    alloc: Global,
+    line: &str,
+    pages: &[WaitingPage],
+    torn: &[CallName],
+) -> Result<Restored, NoMemory>
+    ensures { IfOk result (λ restored. Restores line.now (whole_pages torn.now pages.now) restored) }
 {
     let mut restored = Restored::new(alloc, line)?;
     for waits in pages {
-        restored.take(alloc, line, waits)?;
+        if !is_torn(torn, waits) {
+            restored.take(alloc, line, waits)?;
+        }
     }
     Ok(restored)
 }

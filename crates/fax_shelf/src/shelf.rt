@@ -1,6 +1,6 @@
 //! The pages of a line that wait, as a spool knows them.
 ghost use Rattle.std.specs.Prelude.{◌≡◌, ◌⊎◌, ◌↔◌, [], ◌∷◌, ◌++◌, take, drop, count_by, true, false, not, nat_eq, None, Some, IsTrue, IfOk, IfNone, IfSome, MatchOption, OnOk, OnErr};
-ghost use Rattle.fax_shelf.specs.Shelves.{AreInOrder, IsBehind, IsFirstJob, IsShelved, NamesFirst, first_tag, is_of_earlier_life, kept_of, tag_in};
+ghost use Rattle.fax_shelf.specs.Shelves.{AreInOrder, IsBehind, IsFirstJob, IsShelved, NamesFirst, first_tag, is_of_earlier_life, kept_of, next_number, tag_in};
 
 use fax_bits::NoMemory;
 use std::alloc::{AllocError, Global};
@@ -15,6 +15,16 @@ pub struct Waiting {
     pub number: u32,
     /// Whether it is on the disk.
     pub is_kept: bool,
+}
+
+/// A page of an earlier life that means none, and is not restored: in which life and call it was confirmed, and as which page of the
+/// call.
+#[derive(Clone, Copy, PartialEq, Eq, Debug)]
+pub struct Aside {
+    pub life: u32,
+    pub call: u32,
+    /// From 1 on.
+    pub number: u32,
 }
 
 /// The pages of a job that ended.
@@ -53,11 +63,10 @@ pub struct Shelf {
     line: String,
     waits: Vec<Waiting>,
     tags: Vec<RestoredTag>,
-    /// The pages that mean none, by their calls and numbers.
-    aside: Vec<(u32, u32)>,
-    /// The call in which the newest page was confirmed in this life, and which page of it that is.
-    call: Option<u32>,
-    number: u32,
+    /// The pages that mean none.
+    aside: Vec<Aside>,
+    /// The page that came last, whether it waits still or not.
+    newest: Option<Waiting>,
     /// Whether each page was noted, and came behind those before it.
     is_whole: bool,
 }
@@ -69,7 +78,7 @@ impl Model for Shelf {
 
     ghost Value = { ShelfValue };
 
-    ghost view = { λ s. record { line = string_bytes s.line; waits = s.waits.items; is_whole = s.is_whole; tags = s.tags.items; aside = s.aside.items } };
+    ghost view = { λ s. record { line = string_bytes s.line; waits = s.waits.items; is_whole = s.is_whole; tags = s.tags.items; aside = s.aside.items; newest = s.newest } };
 
     ghost invariant = { λ s. s.is_whole ≡ true → AreInOrder s.waits.items };
 }
@@ -77,15 +86,14 @@ impl Model for Shelf {
 impl Shelf {
     /// None of the line of this name waits.
     pub fn new(alloc: Global, line: &str) -> Result<Self, NoMemory>
-        ensures { IfOk result (λ shelf. shelf ≡ record { line = line.now; waits = []; is_whole = true; tags = []; aside = [] }) }
+        ensures { IfOk result (λ shelf. shelf ≡ record { line = line.now; waits = []; is_whole = true; tags = []; aside = []; newest = None }) }
     {
         Ok(Shelf {
             line: String::from_str(alloc, line)?,
             waits: Vec::new(alloc),
             tags: Vec::new(alloc),
             aside: Vec::new(alloc),
-            call: None,
-            number: 0,
+            newest: None,
             is_whole: true,
         })
     }
@@ -104,8 +112,8 @@ impl Shelf {
         self.waits.as_slice()
     }
 
-    /// The pages of earlier lives that mean none, by their calls and numbers.
-    pub fn aside(&self) -> &[(u32, u32)]
+    /// The pages of earlier lives that mean none.
+    pub fn aside(&self) -> &[Aside]
         ensures { result.now ≡ self.now.aside }
     {
         self.aside.as_slice()
@@ -138,26 +146,27 @@ impl Shelf {
         }
     }
 
-    /// A page is confirmed in this call of this life: which page of the call it is, from 1 on.
-    pub fn number(&mut self, call: u32) -> u32
-        ensures { self.new ≡ self.old }
+    /// Where a page is confirmed next in this call of this life: which page of the call it is, from 1 on.
+    pub fn next_number(&self, life: u32, call: u32) -> u32
+        ensures { result ≡ next_number self.now.newest life call }
     {
-        if self.call == Some(call) {
-            self.number = self.number.saturating_add(1);
+        let Some(page) = self.newest else {
+            return 1;
+        };
+        if page.life == life && page.call == call {
+            page.number.saturating_add(1)
         } else {
-            self.call = Some(call);
-            self.number = 1;
+            1
         }
-        self.number
     }
 
     /// A page of an earlier life means none.
-    pub fn set_aside(&mut self, call: u32, number: u32) -> Result<(), NoMemory>
-        ensures aside { OnOk result (self.new.aside ≡ self.old.aside ++ (call, number) ∷ []) }
+    pub fn set_aside(&mut self, page: Aside) -> Result<(), NoMemory>
+        ensures aside { OnOk result (self.new.aside ≡ self.old.aside ++ page ∷ []) }
         ensures same { self.new ≡ record self.old { aside = self.new.aside } }
         ensures none { OnErr result (self.new ≡ self.old) }
     {
-        Ok(self.aside.push((call, number))?)
+        Ok(self.aside.push(page)?)
     }
 
     /// A call of an earlier life had this tag.
@@ -182,6 +191,7 @@ impl Shelf {
         ensures { IsShelved page self.old self.new }
     {
         if self.push(page).is_err() {
+            self.newest = Some(page);
             self.is_whole = false;
         }
     }
@@ -194,10 +204,12 @@ impl Shelf {
         ensures stays { OnOk result (self.old.is_whole ≡ true → AreInOrder (self.old.waits ++ page ∷ []) → self.new.is_whole ≡ true) }
         ensures tags { self.new.tags ≡ self.old.tags }
         ensures aside { self.new.aside ≡ self.old.aside }
+        ensures newest { OnOk result (self.new.newest ≡ Some page) }
         ensures none { OnErr result (self.new ≡ self.old) }
     {
         let is_behind = comes_behind(&page, self.waits.as_slice());
         self.waits.push(page)?;
+        self.newest = Some(page);
         if !is_behind {
             self.is_whole = false;
         }
@@ -217,6 +229,7 @@ impl Shelf {
         ensures line { self.new.line ≡ self.old.line }
         ensures tags { self.new.tags ≡ self.old.tags }
         ensures aside { self.new.aside ≡ self.old.aside }
+        ensures newest { self.new.newest ≡ self.old.newest }
         ensures sure { IfSome result (λ _. self.old.is_whole ≡ true) }
         ensures names { IfSome result (λ ended. NamesFirst pages ended self.old.waits) }
         ensures left { IfSome result (λ _. self.new.waits ≡ drop pages self.old.waits) }

@@ -13,9 +13,6 @@ loop-k-preserved g c =
     let numbers = c.args.numbers.now in
     let is = c.loop-k.invariant in
     let page = c.index-pages-k.result in
-    let between = c.match-get.self in
-    let same : (between.spool ≡ c.loop-k.self.spool) × (between.life ≡ c.loop-k.self.life) × (between.shelves.items ≡ c.loop-k.self.shelves.items) =
-    elim c.match-get.branch [ in-Some w ↦ grind (arith, w.self-is) | in-None w ↦ grind (arith, w.self-is, w.next_number-number.ensures) ] in
     let told : MatchOption (slice_get numbers c.loop-k.k) ⊤ (λ said. c.match-get.number ≡ said) =
     elim c.match-get.branch [
       | in-Some w ↦ let at : slice_get numbers c.loop-k.k ≡ Some c.match-get.number = grind (arith, common_steps, gets, w.in-Some.ensures.lookup, w.number-is) in
@@ -23,11 +20,11 @@ loop-k-preserved g c =
       | in-None w ↦ let at : slice_get numbers c.loop-k.k ≡ None = grind (arith, common_steps, gets, w.in-None.ensures.lookup) in
           subst (λ o. MatchOption o ⊤ (λ said. c.match-get.number ≡ said)) (sym at) tt
     ] in
-    let life : between.life ≡ c.args.self.now.life = same.1 ∙ is.1 in
+    let life : c.loop-k.self.life ≡ c.args.self.now.life = is.1 in
     let adds : AddsAt (noted_as c.args.self.now.life c.match-get.number c.args.is_kept page) page.line c.loop-k.self.shelves.items c.add.new.self.shelves.items =
     subst (λ (m : ℕ). AddsAt (noted_as m c.match-get.number c.args.is_kept page) page.line c.loop-k.self.shelves.items c.add.new.self.shelves.items) life
-    (subst (λ (l : List ShelfValue). AddsAt (noted_as between.life c.match-get.number c.args.is_kept page) page.line l c.add.new.self.shelves.items) same.2 c.add.ensures.shelves) in (
-      c.add.ensures.spool ∙ same.0 ∙ is.0,
+    c.add.ensures.shelves in (
+      c.add.ensures.spool ∙ is.0,
       c.add.ensures.life ∙ life,
       next_added c.args.self.now.life c.args.is_kept c.args.pages.now numbers c.loop-k.k page c.match-get.number c.args.self.now.shelves.items c.loop-k.self.shelves.items c.add.new.self.shelves.items
           c.loop-k-test.true c.index-pages-k.is told is.2 adds,

@@ -1,5 +1,6 @@
 use Rattle.std.proofs.Common.{refl, arith}
 use Rattle.fax_shelf.proofs.Shelving.{end_agrees, get_at, set_at}
+use Rattle.fax_shelf.proofs.Tidying.{tidy_ended}
 use Rattle.fax_shelf.proofs.Waits.{job_stays}
 use Rattle.fax_shelf.proofs.keeping.Keeping.end.Goals as goal
 
@@ -16,6 +17,10 @@ returns-clause-ends g c =
       are = refl;
       ends = job_stays _ _ _ c.args.report.pages old new c.args.self.now.spool c.put_end.new.spool c.change_files-self.new.spool c.in_ok-kept.ensures.ends c.change_files-self.ensures.told c.change_files-self.ensures.refuses;
     }
+
+pub returns-clause-tidy : goal.returns-clause-tidy
+returns-clause-tidy g c = λ waits was accepts.
+    tidy_ended _ _ _ _ c.put_end.new.spool c.change_files-self.new.spool (c.in_ok-kept.ensures.ends.wait waits was) c.change_files-self.ensures.tidy c.change_files-self.ensures.refuses accepts
 
 pub returns-clause-agree : goal.returns-clause-agree
 returns-clause-agree g c = end_agrees _ _ _ _ _ _ _ _ _ (returns-clause-ends g c)

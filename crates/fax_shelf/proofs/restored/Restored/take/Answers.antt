@@ -1,6 +1,6 @@
 use Rattle.std.proofs.Common.{◌≡◌, ◌∙◌, ◌∷◌, ◌++◌, [], OnOk, ap, inl, inr, refl, subst, sym}
 use Rattle.fax_spool.specs.RecordOctets as spool
-use Rattle.fax_shelf.specs.Restorations.{MeansNone}
+use Rattle.fax_shelf.specs.Restorations.{MeansNone, aside_of}
 use Rattle.fax_shelf.specs.Shelves.{ShelfValue}
 use Rattle.fax_shelf.proofs.Calls.{put_aside, taken}
 use Rattle.fax_shelf.proofs.restored.Restored.take.Goals as goal
@@ -12,4 +12,4 @@ pub returns-in_default : goal.returns-in_default
 returns-in_default c =
     let none : MeansNone c.args.waits.now = λ page means. elim (c.in-Err.ensures.reads page means) [ inl other ↦ cc | inr same ↦ c.in_default.not-NoMemory (cc) ] in
     put_aside c.set_aside.result c.args.line.now c.args.waits.now c.args.self.now (record { calls = c.args.self.now.calls; shelf = c.set_aside.new.self }) (sym c.is_of_line.ensures ∙ c.if-not-is_of_line.false) none refl (ap (λ (s : ShelfValue). s.line) c.set_aside.ensures.same) (ap (λ (s : ShelfValue). s.waits) c.set_aside.ensures.same) (ap (λ (s : ShelfValue). s.is_whole) c.set_aside.ensures.same) (ap (λ (s : ShelfValue). s.tags) c.set_aside.ensures.same)
-    (subst (λ (p : spool.PageValue). OnOk c.set_aside.result (c.set_aside.new.self.aside ≡ c.args.self.now.shelf.aside ++ (p.call, p.number) ∷ [])) c.waits.view_is c.set_aside.ensures.aside)
+    (subst (λ (p : spool.PageValue). OnOk c.set_aside.result (c.set_aside.new.self.aside ≡ c.args.self.now.shelf.aside ++ aside_of p ∷ [])) c.waits.view_is c.set_aside.ensures.aside)
