@@ -17,6 +17,7 @@ use Rattle.fax_spool.specs.Records.{Ends, IsShort}
 use Rattle.fax_spool.specs.Waits.{waiting_behind}
 use Rattle.fax_spool.specs.declared.kept_record.KeptRecord.{KeptRecord}
 use Rattle.fax_spool.specs.declared.kept_record.KeptRecord.TheVariants.{Page, Epoch}
+use Rattle.fax_spool.proofs.Headers.{ends_short, read_written}
 use Rattle.fax_restarts.specs.Files.{CanBeTold, PastsHaveFiles, file_of}
 use Rattle.fax_restarts.specs.WholePasts.{WholePastsHaveFiles}
 
@@ -36,7 +37,7 @@ wait before [] = sym (append-nil before)
 wait before (page ∷ pages) = wait (before ++ page ∷ []) pages ∙ append_assoc before (page ∷ []) pages
 
 none : Ends []
-none r rest is_short e = cc e
+none = ends_short [] (omega arith)
 
 epoch_short : IsShort (kept_epoch 1)
 epoch_short =
@@ -44,13 +45,17 @@ epoch_short =
     let seal : length (kept_epoch 1) ≡ 37 = length-append (sha256 (epoch_octets 1)) (epoch_octets 1) ∙ omega (arith, length-sha256 (epoch_octets 1), number) in
     omega (arith, seal)
 
+all_short : (pages : List spool.PageValue) → All CanBeTold pages → All IsShort (kept_epoch 1 ∷ kept_epoch 1 ∷ map kept_page pages)
+all_short pages all =
+    All-cons IsShort (kept_epoch 1) (kept_epoch 1 ∷ map kept_page pages) epoch_short (All-cons IsShort (kept_epoch 1) (map kept_page pages) epoch_short (short pages all))
+
 told : (pages : List spool.PageValue) → All CanBeTold pages → TellWaits [] (file_of pages) pages
 told pages all = record {
   olds = [];
-  news = Epoch 1 ∷ records pages;
+  news = Epoch 1 ∷ Epoch 1 ∷ records pages;
   tell = (
-    record { items = []; stands = record { end = []; split = refl; no_more = none; short = All-nil IsShort }; read = tt },
-    record { items = kept_epoch 1 ∷ map kept_page pages; stands = record { end = []; split = sym (append-nil (file_of pages)); no_more = none; short = All-cons IsShort (kept_epoch 1) (map kept_page pages) epoch_short (short pages all) }; read = ((refl, omega arith), read pages all) },
+    record { items = []; stands = record { front = []; end = []; split = refl; read = refl; no_more = none }; read = tt },
+    record { items = kept_epoch 1 ∷ kept_epoch 1 ∷ map kept_page pages; stands = record { front = file_of pages; end = []; split = sym (append-nil (file_of pages)); read = read_written (kept_epoch 1 ∷ kept_epoch 1 ∷ map kept_page pages) (all_short pages all); no_more = none }; read = ((refl, omega arith), ((refl, omega arith), read pages all)) },
   );
   in_order = inr (inl refl);
   wait = wait [] pages;
@@ -67,7 +72,7 @@ if_ok (Ok t) P Q on p = on t p
 if_ok (Err e) P Q on p = p
 
 empty : Tells [] []
-empty = record { items = []; stands = record { end = []; split = refl; no_more = none; short = All-nil IsShort }; read = tt }
+empty = record { items = []; stands = record { front = []; end = []; split = refl; read = refl; no_more = none }; read = tt }
 
 module _ {D : Type 0} (seen : D → List ℕ) (may_leave : D → List ℕ → Type 0) (is_usable : D → Bool) where
   -- a page that was put is told by what a process leaves that dies

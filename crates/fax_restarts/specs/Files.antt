@@ -14,9 +14,9 @@ use Rattle.fax_restarts.specs.Crossings.{HasPastOver}
 abbrev pub CanBeTold : spool.PageValue → Type 0
 CanBeTold page = spool.PageFits page × IsShort (kept_page page)
 
--- the records of an epoch and of these pages, as a file has them
+-- the records of an epoch, which is put twice, and of these pages, as a file has them
 abbrev pub file_of : List spool.PageValue → List ℕ
-file_of pages = blocks (kept_epoch 1 ∷ map kept_page pages)
+file_of pages = blocks (kept_epoch 1 ∷ kept_epoch 1 ∷ map kept_page pages)
 
 -- EACH PAST CAN BE HAD OVER FILES, one of which is not empty. So no law that has a past over files as its premise speaks of new ones
 -- alone: with a life in which a page was put, and is owed, that page is told by these.

@@ -1,4 +1,5 @@
 pub mod Crossings
 pub mod Files
+pub mod Kills
 pub mod Runs
 pub mod WholePasts

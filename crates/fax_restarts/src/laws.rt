@@ -1,6 +1,7 @@
 //! Laws of the definitions: functions that do nothing, each of whose contracts is a theorem.
 ghost use Rattle.fax_restarts.specs.Crossings.{NewFilesHaveNoPast, RunsCross, RunsGoOn, RunsJoin, RunsLead, StoppedOpeningsLeaveThePast};
 ghost use Rattle.fax_restarts.specs.Files.{PastsHaveFiles};
+ghost use Rattle.fax_restarts.specs.Kills.{KilledRunsCross, RunsCanBeCut};
 ghost use Rattle.fax_restarts.specs.WholePasts.{NewFilesHaveWholePasts, OpeningsFindWhatIsLeft, WholePastsHaveFiles, WholeRunsCross};
 ghost use Rattle.fax_shelf.specs.declared.keeper.SpoolKeeper.{SpoolKeeper as KeeperShown};
 
@@ -33,6 +34,15 @@ pub fn runs_cross<D: Disk>()
     openings_find_what_waits::<D>();
     runs_make_history::<D>();
     crashes_leave_what_waits::<D>();
+}
+
+/// Behind whichever of its orders the process of a run is killed, it was a run so far, which leads from what its files held to whatever
+/// that leaves of them.
+pub fn killed_runs_cross<D: Disk>()
+    ensures cut { RunsCanBeCut D.seen D.may_leave D.is_usable (λ (keeper : KeeperShown D). keeper.keeping.shelves.items) (λ (keeper : KeeperShown D). keeper.keeping.spool) }
+    ensures crosses { KilledRunsCross D.seen D.may_leave D.is_usable (λ (keeper : KeeperShown D). keeper.keeping.shelves.items) (λ (keeper : KeeperShown D). keeper.keeping.spool) }
+{
+    runs_cross::<D>();
 }
 
 /// Any number of runs, each over files of a type of its own, from new files on, whatever crashes came between them, and however many
