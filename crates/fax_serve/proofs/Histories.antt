@@ -10,7 +10,7 @@ use Rattle.fax_spool.specs.RecordOctets as spool
 use Rattle.fax_spool.specs.Opened.{closed}
 use Rattle.fax_spool.specs.declared.spool.Spool.{Spool}
 use Rattle.fax_shelf.specs.Jobs.{PagesWait}
-use Rattle.fax_shelf.specs.Restorations.{Restores}
+use Rattle.fax_shelf.specs.Restorations.{Restores, WholeLinesAreRestored, whole_pages}
 use Rattle.fax_shelf.specs.Shelves.{ShelfValue}
 use Rattle.fax_shelf.specs.Histories.{RunsMakeHistory}
 use Rattle.fax_restarts.specs.Runs.{WasRun}
@@ -104,10 +104,13 @@ apart configs unlike number other line shelf low its low_number name differs sam
 ]
 
 module _ {D K : Type 0} (seen : D → List ℕ) (may_leave : D → List ℕ → Type 0) (is_usable : D → Bool) (shelves_of : K → List ShelfValue) (spool_of : K → Spool D) where
-  pub servers_make_history : RunsMakeHistory seen may_leave is_usable shelves_of spool_of → ServersMakeHistory seen may_leave is_usable shelves_of spool_of
-  servers_make_history runs configs served number config place pages writes lives puts setup unlike at there opened writing set past =
-      let mine : Its served.opened.pages.items config number served.begun (shelves_of served.keeper) = its served.opened.pages.items configs served.begun (shelves_of served.keeper) number config served.restored at in
-      let restores : Restores (string_bytes config.name) (closed pages) mine.is.restored = subst (λ (l : List spool.PageValue). Restores (string_bytes config.name) l mine.is.restored) opened.told mine.is.restores in
+  pub servers_make_history : WholeLinesAreRestored → RunsMakeHistory seen may_leave is_usable shelves_of spool_of → ServersMakeHistory seen may_leave is_usable shelves_of spool_of
+  servers_make_history restore runs configs served number config place pages writes lives puts setup unlike at there opened whole writing set past =
+      let told : List spool.PageValue = whole_pages served.opened.torn.items served.opened.pages.items in
+      let mine : Its told config number served.begun (shelves_of served.keeper) = its told configs served.begun (shelves_of served.keeper) number config served.restored at in
+      let restores : Restores (string_bytes config.name) (closed pages) mine.is.restored =
+      subst (λ (l : List spool.PageValue). Restores (string_bytes config.name) l mine.is.restored) opened.told
+      (restore (string_bytes config.name) served.opened.torn.items served.opened.pages.items mine.is.restored whole mine.is.restores) in
       let same : place ≡ mine.place = same_place place mine.place (sym there ∙ mine.there) in
       let name = config_low configs number config at in
       runs writes number (string_bytes config.name) pages lives puts setup served.run.first served.run.done served.run.settled served.begun served.run.left served.keeper served.run.after writing past
@@ -121,18 +124,19 @@ module _ {D K : Type 0} (seen : D → List ℕ) (may_leave : D → List ℕ → 
         fresh = mine.is.fresh;
         set = subst (λ (p : PlaceValue). AreSetWith setup p.line.gateway.settings (map call_shown mine.is.restored.calls.items)) same (set mine.is.restored restores);
         shelved = mine.shelved ∙ ap (λ (s : ShelfValue). Some s) (sym mine.is.shelf_is);
-        as_many = as_many served.opened.pages.items configs served.begun (shelves_of served.keeper) served.restored;
+        as_many = as_many told configs served.begun (shelves_of served.keeper) served.restored;
         alone = λ other shelf is differs same_name.
-            let its_name = named_at served.opened.pages.items configs served.begun (shelves_of served.keeper) other shelf served.restored is in
+            let its_name = named_at told configs served.begun (shelves_of served.keeper) other shelf served.restored is in
             apart configs unlike number other (string_bytes config.name) shelf its_name.0 (its_name.1 []) name.0 (name.1 []) differs same_name;
       }) served.run.ran
 
   -- what a run of the server was to a line
-  pub was_run : (line : List ℕ) (ran : ServedLine seen may_leave is_usable shelves_of spool_of line) → WasRun seen may_leave is_usable shelves_of spool_of line (run_of ran)
-  was_run line ran =
-      let pages : List spool.PageValue = ran.served.opened.pages.items in
+  pub was_run : WholeLinesAreRestored → (line : List ℕ) (ran : ServedLine seen may_leave is_usable shelves_of spool_of line) → WasRun seen may_leave is_usable shelves_of spool_of line (run_of ran)
+  was_run restore line ran =
+      let pages : List spool.PageValue = whole_pages ran.served.opened.torn.items ran.served.opened.pages.items in
       let mine : Its pages ran.config ran.number ran.served.begun (shelves_of ran.served.keeper) = its pages ran.configs ran.served.begun (shelves_of ran.served.keeper) ran.number ran.config ran.served.restored ran.at in
-      let restores : Restores line pages mine.is.restored = subst (λ (l : List ℕ). Restores l pages mine.is.restored) ran.named mine.is.restores in
+      let restores : Restores line ran.served.opened.pages.items mine.is.restored =
+      restore line ran.served.opened.torn.items ran.served.opened.pages.items mine.is.restored ran.whole (subst (λ (l : List ℕ). Restores l pages mine.is.restored) ran.named mine.is.restores) in
       let same : ran.place ≡ mine.place = same_place ran.place mine.place (sym ran.there ∙ mine.there) in
       let name = config_low ran.configs ran.number ran.config ran.at in
       record {

@@ -1,5 +1,5 @@
 -- RUNS OF A SERVER, one after another, joined by what their files hold. Lists of runs have the newest first. (This project's profile.)
-use Rattle.std.specs.Prelude.{◌≡◌, ℕ, Bool, List, map, Some, slice_get}
+use Rattle.std.specs.Prelude.{◌≡◌, ℕ, Bool, List, ◌++◌, map, Some, slice_get}
 use Rattle.std.specs.String.{string_bytes}
 use Rattle.fax_config.specs.declared.config.LineConfig.{LineConfig}
 use Rattle.fax_config.specs.Configurations.{AreUnlike, names_of_lines}
@@ -9,16 +9,18 @@ use Rattle.fax_gateway.specs.Restored.{CallPage, call_shown}
 use Rattle.fax_gateway.specs.Setups.{AreSetWith, Setup}
 use Rattle.fax_gateway.specs.Lives.{Life}
 use Rattle.fax_line.specs.Places.{PlaceValue}
+use Rattle.fax_line.specs.Runs.{Done}
 use Rattle.fax_line.specs.declared.settling.PageToKeep.{PageToKeep}
 use Rattle.fax_spool.specs.Opened.{AreBoth, IsOpened}
 use Rattle.fax_spool.specs.Spools.{AreClean, MayLeaveBoth, files_of}
 use Rattle.fax_spool.specs.declared.spool.Spool.{Spool}
-use Rattle.fax_shelf.specs.Restorations.{Restores}
+use Rattle.fax_shelf.specs.Restorations.{NoneIsTorn, Restores}
 use Rattle.fax_shelf.specs.Shelves.{ShelfValue}
 use Rattle.fax_shelf.specs.declared.restored.Restored.{Restored}
 use Rattle.fax_shelf.specs.SpoolKeeping.{EndsJobIf, IsUnchanged, NotesPage, PutsPages}
 use Rattle.fax_restarts.specs.Runs.{OneRun, told_of}
 use Rattle.fax_restarts.specs.Crossings.{AreJoined, GoesOn, HasPastOver, Held, Leads, LeavesOver, Step}
+use Rattle.fax_restarts.specs.Kills.{IsCut}
 use Rattle.fax_serve.specs.KeptRuns.{ServedKept}
 
 -- a run of a server whose pages are kept on a disk, by what has these shelves and this spool
@@ -30,7 +32,7 @@ ServedOnDisk {D} {K} seen may_leave is_usable shelves_of spool_of configs =
     (λ (line : ℕ) (report : Report) (old new : K). EndsJobIf seen may_leave is_usable line report (shelves_of old) (shelves_of new) (spool_of old) (spool_of new)) spool_of shelves_of configs
 
 -- A server ran, which had a line of this name and no other of it: at its place among the others, its gateway set up with the calls of
--- its own pages.
+-- its own pages, none of which lacked one.
 pub record ServedLine {D K : Type 0} (seen : D → List ℕ) (may_leave : D → List ℕ → Type 0) (is_usable : D → Bool) (shelves_of : K → List ShelfValue) (spool_of : K → Spool D) (line : List ℕ) : Type 0 where
   pub configs : List LineConfig
   pub served : ServedOnDisk seen may_leave is_usable shelves_of spool_of configs
@@ -41,6 +43,7 @@ pub record ServedLine {D K : Type 0} (seen : D → List ℕ) (may_leave : D → 
   pub named : string_bytes config.name ≡ line
   pub place : PlaceValue
   pub there : slice_get served.begun number ≡ Some place
+  pub whole : NoneIsTorn line served.opened.torn.items served.opened.pages.items
   pub setup : Setup
   pub set : (restored : Restored) → Restores line served.opened.pages.items restored → AreSetWith setup place.line.gateway.settings (map call_shown restored.calls.items)
 
@@ -77,6 +80,14 @@ ServersCross {D} {K} seen may_leave is_usable is_clean shelves_of spool_of =
     (writes : Writing) (line : List ℕ) (lives : List Life) (puts : List CallPage) (older newer : List ℕ) (ran : ServedLine seen may_leave is_usable shelves_of spool_of line)
     → IsWriting writes → HasPastOver writes line lives puts older newer → IsServedOver seen may_leave is_usable is_clean shelves_of spool_of line older newer ran
     → LeavesOver may_leave spool_of writes line lives puts (run_of ran)
+
+-- AT ALL TIMES, and not where it returns alone: behind whichever of its orders the process is killed, what it had done so far leaves of
+-- each such line a past with one life more over whatever the crash leaves of the files.
+abbrev pub KilledServersCross : {D K : Type 0} → (D → List ℕ) → (D → List ℕ → Type 0) → (D → Bool) → (D → Bool) → (K → List ShelfValue) → (K → Spool D) → Type 0
+KilledServersCross {D} {K} seen may_leave is_usable is_clean shelves_of spool_of =
+    (writes : Writing) (line : List ℕ) (lives : List Life) (puts : List CallPage) (older newer : List ℕ) (ran : ServedLine seen may_leave is_usable shelves_of spool_of line) (later earlier : List Done)
+    → IsWriting writes → HasPastOver writes line lives puts older newer → IsServedOver seen may_leave is_usable is_clean shelves_of spool_of line older newer ran → (run_of ran).done ≡ later ++ earlier
+    → (cut : OneRun D K) × IsCut (run_of ran) earlier cut × LeavesOver may_leave spool_of writes line lives puts cut
 
 -- so it may be any of the runs that are joined, by what its files held and what a crash left of them
 abbrev pub ServersLead : {D K : Type 0} → (D → List ℕ) → (D → List ℕ → Type 0) → (D → Bool) → (D → Bool) → (K → List ShelfValue) → (K → Spool D) → Type 0

@@ -13,7 +13,7 @@ use Rattle.fax_line.specs.declared.settling.PageToKeep.{PageToKeep}
 use Rattle.fax_spool.specs.RecordOctets as spool
 use Rattle.fax_spool.specs.Opened.{closed}
 use Rattle.fax_spool.specs.declared.spool.Spool.{Spool}
-use Rattle.fax_shelf.specs.Restorations.{Restores}
+use Rattle.fax_shelf.specs.Restorations.{NoneIsTorn, Restores}
 use Rattle.fax_shelf.specs.Shelves.{ShelfValue}
 use Rattle.fax_shelf.specs.declared.restored.Restored.{Restored}
 use Rattle.fax_shelf.specs.Histories.{HasPast, LeavesRun, WasOpened}
@@ -24,8 +24,8 @@ use Rattle.fax_serve.specs.KeptRuns.{ServedKept}
 abbrev pub IsSetUp : Setup → List ℕ → List spool.PageValue → PlaceValue → Type 0
 IsSetUp setup line pages place = (restored : Restored) → Restores line (closed pages) restored → AreSetWith setup place.line.gateway.settings (map call_shown restored.calls.items)
 
--- A SERVER'S RUN MAKES HISTORY: each of its lines, whose name no other has, and that has a past where the spool was opened, has one
--- with one life more where the run stops; and so over any number of lives.
+-- A SERVER'S RUN MAKES HISTORY: each of its lines, whose name no other has, none of whose calls lacks a page, and that has a past where
+-- the spool was opened, has one with one life more where the run stops; and so over any number of lives.
 abbrev pub ServersMakeHistory : {D K : Type 0} → (D → List ℕ) → (D → List ℕ → Type 0) → (D → Bool) → (K → List ShelfValue) → (K → Spool D) → Type 0
 ServersMakeHistory {D} {K} seen may_leave is_usable shelves_of spool_of =
     (configs : List LineConfig)
@@ -35,5 +35,6 @@ ServersMakeHistory {D} {K} seen may_leave is_usable shelves_of spool_of =
     (λ (line : ℕ) (report : Report) (old new : K). EndsJobIf seen may_leave is_usable line report (shelves_of old) (shelves_of new) (spool_of old) (spool_of new)) spool_of shelves_of configs)
     (number : ℕ) (config : LineConfig) (place : PlaceValue) (pages : List spool.PageValue) (writes : Writing) (lives : List Life) (puts : List CallPage) (setup : Setup)
     → AreUnlike (names_of_lines configs) → slice_get configs number ≡ Some config → slice_get served.begun number ≡ Some place → WasOpened seen may_leave is_usable served.opened pages
+    → NoneIsTorn (string_bytes config.name) served.opened.torn.items served.opened.pages.items
     → IsWriting writes → IsSetUp setup (string_bytes config.name) pages place → HasPast writes (string_bytes config.name) lives puts pages
     → LeavesRun seen may_leave is_usable writes number (string_bytes config.name) lives puts setup served.run.settled served.run.left (spool_of served.run.after)

@@ -12,6 +12,7 @@ use Rattle.fax_spool.specs.declared.opening.Opened.{Opened}
 use Rattle.fax_spool.specs.Opened.{IsOpened}
 use Rattle.fax_spool.specs.Spools.{AreClean, files_of}
 use Rattle.fax_spool.specs.declared.spool.Spool.{Spool}
+use Rattle.fax_shelf.specs.Restorations.{whole_pages}
 use Rattle.fax_shelf.specs.Shelves.{ShelfValue}
 use Rattle.fax_serve.specs.Desking.{WordsAreDone}
 use Rattle.fax_serve.specs.Openings.{IsRestored}
@@ -35,14 +36,14 @@ pub record RanKept {K : Type 0} (same : K → K → Type 0) (puts : List PageToK
   pub words : WordsAreDone done
   pub ran : Ran same puts notes ends first done settled begun left before after
 
--- A SERVER WITH A SPOOL RAN: the spool was opened, each line began with the pages of its own that waited in it, and its shelf with just
--- these; and so they went on.
+-- A SERVER WITH A SPOOL RAN: the spool was opened, each line began with the pages of its own that waited in it, but for calls that lack a
+-- page, and its shelf with just these; and so they went on.
 pub record ServedKept {D K : Type 0} (same : K → K → Type 0) (puts : List PageToKeep → Bool → K → K → Type 0) (notes : ℕ → ℕ → K → K → Type 0) (ends : ℕ → Report → K → K → Type 0) (spool_of : K → Spool D) (shelves_of : K → List ShelfValue) (configs : List LineConfig) : Type 0 where
   pub opened : Opened D
   pub begun : List PlaceValue
   pub keeper : K
   pub spool_is : spool_of keeper ≡ opened.spool
-  pub restored : AreRestored opened.pages.items configs begun (shelves_of keeper)
+  pub restored : AreRestored (whole_pages opened.torn.items opened.pages.items) configs begun (shelves_of keeper)
   pub run : RanKept same puts notes ends begun keeper
 
 -- A SERVER RAN OVER THESE FILES: it ran, and the spool that it opened was opened over two files that held this, where no wrong answer of

@@ -1,10 +1,11 @@
 //! Laws of the definitions: functions that do nothing, each of whose contracts is a theorem.
-ghost use Rattle.fax_serve.specs.Crossings.{ServersCross, ServersLead, ServersRunOn};
+ghost use Rattle.fax_serve.specs.Crossings.{KilledServersCross, ServersCross, ServersLead, ServersRunOn};
 ghost use Rattle.fax_serve.specs.Histories.{ServersMakeHistory};
 ghost use Rattle.fax_shelf.specs.declared.keeper.SpoolKeeper.{SpoolKeeper as KeeperShown};
 
-use fax_restarts::laws::{runs_cross, runs_join};
+use fax_restarts::laws::{killed_runs_cross, runs_cross, runs_join};
 use fax_shelf::laws::histories::runs_make_history;
+use fax_shelf::laws::whole_lines_are_restored;
 use sqlite_disk::Disk;
 
 /// What `run_serve` promises of a run with a spool leaves of each line a past with one life more, whatever crash follows: deeds, which
@@ -12,6 +13,7 @@ use sqlite_disk::Disk;
 pub fn servers_make_history<D: Disk>()
     ensures { ServersMakeHistory D.seen D.may_leave D.is_usable (λ (keeper : KeeperShown D). keeper.keeping.shelves.items) (λ (keeper : KeeperShown D). keeper.keeping.spool) }
 {
+    whole_lines_are_restored();
     runs_make_history::<D>();
 }
 
@@ -20,7 +22,17 @@ pub fn servers_make_history<D: Disk>()
 pub fn servers_cross<D: Disk>()
     ensures { ServersCross D.seen D.may_leave D.is_usable D.is_clean (λ (keeper : KeeperShown D). keeper.keeping.shelves.items) (λ (keeper : KeeperShown D). keeper.keeping.spool) }
 {
+    whole_lines_are_restored();
     runs_cross::<D>();
+}
+
+/// Of a run that is killed, behind whichever of its orders, the same is true: what it had done so far leads from what its files held to
+/// whatever the crash leaves of them.
+pub fn killed_servers_cross<D: Disk>()
+    ensures { KilledServersCross D.seen D.may_leave D.is_usable D.is_clean (λ (keeper : KeeperShown D). keeper.keeping.shelves.items) (λ (keeper : KeeperShown D). keeper.keeping.spool) }
+{
+    whole_lines_are_restored();
+    killed_runs_cross::<D>();
 }
 
 /// Over any number of runs and crashes, each run of the server is one life more of the gateway of each of its lines, whatever a crash

@@ -103,7 +103,8 @@ fn serve_in_memory<N: Net + Clock, I: Read + Drop, O: Write + Drop, S: Start>(
     Ok(pace.finish())
 }
 
-/// The same where pages are kept in the spool of this folder: each line begins with those of its own that wait there.
+/// The same where pages are kept in the spool of this folder: each line begins with those of its own that wait there, but for calls that
+/// lack a page.
 fn serve_spooled<N: Net + Clock + Folders, I: Read + Drop, O: Write + Drop, S: Start>(
     system: &N,
     alloc: Global,
@@ -119,8 +120,11 @@ fn serve_spooled<N: Net + Clock + Folders, I: Read + Drop, O: Write + Drop, S: S
     let Opened {
         spool,
         pages,
+        torn,
         older_damaged,
         newer_damaged,
+        older_passed_over,
+        newer_passed_over,
     } = system.open_spool(folder, start)?;
     let mut shelves = Vec::new(alloc);
     let lines = open_restored_lines(
@@ -128,14 +132,20 @@ fn serve_spooled<N: Net + Clock + Folders, I: Read + Drop, O: Write + Drop, S: S
         alloc,
         config.lines.as_slice(),
         pages.as_slice(),
+        torn.as_slice(),
         &mut shelves,
     )?;
     let mut pace = pace_of(system, alloc, config, clients, &lines, spool_failures)?;
     let damage = Damage {
         records: older_damaged.saturating_add(newer_damaged) as u64,
-        octets: 0,
+        octets: older_passed_over.saturating_add(newer_passed_over) as u64,
     };
-    pace.tell_aside(damage, pages.as_slice(), shelves.as_slice());
+    pace.tell_aside(
+        damage,
+        pages.as_slice(),
+        torn.as_slice(),
+        shelves.as_slice(),
+    );
     let keeper = SpoolKeeper {
         keeping: Keeping::new(alloc, spool, shelves),
     };

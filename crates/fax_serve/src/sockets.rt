@@ -5,6 +5,7 @@ ghost use Rattle.fax_gateway.specs.Restored.{call_shown};
 ghost use Rattle.fax_line.specs.Actions.{BeginsWith};
 ghost use Rattle.fax_line.specs.Deeds.{AreBegun, AreNew};
 ghost use Rattle.fax_shelf.specs.OnLeg.{HasDoneOn};
+ghost use Rattle.fax_shelf.specs.Restorations.{whole_pages};
 ghost use Rattle.fax_serve.specs.KeptRuns.{AreRestored};
 ghost use Rattle.fax_serve.specs.Openings.{AddsRestored, settings_by};
 
@@ -18,7 +19,7 @@ use fax_line::{Line, Lines};
 use fax_pagestore::PackedRows;
 use fax_repeat::{RepeatPolicy, RepeatingWire};
 use fax_shelf::{Restored, Shelf, restore_line};
-use fax_spool::WaitingPage;
+use fax_spool::{CallName, WaitingPage};
 use std::alloc::Global;
 use std::io;
 use std::net::{Net, UdpSocket};
@@ -50,47 +51,49 @@ pub fn open_lines<N: Net>(
     ensures as_many { IfOk result (λ lines. length lines.lines ≡ length configs.now) }
 {
     let mut shelves = Vec::new(alloc);
-    open_restored_lines(net, alloc, configs, &[], &mut shelves)
+    open_restored_lines(net, alloc, configs, &[], &[], &mut shelves)
 }
 
-/// The same behind a crash, where these pages wait: each line begins with its own. What is known of the pages of each is added to
-/// these shelves.
+/// The same behind a crash, where these pages wait and these calls lack one: each line begins with its own, but for those calls. What is
+/// known of the pages of each is added to these shelves.
 pub(crate) fn open_restored_lines<N: Net>(
     net: &N,
     alloc: Global,
     configs: &[LineConfig],
     pages: &[WaitingPage],
+    torn: &[CallName],
     shelves: &mut Vec<Shelf>,
 ) -> Result<ServedLines, ServeFault>
     ensures begun { IfOk result (λ lines. AreBegun lines.lines) }
     ensures new { pages.now ≡ [] → IfOk result (λ lines. AreNew lines.lines) }
     ensures first { IfOk result (λ lines. lines.slot ≡ 0) }
     ensures as_many { IfOk result (λ lines. length lines.lines ≡ length configs.now) }
-    ensures restored { shelves.old.items ≡ [] → IfOk result (λ lines. AreRestored pages.now configs.now lines.lines shelves.new.items) }
+    ensures restored { shelves.old.items ≡ [] → IfOk result (λ lines. AreRestored (whole_pages torn.now pages.now) configs.now lines.lines shelves.new.items) }
 {
     let mut lines = Lines::new(alloc)?;
     for config in configs {
-        add_line(net, alloc, config, pages, &mut lines, shelves)?;
+        add_line(net, alloc, config, pages, torn, &mut lines, shelves)?;
     }
     Ok(lines)
 }
 
-/// Opens the sockets of a line, which joins the others; it begins with its own of these pages.
+/// Opens the sockets of a line, which joins the others; it begins with its own of these pages, but for those of calls that lack one.
 fn add_line<N: Net>(
     net: &N,
     alloc: Global,
     config: &LineConfig,
     pages: &[WaitingPage],
+    torn: &[CallName],
     lines: &mut ServedLines,
     shelves: &mut Vec<Shelf>,
 ) -> Result<(), ServeFault>
     ensures begun { OnOk result (AreBegun lines.old.lines → AreBegun lines.new.lines) }
-    ensures restored { OnOk result (AddsRestored pages.now config.now lines.old.lines lines.new.lines shelves.old.items shelves.new.items) }
+    ensures restored { OnOk result (AddsRestored (whole_pages torn.now pages.now) config.now lines.old.lines lines.new.lines shelves.old.items shelves.new.items) }
     ensures new { OnOk result (pages.now ≡ [] → AreNew lines.old.lines → AreNew lines.new.lines) }
     ensures slot { OnOk result (lines.new.slot ≡ lines.old.slot) }
     ensures one_more { OnOk result (length lines.new.lines ≡ length lines.old.lines + 1) }
 {
-    let Restored { calls, shelf } = restore_line(alloc, config.name.as_str(), pages)?;
+    let Restored { calls, shelf } = restore_line(alloc, config.name.as_str(), pages, torn)?;
     let line = open_line(net, alloc, config, calls)?;
     lines.add(line)?;
     shelves.push(shelf)?;

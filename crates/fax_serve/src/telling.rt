@@ -4,7 +4,7 @@ use crate::failures::Failures;
 use crate::sockets::SocketLegs;
 use fax_clients::Clients;
 use fax_desk::{Damage, Happened, Listener};
-use fax_events::{Counters, Event, What, write_event};
+use fax_events::{Counters, Event, PageAside, What, write_event};
 use fax_jobs::{Outcome, Report};
 use fax_line::Line;
 use std::alloc::{AllocError, Global};
@@ -88,10 +88,10 @@ impl<I: Read + Drop, O: Write + Drop> Teller<I, O> {
         self.tell_event(None, at, What::SpoolFailed);
     }
 
-    /// Tells a page of an earlier life that is not sent: its call there, and its number in the call.
-    pub(crate) fn tell_aside(&mut self, line: &str, call: u32, number: u32) {
+    /// Tells a page of an earlier life that is not sent, with the tag of its call.
+    pub(crate) fn tell_aside(&mut self, line: &str, page: PageAside, tag: Option<&str>) {
         self.counters.pages_set_aside = self.counters.pages_set_aside.saturating_add(1);
-        let what = What::SetAside(call, number);
+        let what = What::SetAside(page, tag);
         let line = Some(line);
         self.tell_event(line, 0, what);
         if let Ok(text) = write_event(self.alloc, &Event { line, at: 0, what }) {

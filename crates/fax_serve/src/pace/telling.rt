@@ -8,25 +8,30 @@ use crate::telling::Teller;
 use crate::view::first_job;
 use crate::watch::{asks, wake_legs};
 use fax_desk::{Damage, Desk, Turn, tell_turn};
-use fax_events::What;
+use fax_events::{PageAside, What, WhyAside};
 use fax_gateway::Side;
 use fax_line::{Line, Lines, SLOTS};
-use fax_shelf::Shelf;
-use fax_spool::WaitingPage;
+use fax_shelf::{Aside, Shelf};
+use fax_spool::{CallName, WaitingPage, is_torn};
 use sqlite_disk::Disk;
 use std::io::{Read, Write};
 use std::rt::Clock;
 
 impl<'a, C: Clock, I: Read + Drop, O: Write + Drop> RealPace<'a, C, I, O> {
-    /// Tells what the spool was found to hold that is not sent: this damage, pages whose texts mean none, and of the pages that waited
-    /// those of lines that are not served. It is kept for those who come later.
-    pub(crate) fn tell_aside(&mut self, damage: Damage, pages: &[WaitingPage], shelves: &[Shelf])
+    /// Tells what the spool was found to hold that is not sent: this damage; and of the pages that waited those of calls that lack one,
+    /// those of lines that are not served, and those whose texts mean none. It is kept for those who come later.
+    pub(crate) fn tell_aside(
+        &mut self,
+        damage: Damage,
+        pages: &[WaitingPage],
+        torn: &[CallName],
+        shelves: &[Shelf],
+    )
         ensures { self.new ≡ self.old }
     {
         self.desk.set_damage(damage);
         self.teller.tell_damage(damage);
-        tell_shelves_aside(&mut self.teller, shelves);
-        tell_pages_aside(&mut self.teller, &self.desk, pages);
+        tell_pages_aside(&mut self.teller, &self.desk, pages, torn, shelves);
     }
 
     /// Tells what the turn that was ordered came to, of each line that was not left at rest in it.
@@ -117,34 +122,59 @@ impl<'a, C: Clock, I: Read + Drop, O: Write + Drop> RealPace<'a, C, I, O> {
     }
 }
 
-/// Tells the pages of these shelves whose texts mean none.
-fn tell_shelves_aside<I: Read + Drop, O: Write + Drop>(
-    teller: &mut Teller<I, O>,
-    shelves: &[Shelf],
-) {
-    for shelf in shelves {
-        tell_shelf_aside(teller, shelf);
-    }
-}
-
-/// Tells those of a shelf.
-fn tell_shelf_aside<I: Read + Drop, O: Write + Drop>(teller: &mut Teller<I, O>, shelf: &Shelf) {
-    for (call, number) in shelf.aside() {
-        teller.tell_aside(shelf.line(), *call, *number);
-    }
-}
-
-/// Tells the pages of lines that are not served.
+/// Tells those of these pages that are not sent.
 fn tell_pages_aside<I: Read + Drop, O: Write + Drop>(
     teller: &mut Teller<I, O>,
     desk: &Desk,
     pages: &[WaitingPage],
+    torn: &[CallName],
+    shelves: &[Shelf],
 ) {
     for page in pages {
-        if let Ok(line) = std::str::from_utf8(page.line.as_slice())
-            && desk.find(line).is_none()
-        {
-            teller.tell_aside(line, page.call, page.number);
+        if let Some(why) = why_aside(desk, page, torn, shelves) {
+            tell_page_aside(teller, page, why);
         }
     }
+}
+
+/// Why a page that waits is not sent, where it is not.
+fn why_aside(
+    desk: &Desk,
+    page: &WaitingPage,
+    torn: &[CallName],
+    shelves: &[Shelf],
+) -> Option<WhyAside> {
+    let line = std::str::from_utf8(page.line.as_slice()).ok()?;
+    let Some(i) = desk.find(line) else {
+        return Some(WhyAside::NoLine);
+    };
+    if is_torn(torn, page) {
+        return Some(WhyAside::TornCall);
+    }
+    let aside = Aside {
+        life: page.life,
+        call: page.call,
+        number: page.number,
+    };
+    let shelf = shelves.get(i)?;
+    shelf.aside().contains(&aside).then_some(WhyAside::NoPage)
+}
+
+/// Tells a page that is not sent.
+fn tell_page_aside<I: Read + Drop, O: Write + Drop>(
+    teller: &mut Teller<I, O>,
+    page: &WaitingPage,
+    why: WhyAside,
+) {
+    let Ok(line) = std::str::from_utf8(page.line.as_slice()) else {
+        return;
+    };
+    let aside = PageAside {
+        life: page.life,
+        call: page.call,
+        number: page.number,
+        why,
+    };
+    let tag = std::str::from_utf8(page.tag.as_slice()).ok();
+    teller.tell_aside(line, aside, tag.filter(|tag| !tag.is_empty()));
 }

@@ -2,9 +2,10 @@
 -- its own pages, and so is its shelf.
 use Rattle.std.proofs.Common.{◌≡◌, [], length, take}
 use Rattle.fax_line.specs.Deeds.{AreBegun, AreNew}
+use Rattle.fax_shelf.specs.Restorations.{whole_pages}
 use Rattle.fax_serve.specs.KeptRuns.{AreRestored}
 use Rattle.fax_serve.proofs.sockets.open_restored_lines.Given as goal
 
 abbrev pub invariant-loop-config : goal.invariant-loop-config
 invariant-loop-config g l = AreBegun l.lines.lines × (l.initial.pages ≡ [] → AreNew l.lines.lines) × (l.lines.slot ≡ 0) × (length l.lines.lines ≡ l.config-index)
-    × (l.initial.shelves.items ≡ [] → AreRestored l.initial.pages (take l.config-index l.initial.configs) l.lines.lines l.shelves.items)
+    × (l.initial.shelves.items ≡ [] → AreRestored (whole_pages l.initial.torn l.initial.pages) (take l.config-index l.initial.configs) l.lines.lines l.shelves.items)
