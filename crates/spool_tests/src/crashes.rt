@@ -1,5 +1,6 @@
-//! A process that puts pages until it is killed, and one that tells what it left: the two halves of `tools/crash`. They do nothing
-//! but where the environment names a folder.
+//! A process that puts pages until it is killed, and one that tells what it left: the two halves of `tools/crash`; and one that puts the
+//! pages of four calls into two files, and one that tells what of them can be read. They do nothing but where the environment names a
+//! folder.
 use fax_jobs::Outcome;
 use fax_keep::{KeptFile, open_folder};
 use fax_runcodes::{Format, Width};
@@ -143,6 +144,168 @@ fn lists_pages(rt: HostRuntime) -> Result<(), Fail> {
             page.number,
             page.text.len()
         )?;
+    }
+    Ok(())
+}
+
+/// A page of one of four calls, of two lines.
+struct CallPage {
+    line: &'static [u8],
+    call: u32,
+    number: u32,
+    closes: bool,
+}
+
+/// Those that are put into the one file, and into the other one behind it. Of call 2 the first two pages are a job, which ends; call 3 is
+/// on.
+const FIRST: [CallPage; 3] = [
+    CallPage {
+        line: b"a1",
+        call: 0,
+        number: 1,
+        closes: false,
+    },
+    CallPage {
+        line: b"a1",
+        call: 0,
+        number: 2,
+        closes: false,
+    },
+    CallPage {
+        line: b"a1",
+        call: 0,
+        number: 3,
+        closes: true,
+    },
+];
+
+const SECOND: [CallPage; 7] = [
+    CallPage {
+        line: b"a2",
+        call: 1,
+        number: 1,
+        closes: false,
+    },
+    CallPage {
+        line: b"a1",
+        call: 2,
+        number: 1,
+        closes: false,
+    },
+    CallPage {
+        line: b"a2",
+        call: 1,
+        number: 2,
+        closes: true,
+    },
+    CallPage {
+        line: b"a1",
+        call: 2,
+        number: 2,
+        closes: true,
+    },
+    CallPage {
+        line: b"a1",
+        call: 2,
+        number: 3,
+        closes: true,
+    },
+    CallPage {
+        line: b"a2",
+        call: 3,
+        number: 1,
+        closes: false,
+    },
+    CallPage {
+        line: b"a2",
+        call: 3,
+        number: 2,
+        closes: false,
+    },
+];
+
+/// The number that the octets of a page of a call follow from.
+fn seed_of(call: u32, number: u32) -> u32 {
+    call.wrapping_mul(10).wrapping_add(number)
+}
+
+/// These pages are put.
+fn put_calls(
+    spool: &mut Spool<KeptFile<Unknown>>,
+    alloc: Global,
+    life: u32,
+    pages: &[CallPage],
+) -> io::Result<()> {
+    for page in pages {
+        let text = text_of(alloc, seed_of(page.call, page.number), 40)?;
+        let record = PageRecord {
+            life,
+            call: page.call,
+            number: page.number,
+            format: FORMAT,
+            closes: page.closes,
+            line: page.line,
+            tag: b"t",
+            text: text.as_slice(),
+        };
+        spool.put(alloc, &record)?;
+    }
+    Ok(())
+}
+
+/// Puts the pages of four calls into both files of a new folder, and ends a job.
+#[test]
+fn puts_calls(rt: HostRuntime) -> Result<(), Fail> {
+    let Ok(folder) = env::var(&rt, "SPOOL_CALLS") else {
+        return Ok(());
+    };
+    let opened = open_folder(&rt, folder.as_str(), Unknown)?;
+    let mut spool = opened.spool;
+    let life = spool.epoch();
+    put_calls(&mut spool, rt.alloc(), life, &FIRST)?;
+    spool.change(rt.alloc())?;
+    put_calls(&mut spool, rt.alloc(), life, &SECOND)?;
+    let ended = EndedRecord {
+        life,
+        call: 2,
+        first: 1,
+        pages: 2,
+        delivered: 2,
+        format: FORMAT,
+        outcome: Outcome::Delivered,
+        line: b"a1",
+    };
+    spool.end(rt.alloc(), &ended)?;
+    println!(rt; "put")?;
+    Ok(())
+}
+
+/// Whether a page of a call has the text of its call and number.
+fn is_right_of_call(alloc: Global, page: &WaitingPage) -> Result<bool, AllocError> {
+    let text = text_of(alloc, seed_of(page.call, page.number), 40)?;
+    Ok(text.as_slice() == page.text.as_slice())
+}
+
+/// Tells what a spool of calls was found to hold: damaged records, octets that were passed over, the pages that wait, and the calls that
+/// lack one.
+#[test]
+fn lists_calls(rt: HostRuntime) -> Result<(), Fail> {
+    let Ok(folder) = env::var(&rt, "SPOOL_CALLS_LISTED") else {
+        return Ok(());
+    };
+    let opened = open_folder(&rt, folder.as_str(), Unknown)?;
+    let damaged = (opened.older_damaged, opened.newer_damaged);
+    let passed = (opened.older_passed_over, opened.newer_passed_over);
+    println!(rt;
+        "damaged {} {} {} {}",
+        damaged.0, damaged.1, passed.0, passed.1
+    )?;
+    for page in opened.pages.as_slice() {
+        let right = is_right_of_call(rt.alloc(), page)?;
+        println!(rt; "waits {} {} {} {right}", page.life, page.call, page.number)?;
+    }
+    for name in opened.torn.as_slice() {
+        println!(rt; "torn {} {}", name.life, name.call)?;
     }
     Ok(())
 }
