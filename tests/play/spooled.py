@@ -96,8 +96,8 @@ class Lives(Spooled):
         self.assertEqual(
             told,
             {
-                '{"event":"set_aside","line":"a1","at":N,"call":1,"number":1}',
-                '{"event":"set_aside","line":"a2","at":N,"call":0,"number":1}',
+                '{"event":"set_aside","line":"a1","at":N,"life":1,"call":1,"tag":null,"number":1,"why":"NoPage"}',
+                '{"event":"set_aside","line":"a2","at":N,"life":1,"call":0,"tag":null,"number":1,"why":"NoLine"}',
             },
         )
         counts = self.server.metrics()

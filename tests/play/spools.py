@@ -202,10 +202,12 @@ class PagesSurviveACrash(Spooling):
 
 class AJobEnds(Spooling):
     def test_its_end_is_noted(self):
-        """A job of two pages of 2,432 elements, fine, of which the second is refused three times: its record, octet by octet."""
+        """A job of two pages of 2,432 elements, fine, of which the second is refused three times: its record, octet by octet. The file is
+        not cleared, since a page of a line that is gone stays in it."""
         line, text = Line(self.ports), t4.text([[2432]])
         called = self.called(line, refuses=(1, 2, 3))
-        server = self.serve(line)
+        stays = page(b"a9", 1, 0, 1, kept(ROW))
+        server = self.serve(line, files={"pages": b"", "pages-wal": file_of(*epochs(1), stays)})
         events = server.events()
         calling = self.calling(line, [text, text], bits=t38.FINE + t38.W2432)
         self.ring(server, line, "tag")
@@ -215,9 +217,9 @@ class AJobEnds(Spooling):
         self.assertEqual((job["pages"], job["delivered"], job["outcome"]), (2, 1, "PageRefused"))
         until(lambda: server.metrics()["faxgate_pages_kept"] == 0, what="that it is noted")
         kept_text = t4.text([[2432]], two_d=True)
-        pages = [page(b"a1", 1, 0, number, kept_text, number == 2, b"tag", 2, True) for number in (1, 2)]
+        pages = [page(b"a1", 2, 0, number, kept_text, number == 2, b"tag", 2, True) for number in (1, 2)]
         found = [it for name in FILES for it in records_in(self.file(server, name)) if not it.startswith(EPOCH)]
-        self.assertEqual(found, pages + [ended(b"a1", 1, 0, 1, 2, 1, PAGE_REFUSED, 2, True)])
+        self.assertEqual(found, [stays, *pages, ended(b"a1", 2, 0, 1, 2, 1, PAGE_REFUSED, 2, True)])
 
 
 class FilesTakeTurns(Spooling):
@@ -257,17 +259,17 @@ class FilesTakeTurns(Spooling):
 
 
 class DamagedRecords(Spooling):
-    # three pages of a call, each a job
+    # three pages of a call
     PAGES = [page(b"a1", 1, 0, number, kept(ROW if number == 3 else OTHER_ROW), tag=b"t") for number in (1, 2, 3)]
 
-    def damaged(self, at):
+    def damaged(self, at, *others):
         """The file, in which an octet of what is sealed of the second page is another; below 0 one of its header."""
-        octets = bytearray(file_of(*epochs(1), *self.PAGES))
+        octets = bytearray(file_of(*epochs(1), *self.PAGES, *others))
         octets[len(file_of(*epochs(1), self.PAGES[0])) - len(SHUT) + HEADER + at] ^= 1
         return bytes(octets)
 
-    def test_they_are_set_aside(self):
-        """Wherever the octet is, in the digest or behind it."""
+    def test_their_calls_are_set_aside(self):
+        """Wherever the octet is, in the digest or behind it: the other pages of the call wait, and are not sent."""
         line = Line(self.ports)
         self.silent(line)
         server = self.serve(line)
@@ -279,12 +281,12 @@ class DamagedRecords(Spooling):
             server.start()
             counts = server.metrics()
             told = counts["faxgate_records_damaged_total"], counts["faxgate_pages_kept"], counts["faxgate_pages_set_aside_total"]
-            self.assertEqual(told, (1, 2, 0), at)
+            self.assertEqual(told, (1, 0, 2), at)
         # who comes later is told so too
         client = server.client()
         self.assertEqual(client.say("events"), ["ok"])
         self.assertEqual(event_line(client.events[0]), '{"event":"damaged","at":N,"records":1,"octets":0}')
-        self.assertIn("spool keeps damaged 1 passed_over 0 set_aside 0", server.say("status"))
+        self.assertIn("spool keeps damaged 1 passed_over 0 set_aside 2", server.say("status"))
 
     def test_an_octet_of_a_header_harms_nothing(self):
         """Nor does one of the shut gate behind the last record."""
@@ -301,13 +303,20 @@ class DamagedRecords(Spooling):
             told = counts["faxgate_records_damaged_total"], counts["faxgate_pages_kept"], counts["faxgate_pages_set_aside_total"]
             self.assertEqual(told, (0, 3, 0), at)
 
-    def test_the_others_are_sent(self):
+    def test_other_calls_are_sent(self):
+        """What is set aside is told with the tag of its call, to each client that comes."""
         line = Line(self.ports)
-        called = self.called(line, calls=2)
-        server = self.serve(line, files={"pages-wal": self.damaged(40)})
-        self.jobs(server.events(), ("a1", 0, "t", 1), ("a1", 0, "t", 1))
+        called = self.called(line)
+        other = page(b"a1", 1, 1, 1, kept(ROW), tag=b"u")
+        server = self.serve(line, files={"pages-wal": self.damaged(40, other)})
+        for _ in range(2):
+            events = server.events()
+            for number in (1, 3):
+                told = events.event("set_aside", PATIENCE, line="a1", life=1, call=0, tag="t", number=number, why="TornCall")
+                self.assertEqual(told["number"], number)
+        self.jobs(events, ("a1", 1, "u", 1))
         called.end()
-        self.assertEqual(called.pages, [t4.text(OTHER_ROW), t4.text(ROW)])
+        self.assertEqual(called.pages, [t4.text(ROW)])
 
 
 class AFullDisk(Spooling):
