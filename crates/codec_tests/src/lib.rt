@@ -1,4 +1,4 @@
-//! Tests of what is coded: bits, code words, lines and pages, frames, packets and datagrams; and of timers. All through what
+//! Tests of what is coded: bits, code words, lines and pages, frames, packets, datagrams and session descriptions; and of timers. All through what
 //! these crates show.
 #![tactic(auto)]
 
@@ -18,6 +18,8 @@ mod mrcode;
 mod pagestore;
 #[cfg(test)]
 mod runcodes;
+#[cfg(test)]
+mod sdp;
 #[cfg(test)]
 mod timers;
 #[cfg(test)]

@@ -4,3 +4,4 @@ pub mod Media
 pub mod Readers
 pub mod Sessions
 pub mod Texts
+pub mod Writing

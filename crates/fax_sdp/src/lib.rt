@@ -8,7 +8,11 @@ mod medium;
 mod reading;
 #[cfg(test)]
 mod tests;
+mod writing;
 
 pub use fault::SdpFault;
 pub use medium::{Direction, ErrorCorrection, Medium, RateManagement, Terms};
 pub use reading::{MOST_MEDIA, MOST_OCTETS, Session, read_sdp};
+pub use writing::{
+    AudioFormats, AudioSection, FaxSection, Origin, Section, answer_sections, write_sdp,
+};
