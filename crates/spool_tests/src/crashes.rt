@@ -248,7 +248,7 @@ fn put_calls(
             tag: b"t",
             text: text.as_slice(),
         };
-        spool.put(alloc, &record)?;
+        spool.put_all(alloc, &[record])?;
     }
     Ok(())
 }
