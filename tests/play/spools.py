@@ -268,6 +268,15 @@ class DamagedRecords(Spooling):
         octets[len(file_of(*epochs(1), self.PAGES[0])) - len(SHUT) + HEADER + at] ^= 1
         return bytes(octets)
 
+    def told_of(self, server, at):
+        """What is counted by a server that is started over that file: damaged records, pages that wait, and pages that are set aside."""
+        server.kill()
+        self.write(server, "pages", b"")
+        self.write(server, "pages-wal", self.damaged(at))
+        server.start()
+        counts = server.metrics()
+        return counts["faxgate_records_damaged_total"], counts["faxgate_pages_kept"], counts["faxgate_pages_set_aside_total"]
+
     def test_their_calls_are_set_aside(self):
         """Wherever the octet is, in the digest or behind it: the other pages of the call wait, and are not sent."""
         line = Line(self.ports)
@@ -275,13 +284,7 @@ class DamagedRecords(Spooling):
         server = self.serve(line)
         length = 32 + len(self.PAGES[1])
         for at in [0, 31, *range(32, length, 5), length - 1]:
-            server.kill()
-            self.write(server, "pages", b"")
-            self.write(server, "pages-wal", self.damaged(at))
-            server.start()
-            counts = server.metrics()
-            told = counts["faxgate_records_damaged_total"], counts["faxgate_pages_kept"], counts["faxgate_pages_set_aside_total"]
-            self.assertEqual(told, (1, 0, 2), at)
+            self.assertEqual(self.told_of(server, at), (1, 0, 2), at)
         # who comes later is told so too
         client = server.client()
         self.assertEqual(client.say("events"), ["ok"])
@@ -295,13 +298,7 @@ class DamagedRecords(Spooling):
         server = self.serve(line)
         behind = len(file_of(*self.PAGES[1:])) - HEADER - len(SHUT)
         for at in [*range(-HEADER, 0), *range(behind, behind + len(SHUT))]:
-            server.kill()
-            self.write(server, "pages", b"")
-            self.write(server, "pages-wal", self.damaged(at))
-            server.start()
-            counts = server.metrics()
-            told = counts["faxgate_records_damaged_total"], counts["faxgate_pages_kept"], counts["faxgate_pages_set_aside_total"]
-            self.assertEqual(told, (0, 3, 0), at)
+            self.assertEqual(self.told_of(server, at), (0, 3, 0), at)
 
     def test_other_calls_are_sent(self):
         """What is set aside is told with the tag of its call, to each client that comes."""
