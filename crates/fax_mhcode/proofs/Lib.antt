@@ -5,3 +5,4 @@ pub mod WriteLemmas
 pub mod WrittenLaws
 pub mod WrittenOnce
 pub mod PairLemmas
+pub mod ReadOrFail

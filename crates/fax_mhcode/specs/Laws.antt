@@ -1,5 +1,5 @@
 -- What holds of one-dimensional lines and of their faults.
-use Rattle.std.specs.Prelude.{◌≡◌, ℕ, ◌<◌, ◌≤◌, Bool, List, ◌++◌, length}
+use Rattle.std.specs.Prelude.{◌≡◌, ◌⊎◌, ℕ, ◌<◌, ◌≤◌, Bool, List, ◌++◌, length}
 use Rattle.fax_runcodes.specs.Rows.{Elements, IsWidth}
 use Rattle.fax_mhcode.specs.Lines.{SpellsLine, WritesLine}
 use Rattle.fax_mhcode.specs.LineFaults.{FailsLine}
@@ -19,6 +19,14 @@ LinesDontFail = (width : ℕ) (bits text rest : List Bool) (row : Elements) (fau
 abbrev pub FaultsAreUnique : Type 0
 FaultsAreUnique = (width : ℕ) (bits : List Bool) (f g : LineFault)
     → width ≤ 2432 → FailsLine width bits f → FailsLine width bits g → f ≡ g
+
+-- bits begin with the line of a row of this width
+abbrev pub BeginWithLine : ℕ → List Bool → Type 0
+BeginWithLine width bits = (text rest : List Bool) × (row : Elements) × SpellsLine width text row × (bits ≡ text ++ rest)
+
+-- any bits begin with a line of a width, or reading one meets a fault
+abbrev pub LinesAreReadOrFail : Type 0
+LinesAreReadOrFail = (width : ℕ) (bits : List Bool) → BeginWithLine width bits ⊎ ((fault : LineFault) × FailsLine width bits fault)
 
 -- the bits in which a row is written spell it
 abbrev pub WrittenLinesAreSpelt : Type 0

@@ -6,6 +6,7 @@ pub mod LineLaws
 pub mod ModeLemmas
 pub mod NearLemmas
 pub mod PlaceLemmas
+pub mod ReadOrFail
 pub mod StepLemmas
 pub mod VerticalLemmas
 pub mod WriteLemmas

@@ -63,7 +63,7 @@ pub front : (m : Mode) (f r x : List Bool) → mode_word m ++ ((f ++ r) ++ x) �
 front m f r x = sym (append_assoc (mode_word m) (f ++ r) x) ∙ ap (λ b. b ++ x) (sym (append_assoc (mode_word m) f r))
 
 -- a place at one offset from another is one
-IsAt-one : (offset : Offset) (a a' b : ℕ) → IsAt offset a b → IsAt offset a' b → a ≡ a'
+pub IsAt-one : (offset : Offset) (a a' b : ℕ) → IsAt offset a b → IsAt offset a' b → a ≡ a'
 IsAt-one Zero a a' b p q = omega arith
 IsAt-one Right1 a a' b p q = omega arith
 IsAt-one Right2 a a' b p q = omega arith

@@ -61,7 +61,7 @@ before_stretch row colour (suc a0) to first (inl some) s =
 before_stretch row colour (suc a0) to first (inr none) s = absurd (omega arith)
 
 -- ---- a1 and a2 of a row
-a1_at : (row : Elements) (colour : Colour) (from place : ℕ) → from ≤ length row → colour_before row from ≡ colour → from ≤ place → place ≤ length row
+pub a1_at : (row : Elements) (colour : Colour) (from place : ℕ) → from ≤ length row → colour_before row from ≡ colour → from ≤ place → place ≤ length row
     → IsStretch row colour from place → (place < length row → colour_at row place ≡ other colour) → a1 row from ≡ place
 a1_at row colour from place le before low high s change =
     let first : IsA1 row from = a1_is row from le in
@@ -79,7 +79,7 @@ a1_at row colour from place le before low high s change =
       ]
     ]
 
-a2_at : (row : Elements) (colour : Colour) (from middle place : ℕ) → from ≤ length row → colour_before row from ≡ colour → a1 row from ≡ middle → middle ≤ place → place ≤ length row
+pub a2_at : (row : Elements) (colour : Colour) (from middle place : ℕ) → from ≤ length row → colour_before row from ≡ colour → a1 row from ≡ middle → middle ≤ place → place ≤ length row
     → IsStretch row (other colour) middle place → (place < length row → colour_at row place ≡ colour) → a2 row from ≡ place
 a2_at row colour from middle place le before first low high s change =
     let second : IsA2 row from = a2_is row from le in
@@ -99,7 +99,7 @@ a2_at row colour from middle place le before first low high s change =
     ]
 
 -- where a row goes on in the colour at a0, a1 lies further right
-past_stretch : (row : Elements) (colour : Colour) (from place : ℕ) → from ≤ length row → colour_before row from ≡ colour → place < length row → IsStretch row colour from (place + 1) → place < a1 row from
+pub past_stretch : (row : Elements) (colour : Colour) (from place : ℕ) → from ≤ length row → colour_before row from ≡ colour → place < length row → IsStretch row colour from (place + 1) → place < a1 row from
 past_stretch row colour from place le before within s =
     let first : IsA1 row from = a1_is row from le in
     elim (cases_lt place (a1 row from)) [
@@ -373,7 +373,7 @@ StepsSoFar-none reference width p = record { modes = []; text = []; passes = Pas
 pub IsStart-first : (ps : List ℕ) (width : ℕ) → IsStart ps width [] (record { from = 0; colour = White; index = 0 })
 IsStart-first ps width = record { size = refl; within = omega arith; first = λ e. refl; cursor = λ le. IsCursor-first ps }
 
-Steps-then : (reference row : Elements) (from : ℕ) (modes : List Mode) (text : List Bool) (middle : ℕ) → Steps reference row from modes text middle
+pub Steps-then : (reference row : Elements) (from : ℕ) (modes : List Mode) (text : List Bool) (middle : ℕ) → Steps reference row from modes text middle
     → (more : List Mode) (behind : List Bool) (end : ℕ) → Steps reference row middle more behind end → Steps reference row from (modes ++ more) (text ++ behind) end
 Steps-then reference row from [] text middle (none, same) more behind end later =
     subst (λ b. Steps reference row from more b end) (ap (λ b. b ++ behind) (sym none)) (subst (λ n. Steps reference row n more behind end) same later)

@@ -1,5 +1,5 @@
 -- Laws of two-dimensional lines, as statements.
-use Rattle.std.specs.Prelude.{◌≡◌, ◌≤◌, Bool, List, ◌++◌, length}
+use Rattle.std.specs.Prelude.{◌≡◌, ◌⊎◌, ◌≤◌, Bool, List, ◌++◌, length}
 use Rattle.fax_runcodes.specs.Rows.{Elements}
 use Rattle.fax_mhcode.specs.declared.fault.LineFault.{LineFault}
 use Rattle.fax_mrcode.specs.Lines.{SpellsLine}
@@ -20,3 +20,11 @@ LinesDontFail = (reference : Elements) (bits text rest : List Bool) (row : Eleme
 abbrev pub FaultsAreUnique : Type 0
 FaultsAreUnique = (reference : Elements) (bits : List Bool) (f g : LineFault)
     → length reference ≤ 2432 → FailsLine reference bits f → FailsLine reference bits g → f ≡ g
+
+-- Bits begin with the line of a row against this reference.
+abbrev pub BeginWithLine : Elements → List Bool → Type 0
+BeginWithLine reference bits = (text rest : List Bool) × (row : Elements) × SpellsLine reference text row × (bits ≡ text ++ rest)
+
+-- Any bits begin with a line against a reference, or reading one meets a fault.
+abbrev pub LinesAreReadOrFail : Type 0
+LinesAreReadOrFail = (reference : Elements) (bits : List Bool) → BeginWithLine reference bits ⊎ ((fault : LineFault) × FailsLine reference bits fault)

@@ -1,5 +1,5 @@
 //! Laws of two-dimensional lines: functions that do nothing, each of whose contracts is a theorem.
-ghost use Rattle.fax_mrcode.specs.Laws.{TextsAreUnique, LinesDontFail, FaultsAreUnique};
+ghost use Rattle.fax_mrcode.specs.Laws.{TextsAreUnique, LinesDontFail, FaultsAreUnique, LinesAreReadOrFail};
 ghost use Rattle.fax_mrcode.specs.WrittenLaws.{WrittenLinesAreSpelt, WrittenLinesAreUnique, RowsAreWritten};
 
 /// Against one reference a text spells at most one row, and is no proper front of another row's text.
@@ -15,6 +15,11 @@ pub fn lines_dont_fail()
 /// Reading a line meets at most one fault.
 pub fn faults_are_unique()
     ensures { FaultsAreUnique }
+{}
+
+/// Any bits begin with a line against a reference, or reading one meets a fault.
+pub fn lines_are_read_or_fail()
+    ensures { LinesAreReadOrFail }
 {}
 
 /// The bits in which a row is written spell it.

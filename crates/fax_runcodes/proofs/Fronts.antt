@@ -1,5 +1,6 @@
 -- Lists of bits of which one begins another, as tests that compute.
-use Rattle.std.proofs.Common.{◌≡◌, Bool, true, false, List, [], ◌∷◌, ◌++◌, refl, ap}
+use Rattle.std.proofs.Common.{◌≡◌, ◌≢◌, ◌⊎◌, Bool, true, false, List, [], ◌∷◌, ◌++◌, refl, sym, ◌∙◌, ap, inl, inr}
+use Rattle.std.proofs.lemmas.List.{append_cancel_left}
 
 -- one of two lists begins the other
 abbrev pub agree : List Bool → List Bool → Bool
@@ -45,3 +46,37 @@ agree_comm (true ∷ xs) (true ∷ ys) = agree_comm xs ys
 agree_comm (true ∷ xs) (false ∷ ys) = refl
 agree_comm (false ∷ xs) (true ∷ ys) = refl
 agree_comm (false ∷ xs) (false ∷ ys) = agree_comm xs ys
+
+-- ---- whether one list begins another
+
+-- Two bits are one, or not.
+pub same_bit : (a b : Bool) → (a ≡ b) ⊎ (a ≢ b)
+same_bit true true = inl refl
+same_bit true false = inr (λ e. cc)
+same_bit false true = inr (λ e. cc)
+same_bit false false = inl refl
+
+-- The first list begins the second, or does not.
+pub begins_or_not : (xs ys : List Bool) → ((rest : List Bool) × (ys ≡ xs ++ rest)) ⊎ ((rest : List Bool) → ys ≡ xs ++ rest → ⊥)
+begins_or_not [] ys = inl (ys, refl)
+begins_or_not (x ∷ xs) [] = inr (λ rest e. cc)
+begins_or_not (x ∷ xs) (y ∷ ys) = elim (same_bit y x) [
+  | inr apart ↦ inr (λ rest e. (let whole : y ∷ ys ≡ x ∷ (xs ++ rest) = e in let heads : y ≡ x = cc in apart heads))
+  | inl same ↦ elim (begins_or_not xs ys) [
+    | inl more ↦ inl (more.0, ap (λ (b : Bool). b ∷ ys) same ∙ ap (λ l. x ∷ l) more.1)
+    | inr none ↦ inr (λ rest e. (let whole : y ∷ ys ≡ x ∷ (xs ++ rest) = e in let tails : ys ≡ xs ++ rest = cc in none rest tails))
+  ]
+]
+
+-- where it begins the second, something is left of that, or nothing
+inside_with : (xs ys more : List Bool) → ys ≡ xs ++ more
+    → ((more : List Bool) × (more ≢ []) × (ys ≡ xs ++ more)) ⊎ ((more : List Bool) → more ≢ [] → ys ≡ xs ++ more → ⊥)
+inside_with xs ys [] e = inr (λ more some f. some (append_cancel_left xs more [] (sym f ∙ e)))
+inside_with xs ys (b ∷ more) e = inl (b ∷ more, (λ h. cc), e)
+
+-- The first list ends inside the second, or does not.
+pub inside_or_not : (xs ys : List Bool) → ((more : List Bool) × (more ≢ []) × (ys ≡ xs ++ more)) ⊎ ((more : List Bool) → more ≢ [] → ys ≡ xs ++ more → ⊥)
+inside_or_not xs ys = elim (begins_or_not xs ys) [
+  | inl begins ↦ inside_with xs ys begins.0 begins.1
+  | inr none ↦ inr (λ more some e. none more e)
+]

@@ -5,6 +5,7 @@ pub mod PaintingLemmas
 pub mod PairLemmas
 pub mod PairRules
 pub mod ReadLemmas
+pub mod ReadOrFail
 pub mod RowLaws
 pub mod RunAtLemmas
 pub mod RowPixelsLemmas
