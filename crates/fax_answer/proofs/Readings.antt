@@ -1,6 +1,9 @@
 -- One reading serves the pieces of a datagram.
 use Rattle.std.proofs.Common.{◌≡◌, ℕ, Bool, true, false, List, [], ◌∷◌, ◌++◌, Option, Some, None, ◌⊎◌, inl, inr, refl, sym, ◌∙◌, ap, subst, if◌then◌else◌}
+use Rattle.fax_runcodes.specs.Widths.{elements_of}
+use Rattle.fax_pagestore.proofs.ReadOrFail.{pages_are_read_or_fail}
 use Rattle.fax_frames.specs.declared.dcs.Dcs.{Dcs}
+use Rattle.fax_frames.specs.Capabilities.{format_of, coding_of}
 use Rattle.fax_ifp.specs.Pieces as pieces
 use Rattle.fax_answer.specs.declared.command.Command.{Command}
 use Rattle.fax_answer.specs.declared.command.Order.{Order}
@@ -13,7 +16,7 @@ use Rattle.fax_answer.specs.Table.{Reading, Question, judged, is_one_image, is_r
 use Rattle.fax_answer.specs.Replies.{Waiting, reply_to, is_waiting}
 use Rattle.fax_answer.specs.Calls.{Answering, decided, came, asked, or_else, first_asked, came_all, CallEvent, Comes, after_events}
 use Rattle.fax_answer.specs.Confirmation.{IfAsked, AreRead, IsRead}
-use Rattle.fax_answer.specs.Readings.{CameSo, ReadingsJoin, comes_all, CallsAreRead, IsKnown, CallsGoOn}
+use Rattle.fax_answer.specs.Readings.{CameSo, ReadingsJoin, comes_all, CallsAreRead, QuestionsAreKnown, CallsGoOn}
 
 -- where nothing is asked the reading makes no difference
 one_page_same : (r s : Reading) (dcs : Dcs) (octets : List ℕ) (c : Command) (t u : Bool) → if◌then◌else◌ {A = Option Question} t (Some (record { octets = octets; dcs = dcs })) None ≡ None →
@@ -172,9 +175,12 @@ comes_came a (p ∷ ps) now read events = comes_came a ps now read (Comes p now 
 pub calls_are_read : CallsAreRead
 calls_are_read core events ps now read right h = (pieces_read core ps now read events right (inr h), comes_came core ps now read events)
 
-known : (o : Option Question) → IsKnown o → (read : Reading) × IsRead o read
-known None k = (None, refl)
-known (Some q) k = k
+pub questions_are_known : QuestionsAreKnown
+questions_are_known None = (None, refl)
+questions_are_known (Some q) = elim (pages_are_read_or_fail (elements_of (format_of q.dcs).width) (coding_of q.dcs) q.octets) [
+  | inl page ↦ (Some (record { format = format_of q.dcs; rows = page.0 }), (refl, page.1))
+  | inr fault ↦ (None, fault)
+]
 
 pub calls_go_on : CallsGoOn
-calls_go_on a ps now k = known (first_asked a ps now) k
+calls_go_on a ps now = questions_are_known (first_asked a ps now)

@@ -1,9 +1,9 @@
 -- Readings: one serves all pieces of a datagram, and there always is one, so that a call goes on whatever comes.
-use Rattle.std.specs.Prelude.{◌≡◌, ℕ, List, [], ◌∷◌, Option, Some, None}
+use Rattle.std.specs.Prelude.{◌≡◌, ℕ, List, [], ◌∷◌, Option}
 use Rattle.fax_ifp.specs.Pieces.{Piece}
 use Rattle.fax_answer.specs.Table.{Reading, Question}
 use Rattle.fax_answer.specs.Calls.{Answering, asked, came, first_asked, came_all, CallEvent, Comes, after_events}
-use Rattle.fax_answer.specs.Confirmation.{IsRight, IfAsked, AreRead, IsRead}
+use Rattle.fax_answer.specs.Confirmation.{IfAsked, AreRead, IsRead}
 
 -- pieces that come one after another, each with a reading of its own, which is right where it is asked for
 abbrev pub CameSo : Answering → List Piece → ℕ → Answering → Type 0
@@ -29,13 +29,10 @@ CallsAreRead =
     → AreRead core (comes_all ps now read events)
     × (after_events core (comes_all ps now read events) ≡ came_all read (after_events core events) ps now)
 
--- it is known of an image what it means, or that it fails
-abbrev pub IsKnown : Option Question → Type 0
-IsKnown None = Unit {0}
-IsKnown (Some q) = (read : Reading) × IsRight q read
+-- Whatever is asked has a reading: each image means a page, or meets a fault.
+abbrev pub QuestionsAreKnown : Type 0
+QuestionsAreKnown = (question : Option Question) → (read : Reading) × IsRead question read
 
--- A call goes on, whatever comes, where it is known of the image that is asked about what it means.
+-- A call goes on, whatever comes.
 abbrev pub CallsGoOn : Type 0
-CallsGoOn =
-    (a : Answering) (ps : List Piece) (now : ℕ) → IsKnown (first_asked a ps now)
-    → (read : Reading) × IsRead (first_asked a ps now) read
+CallsGoOn = (a : Answering) (ps : List Piece) (now : ℕ) → (read : Reading) × IsRead (first_asked a ps now) read

@@ -7,7 +7,7 @@ ghost use Rattle.fax_answer.specs.EachRtn.{EachRtnRefuses};
 ghost use Rattle.fax_answer.specs.InPage.{BeginsInPage};
 ghost use Rattle.fax_answer.specs.InTime.{GivesUpInTime, NoTimerIsEarly};
 ghost use Rattle.fax_answer.specs.Judging.{RefusesNoPage, JudgesExactly};
-ghost use Rattle.fax_answer.specs.Readings.{ReadingsJoin, CallsAreRead, CallsGoOn};
+ghost use Rattle.fax_answer.specs.Readings.{ReadingsJoin, CallsAreRead, QuestionsAreKnown, CallsGoOn};
 ghost use Rattle.fax_answer.specs.Refusals.{ReasonsAreUnique};
 ghost use Rattle.fax_answer.specs.Sent.{ConfirmsSignals, ConfirmsWhatItAccepted};
 ghost use Rattle.fax_answer.specs.Silence.{LittleIsGiven, NoCallHangs};
@@ -61,6 +61,11 @@ pub fn readings_join()
 /// Where a datagram's one reading is right, so is each reading of its pieces.
 pub fn calls_are_read()
     ensures { CallsAreRead }
+{}
+
+/// Whatever is asked has a reading: each image means a page, or meets a fault.
+pub fn questions_are_known()
+    ensures { QuestionsAreKnown }
 {}
 
 /// A call goes on, whatever comes.

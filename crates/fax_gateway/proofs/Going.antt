@@ -1,24 +1,18 @@
 -- Every trace goes on.
-use Rattle.std.proofs.Common.{ℕ, max, Option, Some, None, refl}
-use Rattle.fax_answer.specs.Table.{Reading, Question}
-use Rattle.fax_answer.specs.Confirmation.{IsRead}
-use Rattle.fax_answer.specs.Readings.{IsKnown}
+use Rattle.std.proofs.Common.{ℕ, max, refl}
+use Rattle.fax_answer.proofs.Readings.{questions_are_known}
 use Rattle.fax_gateway.specs.Events.{Given, clock}
 use Rattle.fax_gateway.specs.CallingLegs.{calling_leg, decided_calling, question, told_calling}
 use Rattle.fax_gateway.specs.CalledLegs.{decided_called, told_called, told_report}
 use Rattle.fax_gateway.specs.Sides.{sides, in_tick}
 use Rattle.fax_gateway.specs.GoesOn.{TracesGoOn}
 
-known : (o : Option Question) → IsKnown o → (read : Reading) × IsRead o read
-known None k = (None, refl)
-known (Some q) k = k
-
 pub goes_on : TracesGoOn
 goes_on setup writes earlier t =
     record {
       ring = λ at idle few. ((refl, few, idle), t);
-      from_calling = λ octets at k.
-          let r = known (question (calling_leg setup earlier) (max at (clock earlier)) octets) k in
+      from_calling = λ octets at.
+          let r = questions_are_known (question (calling_leg setup earlier) (max at (clock earlier)) octets) in
           (decided_calling (calling_leg setup earlier) octets, r.0, ((refl, r.1), t));
       from_called = λ octets at. (decided_called writes (sides setup writes earlier).leg octets, (refl, t));
       tick = λ at.

@@ -1,23 +1,19 @@
 -- Traces go on: whatever comes next has an answer. So no law over traces speaks of nothing.
-use Rattle.std.specs.Prelude.{◌≡◌, ℕ, ◌<◌, max, Bool, true, IsSome, List, ◌∷◌, Some}
+use Rattle.std.specs.Prelude.{◌≡◌, ℕ, ◌<◌, Bool, true, IsSome, List, ◌∷◌, Some}
 use Rattle.fax_answer.specs.Table.{Reading}
 use Rattle.fax_answer.specs.Calls.{rung}
 use Rattle.fax_answer.specs.Confirmation.{AreRead}
-use Rattle.fax_answer.specs.Readings.{IsKnown}
 use Rattle.fax_call.specs.Writings.{Writing}
 use Rattle.fax_gateway.specs.Setups.{Setup}
-use Rattle.fax_gateway.specs.Events.{Event, Ring, FromCalling, FromCalled, Tick, Placed, Given, clock, rings}
-use Rattle.fax_gateway.specs.CallingLegs.{CallingLeg, calling_leg, idle_after, question}
+use Rattle.fax_gateway.specs.Events.{Event, Ring, FromCalling, FromCalled, Tick, Placed, Given, rings}
+use Rattle.fax_gateway.specs.CallingLegs.{CallingLeg, calling_leg, idle_after}
 use Rattle.fax_gateway.specs.Sides.{book_of, job_asked, sides}
 use Rattle.fax_gateway.specs.Traces.{IsTrace}
 
--- A ring while no call is on, any octets on either leg, a tick, and, where a call is asked for, that it is placed or not, each at any moment. Of octets of the calling leg it has
--- to be known of one image, that which they ask about, what it means or that it fails.
+-- A ring while no call is on, any octets on either leg, a tick, and, where a call is asked for, that it is placed or not, each at any moment.
 pub record GoesOn (setup : Setup) (writes : Writing) (earlier : List Event) : Type 0 where
   pub ring : (at : ℕ) → idle_after (calling_leg setup earlier) ≡ true → rings earlier < 4294967296 → IsTrace setup writes (Ring at (rings earlier) ∷ earlier)
-  pub from_calling :
-      (octets : List ℕ) (at : ℕ) → IsKnown (question (calling_leg setup earlier) (max at (clock earlier)) octets)
-      → (decided : Bool) × (read : Reading) × IsTrace setup writes (FromCalling octets at decided read ∷ earlier)
+  pub from_calling : (octets : List ℕ) (at : ℕ) → (decided : Bool) × (read : Reading) × IsTrace setup writes (FromCalling octets at decided read ∷ earlier)
   pub from_called : (octets : List ℕ) (at : ℕ) → (decided : Bool) × IsTrace setup writes (FromCalled octets at decided ∷ earlier)
   pub tick : (at : ℕ) → (given : Given) × IsTrace setup writes (Tick at given ∷ earlier)
   pub placed : (at : ℕ) (connected : Bool) → IsSome (job_asked setup.asks (book_of (sides setup writes earlier))) → IsTrace setup writes (Placed at connected ∷ earlier)

@@ -49,8 +49,7 @@ pub fn none_is_lost()
     ensures { NoneIsLost }
 {}
 
-/// Every trace goes on with a ring while no call is on, any octets on either leg and a tick, at any moment. (Of octets of the
-/// calling leg it has to be known of one image, that which they ask about, what it means or how it fails.)
+/// Every trace goes on with a ring while no call is on, any octets on either leg and a tick, at any moment.
 pub fn traces_go_on()
     ensures { TracesGoOn }
 {}

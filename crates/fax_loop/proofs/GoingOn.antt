@@ -1,5 +1,5 @@
 -- An exchange over linked lines goes on.
-use Rattle.std.proofs.Common.{◌≡◌, ℕ, zero, suc, ◌+◌, ◌*◌, ◌<◌, ◌≤◌, ◌⊎◌, inl, inr, max, is_some, false, List, [], ◌∷◌, ◌++◌, length, reverse, Option, Some, None, IsSome, refl, sym, ◌∙◌, ap, subst, arith, append-nil, append_assoc, length-append}
+use Rattle.std.proofs.Common.{◌≡◌, ℕ, zero, suc, ◌+◌, ◌*◌, ◌<◌, ◌≤◌, ◌⊎◌, inl, inr, is_some, false, List, [], ◌∷◌, ◌++◌, length, reverse, Option, Some, None, IsSome, refl, sym, ◌∙◌, ap, subst, arith, append-nil, append_assoc, length-append}
 use Rattle.std.specs.Prelude.{All, Contains, flat_map}
 use Rattle.std.proofs.Math.Nat.{lt_of_not-le}
 use Rattle.std.proofs.lemmas.List.{length-map, reverse-reverse}
@@ -7,14 +7,12 @@ use Rattle.std.proofs.lemmas.List.Concat.{flat_map-append}
 use Rattle.std.proofs.lemmas.List.Elements.{All-append, All-cons, All-nil, All-weaker, Contains-append_right}
 use Rattle.fax_jobs.specs.declared.report.Report.{Report}
 use Rattle.fax_jobs.specs.Jobs.{JobValue}
-use Rattle.fax_answer.specs.Table.{Question, Reading}
-use Rattle.fax_answer.specs.Confirmation.{IsRead}
-use Rattle.fax_answer.specs.Readings.{IsKnown}
+use Rattle.fax_answer.proofs.Readings.{questions_are_known}
 use Rattle.fax_call.specs.Writings.{Writing}
 use Rattle.fax_gateway.specs.declared.side.Side.{Side}
 use Rattle.fax_gateway.specs.declared.side.Side.TheVariants as side
 use Rattle.fax_gateway.specs.Setups.{Setup}
-use Rattle.fax_gateway.specs.Events.{Event, FromCalling, FromCalled, Tick, Given, clock}
+use Rattle.fax_gateway.specs.Events.{Event, FromCalling, FromCalled, Tick, Given}
 use Rattle.fax_gateway.specs.CallingLegs.{CallingLeg, calling_leg, question, told_calling}
 use Rattle.fax_gateway.specs.CalledLegs.{CalledLeg, calls, told_by}
 use Rattle.fax_gateway.specs.Driving.{Entry, Accepts, ReceivesNothing, FailsToReceive, Sends, AreReceives, Comes, IsSent, IsTick, IsTurn, events, events_in, failed_in_a_row, most_datagrams, most_failed, receipts, receipts_in, sent, sent_in}
@@ -26,7 +24,7 @@ use Rattle.fax_gateway.specs.Wires.{Grows, Handed, Receipt}
 use Rattle.fax_loop.specs.Ends.{handed}
 use Rattle.fax_loop.specs.Exchanges.{AreRounds, Carried, IsOver, Round, answerer_behind, caller_behind, log_behind, moment_behind, reported, trace_behind}
 use Rattle.fax_loop.specs.GoesOn as going
-use Rattle.fax_loop.specs.GoesOn.{AreKnown, GoesOn, IsLinkedSoFar, LinksArePlayed, LinksBegin, LinksGoOn, by_answerer, by_caller, by_gateway, lines_behind}
+use Rattle.fax_loop.specs.GoesOn.{GoesOn, IsLinkedSoFar, LinksArePlayed, LinksBegin, LinksGoOn, by_answerer, by_caller, by_gateway, lines_behind}
 use Rattle.fax_loop.specs.Links.{AreLinked, AreLinkedBack, came_called, came_calling, handed_called, most_near}
 use Rattle.fax_loop.specs.Machines.{AreCame, Came, called_turned, called_with, calling_turned, calling_with, datagrams_of, octets_of, pages_on, rung_once}
 use Rattle.fax_loop.proofs.AnswererLemmas.{called_with-given, datagrams_of-ticked}
@@ -136,19 +134,6 @@ came_called-append (wires.Failed at room ∷ rs) older = came_called-append rs o
 
 -- ---- A TURN in which these datagrams come
 
--- each question has a reading
-known : (o : Option Question) → ((q : Question) → IsKnown (Some q)) → (read : Reading) × IsRead o read
-known None k = (None, refl)
-known (Some q) k = k q
-
-is_known : (o : Option Question) → ((q : Question) → IsKnown (Some q)) → IsKnown o
-is_known None k = tt
-is_known (Some q) k = k q
-
-known_rest : (octets : List ℕ) (more : List (List ℕ)) → AreKnown (octets ∷ more) → AreKnown more
-known_rest octets [] k = tt
-known_rest octets (next ∷ more) k = k
-
 -- those of one leg
 record ComeOn (setup : Setup) (writes : Writing) (at : Side) (now : ℕ) (trace : List Event) (many : ℕ) (calling called : List (List ℕ)) : Type 0 where
   log : List Entry
@@ -158,13 +143,13 @@ record ComeOn (setup : Setup) (writes : Writing) (at : Side) (now : ℕ) (trace 
   calling_is : came_calling (receipts log) ≡ calling
   called_is : came_called (receipts log) ≡ called
 
-on_calling : TracesGoOn → (setup : Setup) (writes : Writing) (now : ℕ) (trace : List Event) (some : List (List ℕ)) → AreKnown some → IsTrace setup writes trace
+on_calling : TracesGoOn → (setup : Setup) (writes : Writing) (now : ℕ) (trace : List Event) (some : List (List ℕ)) → IsTrace setup writes trace
     → ComeOn setup writes side.Calling now trace (length some) some []
-on_calling law setup writes now trace [] k t = record { log = []; come = All-nil (Comes side.Calling now); many_are = refl; is_trace = t; calling_is = refl; called_is = refl }
-on_calling law setup writes now trace (octets ∷ some) k t =
-    let r : ComeOn setup writes side.Calling now trace (length some) some [] = on_calling law setup writes now trace some (known_rest octets some k) t in
+on_calling law setup writes now trace [] t = record { log = []; come = All-nil (Comes side.Calling now); many_are = refl; is_trace = t; calling_is = refl; called_is = refl }
+on_calling law setup writes now trace (octets ∷ some) t =
+    let r : ComeOn setup writes side.Calling now trace (length some) some [] = on_calling law setup writes now trace some t in
     let earlier : List Event = events r.log ++ trace in
-    let next = (law setup writes earlier r.is_trace).from_calling octets now (is_known (question (calling_leg setup earlier) (max now (clock earlier)) octets) k) in
+    let next = (law setup writes earlier r.is_trace).from_calling octets now in
     let entry : Entry = Accepts (FromCalling octets now next.0 next.1) in
     record {
       log = entry ∷ r.log;
@@ -295,11 +280,11 @@ record AreHeard (setup : Setup) (now : ℕ) (leg : Option CallingLeg) (some : Li
   octets_are : octets_of came ≡ some
   read : AreCame setup now came leg
 
-heard : (setup : Setup) (now : ℕ) (leg : Option CallingLeg) (some : List (List ℕ)) → AreKnown some → AreHeard setup now leg some
-heard setup now leg [] k = record { came = []; octets_are = refl; read = tt }
-heard setup now leg (octets ∷ some) k =
-    let r : AreHeard setup now leg some = heard setup now leg some (known_rest octets some k) in
-    let read = known (question (Some (rung_once setup now (called_with setup now r.came leg))) now octets) k in
+heard : (setup : Setup) (now : ℕ) (leg : Option CallingLeg) (some : List (List ℕ)) → AreHeard setup now leg some
+heard setup now leg [] = record { came = []; octets_are = refl; read = tt }
+heard setup now leg (octets ∷ some) =
+    let r : AreHeard setup now leg some = heard setup now leg some in
+    let read = questions_are_known (question (Some (rung_once setup now (called_with setup now r.came leg))) now octets) in
     record { came = record { octets = octets; read = read.0 } ∷ r.came; octets_are = ap (λ (xs : List (List ℕ)). octets ∷ xs) r.octets_are; read = (read.1, r.read) }
 
 -- what is known of the lines
@@ -484,11 +469,11 @@ both_come setup writes now trace calling called first second t = record {
       ∙ ap (λ (xs : List (List ℕ)). came_called (receipts second.log) ++ xs) first.called_is ∙ append-nil (came_called (receipts second.log)) ∙ second.called_is;
 }
 
-on_both : TracesGoOn → (setup : Setup) (writes : Writing) (now : ℕ) (trace : List Event) (calling called : List (List ℕ)) → AreKnown calling → length calling ≤ most_datagrams → length called ≤ most_datagrams
+on_both : TracesGoOn → (setup : Setup) (writes : Writing) (now : ℕ) (trace : List Event) (calling called : List (List ℕ)) → length calling ≤ most_datagrams → length called ≤ most_datagrams
     → IsTrace setup writes trace → IsHearing setup writes now trace calling called
-on_both law setup writes now trace calling called k few_calling few_called is =
+on_both law setup writes now trace calling called few_calling few_called is =
     let first : AreReceived setup writes side.Calling now trace calling [] =
-    received setup writes side.Calling now trace (length calling) calling [] (on_calling law setup writes now trace calling k is) (at_most (length calling) most_datagrams few_calling) in
+    received setup writes side.Calling now trace (length calling) calling [] (on_calling law setup writes now trace calling is) (at_most (length calling) most_datagrams few_calling) in
     let second : AreReceived setup writes side.Called now (events first.log ++ trace) [] called =
     received setup writes side.Called now (events first.log ++ trace) (length called) [] called (on_called law setup writes now (events first.log ++ trace) called first.is_trace) (at_most (length called) most_datagrams few_called) in
     both_come setup writes now trace calling called first second (turns law setup writes now trace first.log second.log first.receives second.receives second.is_trace)
@@ -517,8 +502,8 @@ with_round setup writes job rounds to_caller calling called t s few not_over c =
   turn = t.log;
   calling_is = t.calling_is;
   called_is = t.called_is;
-  round = λ to_answerer few_to_answerer from_gateway k.
-      let h : AreHeard setup (moment_behind rounds) (answerer_behind setup rounds) to_answerer = heard setup (moment_behind rounds) (answerer_behind setup rounds) to_answerer k in
+  round = λ to_answerer few_to_answerer from_gateway.
+      let h : AreHeard setup (moment_behind rounds) (answerer_behind setup rounds) to_answerer = heard setup (moment_behind rounds) (answerer_behind setup rounds) to_answerer in
       let round : Round = record { calling = to_caller; gateway = t.log; called = h.came } in (
         h.came,
         h.octets_are,
@@ -531,7 +516,7 @@ pub links_go_on : TracesGoOn → LinksGoOn
 links_go_on law setup writes job rounds to_caller calling called so_far not_over few c =
     let s : Stands setup writes job rounds = stands setup writes job rounds (low (length rounds) (length rounds + 1) most_near (omega arith) few) so_far in
     with_round setup writes job rounds to_caller calling called
-    (on_both law setup writes (moment_behind rounds) (trace_behind rounds) calling called c.known c.few_on_calling c.few_on_called s.trace) s few not_over c
+    (on_both law setup writes (moment_behind rounds) (trace_behind rounds) calling called c.few_on_calling c.few_on_called s.trace) s few not_over c
 
 -- ---- one that is played to its end: both receives of each turn fail
 abbrev fails_on : Side → List Entry

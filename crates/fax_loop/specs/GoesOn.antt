@@ -5,8 +5,6 @@ use Rattle.std.specs.List.{count_by}
 use Rattle.fax_pagestore.specs.Pages.{PageValue}
 use Rattle.fax_jobs.specs.declared.report.Report.{Report}
 use Rattle.fax_jobs.specs.Jobs.{JobValue}
-use Rattle.fax_answer.specs.Table.{Question}
-use Rattle.fax_answer.specs.Readings.{IsKnown}
 use Rattle.fax_call.specs.Writings.{Writing}
 use Rattle.fax_gateway.specs.Setups.{Setup}
 use Rattle.fax_gateway.specs.Driving.{Entry, is_failed_receive, is_failed_send, most_datagrams, receipts, sent}
@@ -53,11 +51,6 @@ by_answerer setup rounds = datagrams_of setup (given_on (answerer_behind setup r
 abbrev pub by_gateway : List Round → List Entry → List (List ℕ)
 by_gateway rounds turn = handed_called (sent (turn ++ log_behind rounds))
 
--- where any datagram comes it is known of each image what it means, or that it fails
-abbrev pub AreKnown : List (List ℕ) → Type 0
-AreKnown [] = Unit {0}
-AreKnown (octets ∷ more) = (q : Question) → IsKnown (Some q)
-
 -- What comes in the next round, at most 16 datagrams each: any to the machine that calls, and to the gateway some of those that were
 -- handed over at the other end, in any order, some of them more than once.
 pub record Comes (setup : Setup) (writes : Writing) (job : JobValue) (rounds : List Round) (to_caller on_calling on_called : List (List ℕ)) : Type 0 where
@@ -66,7 +59,6 @@ pub record Comes (setup : Setup) (writes : Writing) (job : JobValue) (rounds : L
   pub few_on_called : length on_called ≤ most_datagrams
   pub from_caller : All (Contains (by_caller setup writes job rounds to_caller)) on_calling
   pub from_answerer : All (Contains (by_answerer setup rounds)) on_called
-  pub known : AreKnown on_calling
 
 -- The gateway has a turn in which just these come. And whichever then come to the machine that is called, of those that the gateway
 -- handed over, the exchange goes on with that round.
@@ -75,7 +67,7 @@ pub record GoesOn (setup : Setup) (writes : Writing) (job : JobValue) (rounds : 
   pub calling_is : came_calling (receipts turn) ≡ on_calling
   pub called_is : came_called (receipts turn) ≡ on_called
   pub round :
-      (to_answerer : List (List ℕ)) → length to_answerer ≤ most_datagrams → All (Contains (by_gateway rounds turn)) to_answerer → AreKnown to_answerer
+      (to_answerer : List (List ℕ)) → length to_answerer ≤ most_datagrams → All (Contains (by_gateway rounds turn)) to_answerer
       → (came : List Came) × (octets_of came ≡ to_answerer) × IsLinkedSoFar setup writes job (record { calling = to_caller; gateway = turn; called = came } ∷ rounds)
 
 -- ---- laws

@@ -32,9 +32,8 @@ pub fn confirms_the_page_over_links()
 }
 
 /// There are such exchanges, over lines that are linked both ways: they begin with no round; behind any rounds there is a further one,
-/// whichever comes of what was handed over, in any order, once, several times or not at all (of images that come it has to be known
-/// what they mean or how they fail); and there are some that are played to their end. So what is told of lines that are linked
-/// speaks of something.
+/// whichever comes of what was handed over, in any order, once, several times or not at all; and there are some that are played to
+/// their end. So what is told of lines that are linked speaks of something.
 pub fn links_go_on()
     ensures begin { LinksBegin }
     ensures go_on { LinksGoOn }

@@ -10,6 +10,7 @@ pub mod PackedLemmas
 pub mod PageLaws
 pub mod PageReading
 pub mod ReadLemmas
+pub mod ReadOrFail
 pub mod ReaderLemmas
 pub mod RowsWritten
 pub mod StaysLemmas

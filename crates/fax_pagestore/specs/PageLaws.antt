@@ -1,5 +1,5 @@
 -- What holds of pages and their texts.
-use Rattle.std.specs.Prelude.{◌≡◌, ◌↔◌, ℕ, Bool, List}
+use Rattle.std.specs.Prelude.{◌≡◌, ◌↔◌, ◌⊎◌, ℕ, Bool, List}
 use Rattle.fax_bits.specs.Laws.{AreOctets}
 use Rattle.fax_bits.specs.Writing.{IsPadded}
 use Rattle.fax_runcodes.specs.declared.format.Coding.{Coding}
@@ -25,6 +25,11 @@ PagesDontFail = (width : ℕ) (coding : Coding) (octets : List ℕ) (rows : List
 abbrev pub FaultsAreUnique : Type 0
 FaultsAreUnique = (width : ℕ) (coding : Coding) (octets : List ℕ) (fault other : PageFault) → IsWidth width
     → FailsPage width coding octets fault → FailsPage width coding octets other → fault ≡ other
+
+-- octets mean a page, or meet a fault
+abbrev pub PagesAreReadOrFail : Type 0
+PagesAreReadOrFail = (width : ℕ) (coding : Coding) (octets : List ℕ)
+    → ((rows : List Elements) × MeansRows width coding octets rows) ⊎ ((fault : PageFault) × FailsPage width coding octets fault)
 
 -- the text in which a page is written means the page
 abbrev pub WrittenPagesMean : Type 0

@@ -1,5 +1,5 @@
 //! Laws of the definitions: functions that do nothing, each of whose contracts is a theorem.
-ghost use Rattle.fax_pagestore.specs.PageLaws.{PagesAreUnique, PagesDontFail, FaultsAreUnique, WrittenPagesMean, WrittenPagesAreUnique, PagesAreWritten, WrittenOctetsAreUnique, FillIsFree};
+ghost use Rattle.fax_pagestore.specs.PageLaws.{PagesAreUnique, PagesDontFail, FaultsAreUnique, PagesAreReadOrFail, WrittenPagesMean, WrittenPagesAreUnique, PagesAreWritten, WrittenOctetsAreUnique, FillIsFree};
 
 /// Octets mean at most one page.
 pub fn pages_are_unique()
@@ -14,6 +14,11 @@ pub fn pages_dont_fail()
 /// Octets meet at most one fault.
 pub fn faults_are_unique()
     ensures { FaultsAreUnique }
+{}
+
+/// Octets mean a page, or meet a fault.
+pub fn pages_are_read_or_fail()
+    ensures { PagesAreReadOrFail }
 {}
 
 /// The text in which a page is written means the page.
