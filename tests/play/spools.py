@@ -300,6 +300,25 @@ class DamagedRecords(Spooling):
         for at in [*range(-HEADER, 0), *range(behind, behind + len(SHUT))]:
             self.assertEqual(self.told_of(server, at), (0, 3, 0), at)
 
+    def test_a_call_before_octets_that_are_passed_over_is_set_aside(self):
+        """Two octets of one length are turned, so nothing can be read behind: a call that was on before is not sent, one that had
+        ended is."""
+        line = Line(self.ports)
+        called = self.called(line)
+        whole = page(b"a1", 1, 0, 1, kept(ROW), tag=b"t")
+        on = page(b"a1", 1, 1, 1, kept(OTHER_ROW), closes=False, tag=b"u")
+        octets = bytearray(file_of(*epochs(1), whole, on, page(b"a1", 1, 1, 2, kept(OTHER_ROW), tag=b"u")))
+        at = len(file_of(*epochs(1), whole, on)) - len(SHUT) + len(OPEN)
+        octets[at] ^= 1
+        octets[at + 4] ^= 2
+        server = self.serve(line, files={"pages": bytes(octets)})
+        events = server.events()
+        told = events.event("set_aside", PATIENCE, line="a1", life=1, call=1, tag="u", number=1, why="TornCall")
+        self.assertEqual(told["number"], 1)
+        self.jobs(events, ("a1", 0, "t", 1))
+        called.end()
+        self.assertEqual(called.pages, [t4.text(ROW)])
+
     def test_other_calls_are_sent(self):
         """What is set aside is told with the tag of its call, to each client that comes."""
         line = Line(self.ports)

@@ -15,5 +15,6 @@ mod Openings
 mod Told
 mod TornCalls
 mod Lost
+mod Passed
 mod Harming
 mod Doing

@@ -1,6 +1,6 @@
 -- Pages that were lost tear their call.
 use Rattle.std.proofs.Common.{◌≡◌, ◌⊎◌, inl, inr, ◌+◌, ◌<◌, Bool, true, false, not, ◌&&◌, ◌||◌, nat_eq, nat_lt, bytes_eq, List, [], ◌∷◌, ◌++◌, refl, sym, ◌∙◌, ap, subst, arith, append_assoc, if◌then◌else◌}
-use Rattle.std.specs.List.{All, list_any}
+use Rattle.std.specs.List.{All, Contains, list_any}
 use Rattle.std.proofs.lemmas.List.{append-nil}
 use Rattle.std.proofs.lemmas.List.Elements.{All-cons, All-contains, All-nil}
 use Rattle.std.proofs.lemmas.List.Folds.{list_any-append}
@@ -9,25 +9,25 @@ use Rattle.std.proofs.lemmas.Bool.Decides.{nat_tests}
 use Rattle.std.proofs.lemmas.Slice.Eq.{bytes_eq-Decides}
 use Rattle.fax_spool.specs.RecordOctets.{PageValue}
 use Rattle.fax_spool.specs.Torn.{CallName, call_of, has_damage, is_damaged, is_next, is_of, is_of_any, is_previous, lacks_before, lacks_behind, same_call, torn_among, torn_by, torn_calls}
-use Rattle.fax_spool.specs.Harm.{AreOfOneJob, ArePutOnce, IsHarmed, LostPagesTearTheirCall, StandInOrder, is_page, tell_page}
+use Rattle.fax_spool.specs.Harm.{AreOfOneJob, ArePutOnce, IsHarmed, StandInOrder, is_page, tell_page}
 use Rattle.fax_spool.specs.declared.kept_record.KeptRecord.{KeptRecord}
 use Rattle.fax_spool.specs.declared.kept_record.KeptRecord.TheVariants.{Page, Ended, Epoch, Damaged}
 use Rattle.fax_spool.proofs.TornCalls.{both_false, or_false, torn_append}
 
 -- ---- tests
 
-both_true : (a b : Bool) → (a && b) ≡ true → (a ≡ true) × (b ≡ true)
+pub both_true : (a b : Bool) → (a && b) ≡ true → (a ≡ true) × (b ≡ true)
 both_true true b yea = (refl, yea)
 both_true false b yea = absurd (cc)
 
-and_true : (a b : Bool) → a ≡ true → b ≡ true → (a && b) ≡ true
+pub and_true : (a b : Bool) → a ≡ true → b ≡ true → (a && b) ≡ true
 and_true a b p q = ap (λ (t : Bool). t && b) p ∙ q
 
-or_right : (a b : Bool) → b ≡ true → (a || b) ≡ true
+pub or_right : (a b : Bool) → b ≡ true → (a || b) ≡ true
 or_right true b yea = refl
 or_right false b yea = yea
 
-or_left : (a b : Bool) → a ≡ true → (a || b) ≡ true
+pub or_left : (a b : Bool) → a ≡ true → (a || b) ≡ true
 or_left a b yea = ap (λ (t : Bool). t || b) yea
 
 not_both : (b : Bool) → b ≡ true → b ≡ false → ⊥
@@ -119,7 +119,7 @@ still_none f nay (r ∷ records) (x ∷ found) harmed none =
     let parts = or_false (f r) (list_any f records) none in
     both_false (f x) (list_any f found) (elim harmed.0 [ inl is ↦ ap f is ∙ parts.0 | inr is ↦ ap f is ∙ nay ]) (still_none f nay records found harmed.1 parts.1)
 
-harmed_both : (a b c d : List KeptRecord) → IsHarmed a b → IsHarmed c d → IsHarmed (a ++ c) (b ++ d)
+pub harmed_both : (a b c d : List KeptRecord) → IsHarmed a b → IsHarmed c d → IsHarmed (a ++ c) (b ++ d)
 harmed_both [] [] c d first second = second
 harmed_both [] (x ∷ b) c d first second = absurd first
 harmed_both (r ∷ a) [] c d first second = absurd first
@@ -322,9 +322,11 @@ module _ (records found : List KeptRecord) (harmed : IsHarmed records found) (on
       let all = one_call q pages job.3 in
       All-cons (λ (r : PageValue). call_of r ≡ call_of p) p (q ∷ pages) refl (λ k d lt. all k d lt ∙ sym calls)
 
-pub lost_pages_tear_their_call : LostPagesTearTheirCall
-lost_pages_tear_their_call records found [] there lost harmed once job stand some other kept gone = absurd (omega (arith, some.1))
-lost_pages_tear_their_call records found (p ∷ pages) there lost harmed once job stand some other kept gone =
+pub harmed_pages_tear_their_call :
+    (records found : List KeptRecord) (pages : List PageValue) (there lost : PageValue) → IsHarmed records found → ArePutOnce records → AreOfOneJob pages → StandInOrder pages records
+    → Contains pages there → Contains pages lost → tell_page found there ≡ true → tell_page found lost ≡ false → is_of_any (torn_calls found) lost ≡ true
+harmed_pages_tear_their_call records found [] there lost harmed once job stand some other kept gone = absurd (omega (arith, some.1))
+harmed_pages_tear_their_call records found (p ∷ pages) there lost harmed once job stand some other kept gone =
     elim (chase records found harmed once p pages job stand) [
       | inl all ↦
           let one = All-contains (IsAlike records found harmed once p) (p ∷ pages) there all some in

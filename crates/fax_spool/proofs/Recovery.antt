@@ -86,7 +86,7 @@ module _ (octets : List ℕ) (f : Found) (found : IsFoundIn octets f) where
   file_stands file same = record { front = take f.end octets; end = drop f.end octets; split = sym same ∙ split; read = found.read; no_more = found.no_more }
 
   pub file_found : (file : List ℕ) → octets ≡ file → IsFoundOf file f
-  file_found file same = record { stands = file_stands file same; passed_over = found.passed_over }
+  file_found file same = record { stands = file_stands file same; passed_over = found.passed_over; destroyed = found.destroyed }
 
   -- whenever the machine stops while the gate is shut
   pub left_by_shut : (file : List ℕ) → octets ≡ file → (HasShut (drop f.end octets) → ⊥) → (old new : List ℕ → Type 0) → Only file old → Follows (Torn f.end 3) old new

@@ -74,8 +74,15 @@ StandInOrder [] records = Unit {0}
 StandInOrder (page ∷ pages) [] = ⊥
 StandInOrder (page ∷ pages) (r ∷ records) = ((r ≡ Page page) × StandInOrder pages records) ⊎ StandInOrder (page ∷ pages) records
 
+-- What is found of records: each one as it was, or a damaged one in place of any number of them, as of those that are passed over.
+abbrev pub IsFound : List KeptRecord → List KeptRecord → Type 0
+IsFound records [] = records ≡ []
+IsFound records (f ∷ found) =
+    ((rest : List KeptRecord) × (records ≡ f ∷ rest) × IsFound rest found)
+    ⊎ ((f ≡ Damaged) × (lost rest : List KeptRecord) × (records ≡ lost ++ rest) × IsFound rest found)
+
 -- LOST PAGES TEAR THEIR CALL: where one page of a job is found and another is not, whichever they are, their call is torn.
 abbrev pub LostPagesTearTheirCall : Type 0
 LostPagesTearTheirCall =
-    (records found : List KeptRecord) (pages : List PageValue) (there lost : PageValue) → IsHarmed records found → ArePutOnce records → AreOfOneJob pages → StandInOrder pages records
+    (records found : List KeptRecord) (pages : List PageValue) (there lost : PageValue) → IsFound records found → ArePutOnce records → AreOfOneJob pages → StandInOrder pages records
     → Contains pages there → Contains pages lost → tell_page found there ≡ true → tell_page found lost ≡ false → is_of_any (torn_calls found) lost ≡ true

@@ -5,6 +5,7 @@ pub mod Found
 pub mod Seals
 pub mod RecordOctets
 pub mod KeptRecords
+pub mod Listed
 pub mod Waits
 pub mod Torn
 pub mod Harm

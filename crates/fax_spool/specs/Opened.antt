@@ -1,11 +1,11 @@
 -- What the two files of a spool are found to hold as they are opened. (This project's profile.)
-use Rattle.std.specs.Prelude.{◌≡◌, ◌⊎◌, ◌<◌, ℕ, Bool, not, ◌||◌, nat_le, List, [], ◌∷◌, ◌++◌, if◌then◌else◌}
+use Rattle.std.specs.Prelude.{◌≡◌, ◌⊎◌, ◌<◌, ℕ, Bool, not, ◌&&◌, ◌||◌, nat_eq, nat_le, List, [], ◌∷◌, ◌++◌, if◌then◌else◌}
 use Rattle.std.specs.List.{list_any}
 pub use Rattle.fax_spool.specs.Torn.{damaged, is_damaged, same_call}
 use Rattle.fax_spool.specs.RecordOctets.{PageValue}
 use Rattle.fax_spool.specs.Calls.{Rests, TellWaits}
-use Rattle.fax_spool.specs.Found.{passed_over}
-use Rattle.fax_spool.specs.Torn.{torn_calls}
+use Rattle.fax_spool.specs.Found.{is_destroyed, passed_over}
+use Rattle.fax_spool.specs.Torn.{CallName, torn_calls, with_destroyed}
 use Rattle.fax_spool.specs.Waits.{waiting}
 use Rattle.fax_spool.specs.Spools.{Keeps, Tells, epoch_now, epoch_of, epoch_records, greatest_epoch}
 use Rattle.fax_spool.specs.declared.kept_record.KeptRecord.{KeptRecord}
@@ -29,9 +29,15 @@ abbrev pub closed : List PageValue → List PageValue
 closed [] = []
 closed (page ∷ pages) = closing (page.closes || not (list_any (same_call page) pages)) page ∷ closed pages
 
+-- The torn calls of two files, of each of which a header is destroyed or not: what stood behind it counts as a damaged record behind the
+-- others of its file. Where no epoch of the older one can be read it may be the newer one, and so what stood there counts as the last too.
+abbrev pub torn_found : (older_destroyed newer_destroyed : Bool) (olds news : List KeptRecord) → List CallName
+torn_found older_destroyed newer_destroyed olds news =
+    torn_calls (with_destroyed older_destroyed olds ++ with_destroyed (newer_destroyed || (older_destroyed && nat_eq (epoch_of olds) 0)) news)
+
 -- A SPOOL WAS OPENED OVER TWO FILES: it keeps what both of them tell, the older one first, and the epoch that begins, whose number
--- is greater than each before it; the pages that wait by them are told in order; and so are which calls are torn, how many records
--- are damaged, and how many octets are passed over behind them.
+-- is greater than each before it; the pages that wait by them are told in order; and so are which calls are torn, where a header that is
+-- destroyed counts as a damaged record, how many records are damaged, and how many octets are passed over behind them.
 pub record IsOpened {D : Type 0} (seen : D → List ℕ) (may_leave : D → List ℕ → Type 0) (is_usable : D → Bool) (one other : List ℕ) (opened : Opened D) : Type 0 where
   pub ones : List KeptRecord
   pub others : List KeptRecord
@@ -41,7 +47,9 @@ pub record IsOpened {D : Type 0} (seen : D → List ℕ) (may_leave : D → List
   pub older_epochs : greatest_epoch (older_of ones others) < epoch_now opened.spool
   pub newer_epochs : greatest_epoch (newer_of ones others) < epoch_now opened.spool
   pub pages : opened.pages.items ≡ closed (waiting (older_of ones others ++ newer_of ones others))
-  pub torn : opened.torn.items ≡ torn_calls (older_of ones others ++ newer_of ones others)
+  pub torn : opened.torn.items
+      ≡ torn_found (is_destroyed (if comes_first ones others then one_tells.stands.end else other_tells.stands.end))
+      (is_destroyed (if comes_first ones others then other_tells.stands.end else one_tells.stands.end)) (older_of ones others) (newer_of ones others)
   pub older_damaged : opened.older_damaged ≡ damaged (older_of ones others)
   pub newer_damaged : opened.newer_damaged ≡ damaged (newer_of ones others)
   pub older_passed_over : opened.older_passed_over ≡ (if comes_first ones others then passed_over one_tells.stands.end else passed_over other_tells.stands.end)

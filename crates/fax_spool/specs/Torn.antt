@@ -77,6 +77,10 @@ torn_among before (r ∷ records) behind = torn_by before r (records ++ behind) 
 abbrev pub torn_calls : List KeptRecord → List CallName
 torn_calls records = torn_among [] records []
 
+-- where a header behind records is destroyed, a damaged record stands there
+abbrev pub with_destroyed : Bool → List KeptRecord → List KeptRecord
+with_destroyed is_destroyed records = if is_destroyed then records ++ Damaged ∷ [] else records
+
 -- WHERE NO RECORD IS DAMAGED, NO CALL IS TORN.
 abbrev pub NothingIsTornWithoutDamage : Type 0
 NothingIsTornWithoutDamage = (records : List KeptRecord) → damaged records ≡ 0 → torn_calls records ≡ []

@@ -6,7 +6,7 @@ ghost use Rattle.std.specs.Prelude.{◌≡◌, ◌⊎◌, ◌+◌, ◌<◌, ◌�
 ghost use Rattle.std.specs.List.{All};
 ghost use Rattle.std.specs.Int.{w32, to_be_bytes};
 ghost use Rattle.fax_spool.specs.Records.{Stands, body, blocks, shut, BeginsWith, Ends, IsShort, is_open, length_in, voted};
-ghost use Rattle.fax_spool.specs.Found.{IsFoundIn, IsFoundOf, items_of, passed_over};
+ghost use Rattle.fax_spool.specs.Found.{IsFoundIn, IsFoundOf, is_destroyed, items_of, passed_over};
 ghost use Rattle.sqlite_disk.specs.Disk.{Torn, Holds, Only, Follows};
 ghost use Rattle.fax_spool.specs.Settled.{IsSettled};
 
@@ -171,6 +171,8 @@ pub struct Found {
     pub end: usize,
     /// How many octets are passed over behind them, where no shut gate stands there as it is written.
     pub passed_over: usize,
+    /// Whether an open gate stands there, and no record can be read: a header is destroyed.
+    pub is_destroyed: bool,
 }
 
 /// The value that two of three copies of an octet have.
@@ -220,6 +222,13 @@ fn passed_over(octets: &[u8]) -> usize
     octets.len()
 }
 
+/// Whether octets, with which no record begins, begin with an open gate, and have room for a header.
+fn is_destroyed(octets: &[u8]) -> bool
+    ensures { result ≡ is_destroyed octets.now }
+{
+    octets.len() >= HEADER && is_open(octets)
+}
+
 /// The record that octets begin with, and what stands behind it.
 fn first_record(octets: &[u8]) -> Option<(&[u8], &[u8])>
     ensures { MatchOption result (Ends octets.now) (λ p. BeginsWith octets.now p.0.now p.1.now) }
@@ -239,7 +248,7 @@ fn first_record(octets: &[u8]) -> Option<(&[u8], &[u8])>
 }
 
 /// The records that octets begin with, and where they end.
-fn records_of(alloc: Global, octets: &[u8]) -> Result<Found, AllocError>
+pub(crate) fn records_of(alloc: Global, octets: &[u8]) -> Result<Found, AllocError>
     ensures { IfOk result (IsFoundIn octets.now) }
 {
     let mut items = Vec::new(alloc);
@@ -252,6 +261,7 @@ fn records_of(alloc: Global, octets: &[u8]) -> Result<Found, AllocError>
         items,
         end: octets.len() - rest.len(),
         passed_over: passed_over(rest),
+        is_destroyed: is_destroyed(rest),
     })
 }
 

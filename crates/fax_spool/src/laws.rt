@@ -71,7 +71,8 @@ pub fn nothing_is_torn_without_damage()
     ensures { NothingIsTornWithoutDamage }
 {}
 
-/// Where the records of some pages of a job are damaged and those of others are not, whichever they are, the call is told to be torn.
+/// Where the records of some pages of a job are damaged, or among those that are passed over, and those of others are not, whichever
+/// they are, the call is told to be torn.
 pub fn lost_pages_tear_their_call()
     ensures { LostPagesTearTheirCall }
 {}

@@ -5,6 +5,7 @@
 mod file;
 mod kept_record;
 pub mod laws;
+mod listing;
 mod opening;
 mod page_name;
 mod record;
@@ -16,6 +17,7 @@ mod waiting_page;
 
 pub use file::{Found, RecordFile, recover};
 pub use kept_record::{KeptRecord, read_kept_record};
+pub use listing::{Harm, Listing, list_spool};
 pub use opening::{Opened, open_spool};
 pub use record::{
     EndedRecord, PageRecord, read_ended_record, read_page_record, write_ended_record,

@@ -7,8 +7,8 @@ ghost use Rattle.fax_spool.specs.KeptRecords.{AreReadAs};
 ghost use Rattle.fax_spool.specs.Waits.{waiting};
 ghost use Rattle.fax_spool.specs.Calls.{Accepts};
 ghost use Rattle.fax_spool.specs.Spools.{AreClean, Keeps, epoch_now, epoch_records, files_of, greatest_epoch};
-ghost use Rattle.fax_spool.specs.Opened.{IsOpened, closed};
-ghost use Rattle.fax_spool.specs.Torn.{damaged, same_call, torn_calls};
+ghost use Rattle.fax_spool.specs.Opened.{IsOpened, closed, torn_found};
+ghost use Rattle.fax_spool.specs.Torn.{damaged, same_call, with_destroyed};
 
 use crate::torn::{is_damaged, is_of_call, torn_calls};
 use crate::waiting::follow_all;
@@ -28,22 +28,23 @@ pub struct Opened<D: Disk> {
     /// The pages that wait, in the order in which they were confirmed. The last one of each call closes its job, since a call that
     /// was on ended with its process.
     pub pages: Vec<WaitingPage>,
-    /// The calls that lack a page, since its record may be one that is damaged: of such a call a page in `pages` may be one of a job that
-    /// is not whole. A call may be told more than once.
+    /// The calls that lack a page, since its record may be one that is damaged, or behind a header that is destroyed: of such a call
+    /// a page in `pages` may be one of a job that is not whole. A call may be told more than once.
     pub torn: Vec<CallName>,
     /// How many records of the older file are damaged. What they said is lost.
     pub older_damaged: usize,
     /// How many of the newer one.
     pub newer_damaged: usize,
-    /// How many octets of the older file are passed over, since no record begins behind the last one, and no shut gate stands there as
-    /// it is written.
+    /// How many octets of the older file are passed over, since no record begins behind the last one, and no shut gate stands
+    /// there.
     pub older_passed_over: usize,
     /// How many of the newer one.
     pub newer_passed_over: usize,
 }
 
 /// Opens a spool over its two files, whichever of them is the older one: reads what a crash may have left, and begins a life. At
-/// an `Err` (the disk's failure, or no memory) the files stand for the same records, with both of the epoch's or without.
+/// an `Err` (the disk's failure, no memory, or `InvalidData`: a file is no spool's, and stays as it is) the files stand for the same
+/// records, with both of the epoch's or without.
 pub fn open_spool<D: Disk + Drop>(alloc: Global, one: D, other: D) -> io::Result<Opened<D>>
     requires one_usable { IsTrue (D.is_usable one) }
     requires other_usable { IsTrue (D.is_usable other) }
@@ -69,66 +70,84 @@ pub fn open_spool<D: Disk + Drop>(alloc: Global, one: D, other: D) -> io::Result
     };
     if first_epoch(ones.as_slice()) > first_epoch(others.as_slice()) {
         let passed = (second.passed_over, first.passed_over);
-        return Ok(begin(
-            alloc,
-            other,
-            one,
-            others.as_slice(),
-            ones.as_slice(),
-            passed,
-        )?);
+        let destroyed = (second.is_destroyed, first.is_destroyed);
+        return Ok(begin(alloc, other, one, others, ones, passed, destroyed)?);
     }
     let passed = (first.passed_over, second.passed_over);
-    Ok(begin(
-        alloc,
-        one,
-        other,
-        ones.as_slice(),
-        others.as_slice(),
-        passed,
-    )?)
+    let destroyed = (first.is_destroyed, second.is_destroyed);
+    Ok(begin(alloc, one, other, ones, others, passed, destroyed)?)
 }
 
-/// Begins a life over two files, of which the older one is known, and of which so many octets are passed over, and tells what waits.
+/// Begins a life over two files, of which the older one is known, so many octets are passed over, and a header is destroyed or not, and
+/// tells what waits.
 fn begin<D: Disk + Drop>(
     alloc: Global,
     older: RecordFile<D>,
     newer: RecordFile<D>,
-    olds: &[KeptRecord<'_>],
-    news: &[KeptRecord<'_>],
+    olds: Vec<KeptRecord<'_>>,
+    news: Vec<KeptRecord<'_>>,
     passed_over: (usize, usize),
+    destroyed: (bool, bool),
 ) -> io::Result<Opened<D>>
     ensures begun { IfOk result (λ opened. (older_items newer_items : List (List ℕ))
-        → IsSettled D.seen D.may_leave D.is_usable older.disk older.end older_items → AreReadAs older_items olds.now
-        → IsSettled D.seen D.may_leave D.is_usable newer.disk newer.end newer_items → AreReadAs newer_items news.now
-        → Keeps D.seen D.may_leave D.is_usable opened.spool olds.now (news.now ++ epoch_records (epoch_now opened.spool))) }
+        → IsSettled D.seen D.may_leave D.is_usable older.disk older.end older_items → AreReadAs older_items olds.entry.items
+        → IsSettled D.seen D.may_leave D.is_usable newer.disk newer.end newer_items → AreReadAs newer_items news.entry.items
+        → Keeps D.seen D.may_leave D.is_usable opened.spool olds.entry.items (news.entry.items ++ epoch_records (epoch_now opened.spool))) }
     ensures clean { IfOk result (λ opened. AreClean D.is_clean (files_of opened.spool) → AreClean D.is_clean (older, newer)) }
-    ensures older_epochs { IfOk result (λ opened. greatest_epoch olds.now < epoch_now opened.spool) }
-    ensures newer_epochs { IfOk result (λ opened. greatest_epoch news.now < epoch_now opened.spool) }
-    ensures pages { IfOk result (λ opened. opened.pages.items ≡ closed (waiting (olds.now ++ news.now))) }
-    ensures torn { IfOk result (λ opened. opened.torn.items ≡ torn_calls (olds.now ++ news.now)) }
-    ensures older_damaged { IfOk result (λ opened. opened.older_damaged ≡ damaged olds.now) }
-    ensures newer_damaged { IfOk result (λ opened. opened.newer_damaged ≡ damaged news.now) }
+    ensures older_epochs { IfOk result (λ opened. greatest_epoch olds.entry.items < epoch_now opened.spool) }
+    ensures newer_epochs { IfOk result (λ opened. greatest_epoch news.entry.items < epoch_now opened.spool) }
+    ensures pages { IfOk result (λ opened. opened.pages.items ≡ closed (waiting (olds.entry.items ++ news.entry.items))) }
+    ensures torn { IfOk result (λ opened. opened.torn.items ≡ torn_found destroyed.0 destroyed.1 olds.entry.items news.entry.items) }
+    ensures older_damaged { IfOk result (λ opened. opened.older_damaged ≡ damaged olds.entry.items) }
+    ensures newer_damaged { IfOk result (λ opened. opened.newer_damaged ≡ damaged news.entry.items) }
     ensures older_passed_over { IfOk result (λ opened. opened.older_passed_over ≡ passed_over.0) }
     ensures newer_passed_over { IfOk result (λ opened. opened.newer_passed_over ≡ passed_over.1) }
     ensures accepts { IfOk result (λ opened. Accepts opened.spool) }
 {
-    let pages = pages_of(alloc, olds, news)?;
-    let torn = torn_calls(alloc, olds, news)?;
-    let spool = Spool::begin(alloc, older, newer, olds, news)?;
+    let pages = pages_of(alloc, olds.as_slice(), news.as_slice())?;
+    let spool = Spool::begin(alloc, older, newer, olds.as_slice(), news.as_slice())?;
     Ok(Opened {
         spool,
         pages,
-        torn,
-        older_damaged: damaged(olds),
-        newer_damaged: damaged(news),
+        older_damaged: damaged(olds.as_slice()),
+        newer_damaged: damaged(news.as_slice()),
+        torn: torn_with(alloc, olds, news, destroyed)?,
         older_passed_over: passed_over.0,
         newer_passed_over: passed_over.1,
     })
 }
 
+/// The calls that lack a page by the records of two files, of each of which a header is destroyed or not.
+pub(crate) fn torn_with(
+    alloc: Global,
+    olds: Vec<KeptRecord<'_>>,
+    news: Vec<KeptRecord<'_>>,
+    destroyed: (bool, bool),
+) -> Result<Vec<CallName>, AllocError>
+    ensures { IfOk result (λ torn. torn.items ≡ torn_found destroyed.0 destroyed.1 olds.entry.items news.entry.items) }
+{
+    let hides_last = destroyed.1 || (destroyed.0 && first_epoch(olds.as_slice()) == 0);
+    let olds = with_destroyed(olds, destroyed.0)?;
+    let news = with_destroyed(news, hides_last)?;
+    torn_calls(alloc, olds.as_slice(), news.as_slice())
+}
+
+/// The records of a file, and a damaged one behind them where a header is destroyed there.
+fn with_destroyed(
+    records: Vec<KeptRecord<'_>>,
+    is_destroyed: bool,
+) -> Result<Vec<KeptRecord<'_>>, AllocError>
+    ensures { IfOk result (λ found. found.items ≡ with_destroyed is_destroyed records.entry.items) }
+{
+    let mut found = records;
+    if is_destroyed {
+        found.push(KeptRecord::Damaged)?;
+    }
+    Ok(found)
+}
+
 /// The pages that wait by the records of both files, in the order in which they were put.
-fn pages_of<'a>(
+pub(crate) fn pages_of<'a>(
     alloc: Global,
     olds: &[KeptRecord<'a>],
     news: &[KeptRecord<'a>],
@@ -175,7 +194,7 @@ fn has_call(pages: &[PageRecord<'_>], page: &PageRecord<'_>) -> bool
 }
 
 /// How many records are damaged.
-fn damaged(records: &[KeptRecord<'_>]) -> usize
+pub(crate) fn damaged(records: &[KeptRecord<'_>]) -> usize
     ensures { result ≡ damaged records.now }
 {
     records.iter().filter(|kept| is_damaged(kept)).count()

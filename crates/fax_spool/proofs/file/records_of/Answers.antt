@@ -1,7 +1,7 @@
 use Rattle.std.proofs.Common.{◌≡◌, ◌+◌, ◌-◌, ◌≤◌, ◌++◌, [], ◌∷◌, List, ℕ, Vec, Global, length, take, drop, map, refl, sym, ◌∙◌, ap, subst, arith, rules, length-append}
 use Rattle.std.proofs.lemmas.List.{map_push, take_at, drop_at}
 use Rattle.fax_spool.specs.Records.{AreRead, Ends}
-use Rattle.fax_spool.specs.Found.{passed_over}
+use Rattle.fax_spool.specs.Found.{is_destroyed, passed_over}
 use Rattle.fax_spool.proofs.Headers.{read_push}
 use Rattle.fax_spool.proofs.file.records_of.Goals as goal
 
@@ -45,4 +45,5 @@ returns c =
       read = subst (λ (l : List ℕ). AreRead l (map (λ (w : Vec ℕ Global). w.items) c.loop-item.items.items)) (sym (front_is octets was.0 rest end was.1 count)) was.2;
       no_more = subst (λ (l : List ℕ). Ends l) (sym (rest_is octets was.0 rest end was.1 count)) c.in_default.ensures;
       passed_over = c.passed_over.ensures ∙ ap passed_over (sym (rest_is octets was.0 rest end was.1 count));
+      destroyed = c.is_destroyed.ensures ∙ ap is_destroyed (sym (rest_is octets was.0 rest end was.1 count));
     }
