@@ -1,4 +1,5 @@
 pub mod AnswerLemmas
 pub mod FollowLemmas
+pub mod ReadingLemmas
 pub mod StopLemmas
 pub mod TickLemmas

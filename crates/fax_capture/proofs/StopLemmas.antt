@@ -12,6 +12,7 @@ Stops-more NoAddress text more s = absurd s
 Stops-more (Capture capture.NoMemory) text more s = tt
 Stops-more (Capture capture.NoCapture) text more s = absurd s
 Stops-more (Capture capture.Cut) text more s = absurd s
+Stops-more (Capture capture.Snapped) text more s = absurd s
 Stops-more (Capture capture.Damaged) text more s = absurd s
 
 pub Stops-same : (fault : ScriptFault) (text same : List ℕ) → text ≡ same → Stops fault text → Stops fault same

@@ -1,5 +1,5 @@
 -- ADDRESSES of the two machines, and what a datagram is to them. (This project's profile.)
-use Rattle.std.specs.Prelude.{◌≡◌, ℕ, ◌⊎◌, List, Option, Some, None}
+use Rattle.std.specs.Prelude.{◌≡◌, ℕ, ◌⊎◌, Bool, false, not, List, Option, Some, None}
 use Rattle.fax_pcap.specs.Frames.{EndpointValue, DatagramValue}
 use Rattle.fax_capture.specs.declared.address.Host.{Host}
 use Rattle.fax_capture.specs.declared.address.Host.TheVariants.{V4, V6}
@@ -20,6 +20,15 @@ HasPort (Some wanted) port = wanted ≡ port
 abbrev pub IsAt : Address → EndpointValue → Type 0
 IsAt address endpoint = (host_octets address.host ≡ endpoint.host) × HasPort address.port endpoint.port
 
+-- Two addresses have an endpoint in common where they have the host in common, and a port.
+abbrev pub ShareAPort : Option ℕ → Option ℕ → Type 0
+ShareAPort None port = Unit {0}
+ShareAPort (Some one) port = HasPort port one
+
+-- or none
+abbrev pub AreApart : Address → Address → Type 0
+AreApart one other = (host_octets one.host ≡ host_octets other.host) → ShareAPort one.port other.port → ⊥
+
 -- Whoever sends a datagram decides, the caller first: a capture at the gateway has what they send to the gateway.
 abbrev pub IsRole : Address → Address → DatagramValue → Role → Type 0
 IsRole caller called datagram FromCaller = IsAt caller datagram.source
@@ -28,3 +37,10 @@ IsRole caller called datagram ToEither =
     (IsAt caller datagram.source → ⊥) × (IsAt called datagram.source → ⊥) × (IsAt caller datagram.destination ⊎ IsAt called datagram.destination)
 IsRole caller called datagram Unrelated =
     (IsAt caller datagram.source → ⊥) × (IsAt called datagram.source → ⊥) × (IsAt caller datagram.destination → ⊥) × (IsAt called datagram.destination → ⊥)
+
+-- Of a datagram that one of the two sent some is lacking, where it is not whole. Of others nothing is wanted.
+abbrev pub lacks : Role → Bool → Bool
+lacks FromCaller is_whole = not is_whole
+lacks FromCalled is_whole = not is_whole
+lacks ToEither is_whole = false
+lacks Unrelated is_whole = false

@@ -1,14 +1,13 @@
 -- What `faxgate capture` answers to an input. (This project's profile.)
-use Rattle.std.specs.Prelude.{◌≡◌, ◌≢◌, ℕ, ◌<◌, ◌⊎◌, List, [], length, codes, Option, Result, Ok, Err}
+use Rattle.std.specs.Prelude.{◌≡◌, ℕ, ◌<◌, ◌⊎◌, List, length, codes, Option, Some, None, Result, Ok, Err}
 use Rattle.fax_command.specs.RowLines.{text_of_lines}
 use Rattle.fax_pcap.specs.declared.fault.CaptureFault.{CaptureFault}
 use Rattle.fax_pcap.specs.declared.fault.CaptureFault.TheVariants as capture
-use Rattle.fax_pcap.specs.Captures.{TimedDatagram, CaptureValue, Follow, capture_of, read_of_record, record_at}
-use Rattle.fax_pcap.specs.Fields.{◌>>=◌}
+use Rattle.fax_pcap.specs.Captures.{TimedDatagram, HeadValue, Follow, ReadsAs, fault_of_end, read_of, record_at, untold_head}
 use Rattle.fax_capture.specs.declared.address.Address.{Address}
 use Rattle.fax_capture.specs.declared.script_fault.ScriptFault.{ScriptFault}
 use Rattle.fax_capture.specs.declared.script_fault.ScriptFault.TheVariants.{Capture, NoAddress, TooLong}
-use Rattle.fax_capture.specs.Scripts.{Told, TellsAll, only_ring, script_lines}
+use Rattle.fax_capture.specs.Scripts.{Told, TellsAll, IsLacking, only_ring, script_lines}
 
 -- a script, or what is wrong with the input
 abbrev pub Outcome : Type 0
@@ -18,25 +17,39 @@ Outcome = Result (List ℕ) ScriptFault
 abbrev pub most_octets : ℕ
 most_octets = 16777216
 
--- So far a capture was read, record by record, and its datagrams were told.
-pub record ToldSoFar (caller called : Address) (input : List ℕ) (state : CaptureValue) (told : Told) : Type 0 where
-  pub first : CaptureValue
-  pub opened : capture_of input ≡ Ok first
+-- So far a capture was read, record by record, and its datagrams were told: what is told of the capture then, and the octets
+-- behind.
+pub record ToldSoFar (caller called : Address) (input : List ℕ) (head : HeadValue) (behind : List ℕ) (told : Told) : Type 0 where
   pub found : List (Option TimedDatagram)
-  pub follow : Follow first found state
+  pub follow : Follow untold_head input found head behind
   pub tells : TellsAll caller called only_ring found told
 
--- A capture was read to its end.
+-- A capture was read to its end, where nothing is wrong.
 pub record ToldWhole (caller called : Address) (input : List ℕ) (told : Told) : Type 0 where
-  pub state : CaptureValue
-  pub so_far : ToldSoFar caller called input state told
-  pub at_end : state.rest ≡ []
+  pub head : HeadValue
+  pub left : List ℕ
+  pub so_far : ToldSoFar caller called input head left told
+  pub at_end : fault_of_end head.kind left ≡ None
 
--- a fault of the capture is met at its head, or at the record behind those that were read
+-- some is lacking of a datagram that is read at the front of octets
+abbrev pub LacksAt : Address → Address → HeadValue → List ℕ → Type 0
+LacksAt caller called head octets = (captured : TimedDatagram) × (next : HeadValue) × (behind : List ℕ)
+    × ReadsAs (record_at head octets) (Some captured) next behind × IsLacking caller called captured
+
+-- The record at the front of octets is refused, or some of its datagram is lacking; that octets lack at the end is another fault.
+abbrev pub Refuses : Address → Address → HeadValue → List ℕ → CaptureFault → Type 0
+Refuses caller called head octets capture.Cut = ⊥
+Refuses caller called head octets capture.Snapped = (read_of (record_at head octets) ≡ Err capture.Snapped) ⊎ LacksAt caller called head octets
+Refuses caller called head octets fault = read_of (record_at head octets) ≡ Err fault
+
+-- the capture ends inside a record, or before it begins
+abbrev pub Ends : HeadValue → List ℕ → CaptureFault → Type 0
+Ends head left fault = (read_of (record_at head left) ≡ Err capture.Cut) × (fault_of_end head.kind left ≡ Some fault)
+
+-- a fault of the capture is met behind the records that were read
 abbrev pub FailsCapture : Address → Address → List ℕ → CaptureFault → Type 0
-FailsCapture caller called input fault = (capture_of input ≡ Err fault)
-    ⊎ ((state : CaptureValue) × (told : Told) × ToldSoFar caller called input state told × (state.rest ≢ [])
-    × (record_at state >>= read_of_record ≡ Err fault))
+FailsCapture caller called input fault = (head : HeadValue) × (behind : List ℕ) × (told : Told)
+    × ToldSoFar caller called input head behind told × (Refuses caller called head behind fault ⊎ Ends head behind fault)
 
 -- Memory may be wanting at any input.
 abbrev pub FailsReading : Address → Address → List ℕ → CaptureFault → Type 0
@@ -48,8 +61,8 @@ FailsReading caller called input fault = FailsCapture caller called input fault
 abbrev pub Fails : Address → Address → List ℕ → ScriptFault → Type 0
 Fails caller called input (Capture fault) = FailsReading caller called input fault
 Fails caller called input NoAddress = (told : Told) × ToldWhole caller called input told × (told.ticks ≡ 0)
-Fails caller called input TooLong =
-    (state : CaptureValue) × (told : Told) × ToldSoFar caller called input state told × (most_octets < length (text_of_lines (script_lines told)))
+Fails caller called input TooLong = (head : HeadValue) × (behind : List ℕ) × (told : Told)
+    × ToldSoFar caller called input head behind told × (most_octets < length (text_of_lines (script_lines told)))
 
 abbrev pub Allows : Address → Address → List ℕ → Outcome → Type 0
 Allows caller called input (Ok text) =
@@ -59,6 +72,7 @@ Allows caller called input (Err fault) = Fails caller called input fault
 abbrev pub capture_fault_line : CaptureFault → List ℕ
 capture_fault_line capture.NoCapture = codes "fault 1 NoCapture\n"
 capture_fault_line capture.Cut = codes "fault 2 Cut\n"
+capture_fault_line capture.Snapped = codes "fault 2 Cut\n"
 capture_fault_line capture.Damaged = codes "fault 3 Damaged\n"
 capture_fault_line capture.NoMemory = codes "fault memory\n"
 

@@ -1,16 +1,58 @@
 -- What a script that grows holds of what was told.
-use Rattle.std.specs.Prelude.{◌≡◌, ℕ, List}
+use Rattle.std.specs.Prelude.{◌≡◌, ℕ, ◌<◌, ◌≤◌, ◌^◌, ◌⊎◌, List, length, Option, None, Some, Err}
 use Rattle.fax_command.specs.RowLines.{text_of_lines}
+use Rattle.fax_pcap.specs.declared.fault.CaptureFault.TheVariants.{Cut, Snapped, NoMemory}
+use Rattle.fax_pcap.specs.Captures.{TimedDatagram, HeadValue, Follow, read_of, record_at, untold_head}
+use Rattle.fax_capture.specs.declared.address.Address.{Address}
 use Rattle.fax_capture.specs.declared.answer.Answer.{Answer}
 use Rattle.fax_capture.specs.declared.answer.Answer.TheVariants as answers
 use Rattle.fax_capture.specs.declared.script.Script.{Script}
-use Rattle.fax_capture.specs.Answers.{fault_line, fault_status}
-use Rattle.fax_capture.specs.Scripts.{Told}
+use Rattle.fax_capture.specs.declared.script_fault.ScriptFault.{ScriptFault}
+use Rattle.fax_capture.specs.declared.script_fault.ScriptFault.TheVariants.{Capture, NoAddress, TooLong}
+use Rattle.fax_capture.specs.Answers.{Refuses, fault_line, fault_status, most_octets}
+use Rattle.fax_capture.specs.Growing.{Stops}
+use Rattle.fax_capture.specs.Scripts.{IsLacking, Tells, TellsAll, Told, only_ring, script_lines}
 
 pub record Holds (script : Script) (told : Told) : Type 0 where
   pub start : script.start ≡ told.start
   pub ticks : script.ticks ≡ told.ticks
   pub text : script.text.items ≡ text_of_lines told.lines
+
+-- Records at the front of octets were read, and told: what is told of the capture then, the octets behind, and the script.
+pub record Took (caller called : Address) (old : HeadValue) (octets : List ℕ) (told : Told) (new : HeadValue) (behind : List ℕ) (script : Script) : Type 0 where
+  pub found : List (Option TimedDatagram)
+  pub next : Told
+  pub follow : Follow old octets found new behind
+  pub tells : TellsAll caller called told found next
+  pub holds : Holds script next
+
+-- and the octets behind end inside of a record
+pub record TookAll (caller called : Address) (old : HeadValue) (octets : List ℕ) (told : Told) (new : HeadValue) (left : List ℕ) (script : Script) : Type 0 where
+  pub took : Took caller called old octets told new left script
+  pub waits : read_of (record_at new left) ≡ Err Cut
+
+-- A fault is met behind records that were read and told, whatever follows these octets.
+abbrev pub BreaksAt : Address → Address → HeadValue → List ℕ → Told → ScriptFault → Type 0
+BreaksAt caller called head octets told (Capture NoMemory) = Unit {0}
+BreaksAt caller called head octets told (Capture fault) = Refuses caller called head octets fault
+BreaksAt caller called head octets told NoAddress = ⊥
+BreaksAt caller called head octets told TooLong = most_octets < length (text_of_lines (script_lines told))
+
+abbrev pub Breaks : Address → Address → HeadValue → List ℕ → Told → ScriptFault → Type 0
+Breaks caller called old octets told fault = (found : List (Option TimedDatagram)) × (head : HeadValue) × (behind : List ℕ) × (next : Told)
+    × Follow old octets found head behind × TellsAll caller called told found next × BreaksAt caller called head behind next fault
+
+-- a datagram is not told: some of it is lacking, or with it the text stops to grow
+abbrev pub Untold : Address → Address → Told → Option TimedDatagram → ScriptFault → Type 0
+Untold caller called told None fault = ⊥
+Untold caller called told (Some captured) fault = (IsLacking caller called captured × (fault ≡ Capture Snapped))
+    ⊎ ((next : Told) × Tells caller called told captured next × Stops fault (text_of_lines next.lines))
+
+-- All whole records of what was read of a capture were told: what is told of the capture, the script, and the octets that are left.
+pub record HasRead (caller called : Address) (read : List ℕ) (head : HeadValue) (script : Script) (left : List ℕ) : Type 0 where
+  pub few : script.ticks ≤ 2 ^ 103
+  pub took : Took caller called untold_head read only_ring head left script
+  pub waits : read_of (record_at head left) ≡ Err Cut
 
 -- the text and the exit status of a script, or of what is wrong
 abbrev pub text_of_answer : Answer → List ℕ

@@ -1,11 +1,11 @@
 -- SCRIPTS: what a capture's datagrams tell, as `faxgate trace` reads it. (This project's profile.)
-use Rattle.std.specs.Prelude.{◌≡◌, ℕ, zero, suc, ◌+◌, ◌-◌, ◌*◌, ◌/◌, max, List, [], ◌∷◌, ◌++◌, codes, decimal, Option, Some, None}
+use Rattle.std.specs.Prelude.{◌≡◌, ℕ, true, false, zero, suc, ◌+◌, ◌-◌, ◌*◌, ◌/◌, max, List, [], ◌∷◌, ◌++◌, codes, decimal, Option, Some, None}
 use Rattle.hex.specs.Hex.{encode_lower}
 use Rattle.fax_pcap.specs.Captures.{TimedDatagram}
 use Rattle.fax_capture.specs.declared.address.Address.{Address}
 use Rattle.fax_capture.specs.declared.address.Role.{Role}
 use Rattle.fax_capture.specs.declared.address.Role.TheVariants.{FromCaller, FromCalled, ToEither, Unrelated}
-use Rattle.fax_capture.specs.Addresses.{IsRole}
+use Rattle.fax_capture.specs.Addresses.{IsRole, lacks}
 
 -- tick k is the moment 40 k, in milliseconds
 abbrev pub tick_line : ℕ → List ℕ
@@ -62,7 +62,12 @@ told_of told captured Unrelated = told
 told_of told captured role = told_with told captured.time role captured.datagram.octets
 
 abbrev pub Tells : Address → Address → Told → TimedDatagram → Told → Type 0
-Tells caller called old captured new = (role : Role) × IsRole caller called captured.datagram role × (new ≡ told_of old captured role)
+Tells caller called old captured new = (role : Role) × IsRole caller called captured.datagram role
+    × (lacks role captured.datagram.is_whole ≡ false) × (new ≡ told_of old captured role)
+
+-- some is lacking of a datagram that one of the two sent, so that it is not told
+abbrev pub IsLacking : Address → Address → TimedDatagram → Type 0
+IsLacking caller called captured = (role : Role) × IsRole caller called captured.datagram role × (lacks role captured.datagram.is_whole ≡ true)
 
 -- what was found in the records of a capture, one by one
 abbrev pub TellsFound : Address → Address → Told → Option TimedDatagram → Told → Type 0

@@ -1,6 +1,6 @@
 //! The addresses of the two machines of a call.
 ghost use Rattle.std.specs.Prelude.{◌≡◌, ◌↔◌, IsTrue};
-ghost use Rattle.fax_capture.specs.Addresses.{HasPort, IsAt, IsRole, host_octets};
+ghost use Rattle.fax_capture.specs.Addresses.{AreApart, HasPort, IsAt, IsRole, ShareAPort, host_octets};
 
 use fax_pcap::{Datagram, Endpoint};
 
@@ -19,6 +19,33 @@ pub struct Address {
 }
 
 impl Address {
+    /// Whether no endpoint is at both addresses.
+    pub fn is_apart_from(&self, other: &Address) -> bool
+        ensures { IsTrue result ↔ AreApart self.now other.now }
+    {
+        !self.has_host(other.octets()) || !self.shares_a_port(other.port)
+    }
+
+    /// The octets of the host's address.
+    fn octets(&self) -> &[u8]
+        ensures { result.now ≡ host_octets self.now.host }
+    {
+        match &self.host {
+            Host::V4(host) => host.as_slice(),
+            Host::V6(host) => host.as_slice(),
+        }
+    }
+
+    /// Whether both mean a port.
+    fn shares_a_port(&self, port: Option<u16>) -> bool
+        ensures { IsTrue result ↔ ShareAPort self.now.port port }
+    {
+        match (self.port, port) {
+            (Some(one), Some(other)) => one == other,
+            _ => true,
+        }
+    }
+
     /// Whether this is where an endpoint is.
     fn is_at(&self, endpoint: &Endpoint<'_>) -> bool
         ensures { IsTrue result ↔ IsAt self.now endpoint.now }
@@ -30,10 +57,7 @@ impl Address {
     fn has_host(&self, octets: &[u8]) -> bool
         ensures { IsTrue result ↔ (host_octets self.now.host ≡ octets.now) }
     {
-        match &self.host {
-            Host::V4(host) => host.as_slice() == octets,
-            Host::V6(host) => host.as_slice() == octets,
-        }
+        self.octets() == octets
     }
 
     /// Whether this port is meant.

@@ -1,16 +1,16 @@
 //! What is answered to a capture.
-ghost use Rattle.std.specs.Prelude.{◌≡◌, false, IfOk, IfErr, OnOk, Ok, Err};
+ghost use Rattle.std.specs.Prelude.{◌≡◌, ◌≢◌, ◌⊎◌, true, false, IfSome, OnOk, None};
 ghost use Rattle.std.specs.Io.KnownBytes.{Appends};
 ghost use Rattle.fax_command.specs.Statuses.{status_code};
-ghost use Rattle.fax_command.specs.Streams.{failed_after_write};
-ghost use Rattle.fax_capture.specs.Answers.{Allows, Answers};
+ghost use Rattle.fax_command.specs.Streams.{failed_after_write, greatest_count};
+ghost use Rattle.fax_capture.specs.Answers.{Answers};
 ghost use Rattle.fax_capture.specs.Kept.{status_of_answer, text_of_answer};
 
-use crate::address::{Address, role_of};
-use crate::script::Script;
+use crate::address::Address;
+use crate::reading::script_of;
+use crate::reading_fault::ReadingFault;
 use crate::script_fault::ScriptFault;
-use fax_command::{Sink, Status, WriteFault, write_text};
-use fax_pcap::Capture;
+use fax_command::{Sink, Source, Status, WriteFault, write_text};
 use std::alloc::Global;
 
 /// A script, or what is wrong.
@@ -44,36 +44,21 @@ impl Answer {
     }
 }
 
-/// The answer to a capture, for the addresses of the caller and the called machine.
-pub(crate) fn answer_to(alloc: Global, caller: &Address, called: &Address, octets: &[u8]) -> Answer
-    ensures { Answers caller.now called.now octets.now (status_of_answer result) (text_of_answer result) }
-{
-    match script_of(alloc, caller, called, octets) {
-        Ok(text) => Answer::Script(text),
-        Err(fault) => Answer::Fault(fault),
-    }
-}
-
-/// The script of a capture, for the addresses of the caller and the called machine, or why there is none.
-fn script_of(
+/// The answer to the capture that a source gives, for the addresses of the caller and the called machine; None where a read
+/// failed.
+pub(crate) fn answer_to<I: Source>(
     alloc: Global,
+    source: &mut I,
     caller: &Address,
     called: &Address,
-    octets: &[u8],
-) -> Result<Vec<u8>, ScriptFault>
-    ensures ok { IfOk result (λ text. Allows caller.now called.now octets.now (Ok text.items)) }
-    ensures err { IfErr result (λ e. Allows caller.now called.now octets.now (Err e)) }
+) -> Option<Answer>
+    ensures answers { IfSome result (λ answer. IfSome (I.remaining source.old) (λ input. Answers caller.now called.now input (status_of_answer answer) (text_of_answer answer))) }
+    ensures failed { result ≡ None → I.reads source.old ≡ 0 → (I.failed source.new ≡ true) ⊎ (I.reads source.new ≡ greatest_count) }
+    ensures unfailed { result ≢ None → I.failed source.new ≡ I.failed source.old }
 {
-    let mut capture = Capture::open(alloc, octets)?;
-    let mut script = Script::new(alloc)?;
-    while !capture.is_at_end() {
-        if let Some(captured) = capture.read_record()? {
-            let role = role_of(caller, called, captured.datagram());
-            script.tell(alloc, &captured, role)?;
-        }
+    match script_of(alloc, source, caller, called) {
+        Ok(text) => Some(Answer::Script(text)),
+        Err(ReadingFault::Script(fault)) => Some(Answer::Fault(fault)),
+        Err(ReadingFault::Stream) => None,
     }
-    if script.is_empty() {
-        return Err(ScriptFault::NoAddress);
-    }
-    script.finish(alloc)
 }

@@ -3,6 +3,8 @@
 
 mod address;
 mod answer;
+mod reading;
+mod reading_fault;
 mod run;
 mod script;
 mod script_fault;

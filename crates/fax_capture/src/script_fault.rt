@@ -47,7 +47,7 @@ fn line_of_capture_fault(fault: CaptureFault) -> &'static [u8]
 {
     match fault {
         CaptureFault::NoCapture => b"fault 1 NoCapture\n",
-        CaptureFault::Cut => b"fault 2 Cut\n",
+        CaptureFault::Cut | CaptureFault::Snapped => b"fault 2 Cut\n",
         CaptureFault::Damaged => b"fault 3 Damaged\n",
         CaptureFault::NoMemory => MEMORY_LINE,
     }

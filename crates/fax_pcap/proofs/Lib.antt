@@ -1,1 +1,2 @@
-pub mod ResolutionLemmas
+pub mod PieceLemmas
+pub mod TimesLemmas

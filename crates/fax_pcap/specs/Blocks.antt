@@ -1,6 +1,10 @@
--- What a block shows.
+-- What a block and an option show.
+use Rattle.fax_pcap.specs.declared.interface.InterfaceOption.{InterfaceOption}
 use Rattle.fax_pcap.specs.declared.pcapng.Block.{Block}
-use Rattle.fax_pcap.specs.Captures.{BlockValue}
+use Rattle.fax_pcap.specs.Captures.{BlockValue, OptionValue}
 
 abbrev pub block_shown : Block → BlockValue
 block_shown block = record { kind = block.kind; body = block.body.now }
+
+abbrev pub option_shown : InterfaceOption → OptionValue
+option_shown option = record { code = option.code; value = option.value.now; behind = option.behind.now }

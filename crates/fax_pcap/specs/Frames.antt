@@ -1,43 +1,52 @@
 -- FRAMES: where a UDP datagram stands in what was captured of a link. (IEEE 802.3 and 802.1Q; LINKTYPE_LINUX_SLL and
--- LINKTYPE_LINUX_SLL2 of the registry of link types; RFC 791, RFC 8200, RFC 768. Fragments, and headers of extension, are
+-- LINKTYPE_LINUX_SLL2, LINKTYPE_NULL and
+-- LINKTYPE_LOOP of the registry of link types; RFC 791, RFC 8200, RFC 768. Fragments, and headers of extension, are
 -- not read: this project's profile.)
-use Rattle.std.specs.Prelude.{ℕ, ◌-◌, ◌*◌, ◌/◌, ◌%◌, ◌==◌, ◌&&◌, ◌||◌, not, nat_lt, Bool, List, take, drop, length, slice_index, Result, Ok, Err, if◌then◌else◌}
-use Rattle.fax_pcap.specs.declared.fields.ByteOrder.TheVariants.{Big}
+use Rattle.std.specs.Prelude.{ℕ, min, ◌-◌, ◌*◌, ◌/◌, ◌%◌, ◌==◌, ◌&&◌, ◌||◌, not, nat_lt, Bool, List, take, drop, length, slice_index, Result, Ok, Err, if◌then◌else◌}
+use Rattle.fax_pcap.specs.declared.fields.ByteOrder.TheVariants.{Big, Little}
 use Rattle.fax_pcap.specs.declared.link.LinkType.{LinkType}
-use Rattle.fax_pcap.specs.declared.link.LinkType.TheVariants.{Ethernet, LinuxCooked, LinuxCooked2, RawIp, Unread}
+use Rattle.fax_pcap.specs.declared.link.LinkType.TheVariants.{Ethernet, LinuxCooked, LinuxCooked2, Loopback, RawIp, Unread}
 use Rattle.fax_pcap.specs.declared.frame.FrameFault.{FrameFault}
 use Rattle.fax_pcap.specs.declared.frame.FrameFault.TheVariants.{Other, Short}
-use Rattle.fax_pcap.specs.Fields.{◌>>=◌, front_of, number_16}
+use Rattle.fax_pcap.specs.Fields.{◌>>=◌, front_of, number_16, number_32}
 
 -- a host, by the 4 octets of its address of IPv4 or the 16 of IPv6, and a port
 pub record EndpointValue : Type 0 where
   pub host : List ℕ
   pub port : ℕ
 
--- a UDP datagram: who sent it, to whom, and its data
+-- a UDP datagram: who sent it, to whom, whether all of its data is there, and what is there of it
 pub record DatagramValue : Type 0 where
   pub source : EndpointValue
   pub destination : EndpointValue
+  pub is_whole : Bool
   pub octets : List ℕ
 
--- A datagram; or traffic of another kind; or the octets end inside of a header or a datagram.
+-- A datagram; or traffic of another kind; or the octets end inside of a header.
 abbrev pub FrameRead : Type 0
 FrameRead = Result DatagramValue FrameFault
 
--- the numbers of link types that are read: LINKTYPE_ETHERNET, _LINUX_SLL, _LINUX_SLL2, and _RAW, _IPV4 and _IPV6
+-- the numbers of link types that are read: LINKTYPE_ETHERNET, _LINUX_SLL, _LINUX_SLL2, _NULL and _LOOP, and _RAW, _IPV4 and
+-- _IPV6; 12 and 14 are what some systems have for _RAW
 unfoldable pub link_of : ℕ → LinkType
 link_of number =
     if number == 1 then Ethernet
     else if number == 113 then LinuxCooked
     else if number == 276 then LinuxCooked2
-    else if number == 101 || (number == 228 || number == 229) then RawIp
+    else if number == 0 || number == 108 then Loopback
+    else if number == 12 || (number == 14 || (number == 101 || (number == 228 || number == 229))) then RawIp
     else Unread
 
 -- the data of UDP: its length counts the eight octets of the header too
 unfoldable pub data_at : EndpointValue → EndpointValue → ℕ → List ℕ → FrameRead
 data_at source destination count octets =
     if nat_lt count 8 then Err Other
-    else (front_of Short (count - 8) octets >>= λ parts. Ok (record { source = source; destination = destination; octets = parts.0 }))
+    else Ok (record {
+      source = source;
+      destination = destination;
+      is_whole = not (nat_lt (length octets) (count - 8));
+      octets = take (count - 8) octets;
+    })
 
 -- UDP (RFC 768): the ports of both sides, the length and a checksum, which is not read
 unfoldable pub udp_at : List ℕ → List ℕ → List ℕ → FrameRead
@@ -93,9 +102,22 @@ protocol_at protocol octets = do
 unfoldable pub behind_header : ℕ → ℕ → List ℕ → FrameRead
 behind_header count place octets = front_of Short count octets >>= λ parts. protocol_at (number_16 Big parts.0 place) parts.1
 
+-- the families of addresses of loopback interfaces: 2 is IPv4; 24, 28 and 30 are IPv6
+unfoldable pub family_at : ℕ → List ℕ → FrameRead
+family_at family octets =
+    if family == 2 then ip_4_at octets
+    else if family == 24 || (family == 28 || family == 30) then ip_6_at octets
+    else Err Other
+
+-- the header of a loopback interface: a family in 32 bits, in the byte order of the host that captured, whichever it was, so
+-- that it is the smaller of both numbers
+unfoldable pub loopback_at : List ℕ → FrameRead
+loopback_at octets = front_of Short 4 octets >>= λ parts. family_at (min (number_32 Big parts.0 0) (number_32 Little parts.0 0)) parts.1
+
 unfoldable pub frame_at : LinkType → List ℕ → FrameRead
 frame_at Ethernet octets = behind_header 14 12 octets
 frame_at LinuxCooked octets = behind_header 16 14 octets
 frame_at LinuxCooked2 octets = behind_header 20 0 octets
+frame_at Loopback octets = loopback_at octets
 frame_at RawIp octets = ip_at octets
 frame_at Unread octets = Err Other

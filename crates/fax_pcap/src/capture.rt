@@ -1,16 +1,15 @@
-//! A capture, read record by record.
-ghost use Rattle.std.specs.Prelude.{◌≡◌, ◌<◌, [], IfOk, IfErr, OnOk, OnErr, IsTrue, ◌↔◌, length};
+//! A capture, read record by record, as its octets come.
+ghost use Rattle.std.specs.Prelude.{◌≡◌, ◌≢◌, ◌<◌, IfOk, IfErr, IfSome, OnErr, length};
 ghost use Rattle.fax_pcap.specs.Blocks.{block_shown};
-ghost use Rattle.fax_pcap.specs.Captures.{FailsAs, ReadsAs, block_record, capture_of, pcap_of, pcapng_record_at, record_at};
-ghost use Rattle.fax_pcap.specs.Fields.{Gives};
+ghost use Rattle.fax_pcap.specs.Captures.{FailsAs, FailsBlock, ReadsAs, ReadsBlock, block_record, fault_of_end, head_record, packet_record, pcap_record, pcapng_record, read_of, record_at, section_record, untold_head};
 
 use crate::fault::CaptureFault;
 use crate::fields::{ByteOrder, read_16, read_32, split_front};
 use crate::interface::{Interface, read_interface};
 use crate::link::LinkType;
-use crate::packet::{Captured, Packet, read_packet};
+use crate::packet::{Captured, read_packet};
 use crate::pcap::{PcapFile, read_pcap_packet, unit_of};
-use crate::pcapng::{Block, read_block, read_enhanced, read_section, read_simple};
+use crate::pcapng::{Block, read_block, read_enhanced, read_old_packet, read_section, read_simple};
 use std::alloc::Global;
 use std::marker::Model;
 
@@ -20,6 +19,8 @@ const SECTION: u32 = 0x0a0d_0d0a;
 /// The types of the blocks that are read.
 const INTERFACE: u32 = 1;
 
+const OLD_PACKET: u32 = 2;
+
 const SIMPLE_PACKET: u32 = 3;
 
 const ENHANCED_PACKET: u32 = 6;
@@ -27,110 +28,223 @@ const ENHANCED_PACKET: u32 = 6;
 /// The form of a file.
 #[derive(Clone, Copy, PartialEq, Eq, Debug)]
 pub(crate) enum FileKind {
+    /// Its head was not read.
+    Unopened,
     Pcap(PcapFile),
     Pcapng,
 }
 
-/// A capture, of which some records were read.
+/// What was told of a capture by the records that were read. Who reads keeps the octets: a record is read once they are all
+/// there, so that a capture may have any size, and be cut into pieces in any way.
 #[derive(Drop)]
-pub struct Capture<'a> {
+pub struct Capture {
     kind: FileKind,
     /// The byte order and the interfaces of the section that is read.
     order: ByteOrder,
     interfaces: Vec<Interface>,
-    rest: &'a [u8],
 }
 
-impl<'a> Model for Capture<'a> {
-    ghost use Rattle.fax_pcap.specs.Captures.{CaptureValue};
+impl Model for Capture {
+    ghost use Rattle.fax_pcap.specs.Captures.{HeadValue};
 
-    ghost Value = { CaptureValue };
+    ghost Value = { HeadValue };
 
-    ghost view = { λ c. record { kind = c.kind; order = c.order; interfaces = c.interfaces.items; rest = c.rest.now } };
+    ghost view = { λ c. record { kind = c.kind; order = c.order; interfaces = c.interfaces.items } };
 }
 
-impl<'a> Capture<'a> {
-    /// The capture that octets begin: pcap in either byte order, with microseconds or nanoseconds, or pcapng. It takes no
-    /// memory. `NoCapture` says that they begin as neither does, and `Cut` that they end inside the head.
-    #[tactic(auto, unfolding(crate::specs::Captures::capture_of, crate::specs::Fields::front_of))]
-    pub fn open(alloc: Global, octets: &'a [u8]) -> Result<Self, CaptureFault>
-        ensures { Gives (λ c. c) result (capture_of octets.now) }
+/// A record that was read: the datagram that it has, where it has one; and the octets behind it.
+#[derive(Drop)]
+pub struct RecordRead<'a> {
+    pub found: Option<Captured<'a>>,
+    pub behind: &'a [u8],
+}
+
+impl Capture {
+    /// A capture of which nothing was read. It takes no memory.
+    pub fn new(alloc: Global) -> Self
+        ensures { result ≡ untold_head }
     {
-        let (magic, _) = split_front(CaptureFault::NoCapture, 4, octets)?;
+        Capture {
+            kind: FileKind::Unopened,
+            order: ByteOrder::Big,
+            interfaces: Vec::new(alloc),
+        }
+    }
+
+    /// Reads the record at the front of octets that follow those that were read: the head of pcap in either byte order, with
+    /// microseconds or nanoseconds, or of pcapng; a packet; a block. `None` says that the octets end inside the record: with
+    /// more of them it is read. It and an `Err` change nothing: `NoCapture` says that the octets begin as no capture does,
+    /// `Snapped` that a packet was captured up to a place inside its headers, and `Damaged` that a record contradicts itself or
+    /// has more than 16,777,216 octets. It takes memory for what pcapng describes of an interface.
+    pub fn read_record<'a>(
+        &mut self,
+        octets: &'a [u8],
+    ) -> Result<Option<RecordRead<'a>>, CaptureFault>
+        ensures ok { IfOk result (λ read. IfSome read (λ r. ReadsAs (record_at self.old octets.now) r.found self.new r.behind.now)) }
+        ensures more { IfOk result (λ read. read ≡ None → read_of (record_at self.old octets.now) ≡ Err CaptureFault.Cut) }
+        ensures unread { IfOk result (λ read. read ≡ None → self.new ≡ self.old) }
+        ensures err { IfErr result (λ e. FailsAs (record_at self.old octets.now) e) }
+        ensures uncut { result ≢ Err CaptureFault.Cut }
+        ensures same { OnErr result (self.new ≡ self.old) }
+        ensures shorter { IfOk result (λ read. IfSome read (λ r. length r.behind.now < length octets.now)) }
+    {
+        match self.read_whole(octets) {
+            Ok(read) => Ok(Some(read)),
+            Err(CaptureFault::Cut) => Ok(None),
+            Err(fault) => Err(fault),
+        }
+    }
+
+    /// What is wrong where the capture ends with these octets, inside a record, or before its head; None behind a record.
+    #[tactic(auto, unfolding(crate::specs::Captures::fault_of_end))]
+    pub fn fault_at_end(&self, left: &[u8]) -> Option<CaptureFault>
+        ensures { result ≡ fault_of_end self.now.kind left.now }
+    {
+        match self.kind {
+            FileKind::Unopened if left.len() < 4 => Some(CaptureFault::NoCapture),
+            FileKind::Unopened => Some(CaptureFault::Cut),
+            FileKind::Pcap(_) | FileKind::Pcapng => {
+                if left.is_empty() {
+                    None
+                } else {
+                    Some(CaptureFault::Cut)
+                }
+            }
+        }
+    }
+
+    /// Reads the record at the front of octets. `Cut` says that they end inside it.
+    #[tactic(auto, unfolding(crate::specs::Captures::record_of_kind))]
+    fn read_whole<'a>(&mut self, octets: &'a [u8]) -> Result<RecordRead<'a>, CaptureFault>
+        ensures ok { IfOk result (λ r. ReadsAs (record_at self.old octets.now) r.found self.new r.behind.now) }
+        ensures err { IfErr result (λ e. FailsAs (record_at self.old octets.now) e) }
+        ensures same { OnErr result (self.new ≡ self.old) }
+        ensures shorter { IfOk result (λ r. length r.behind.now < length octets.now) }
+    {
+        match self.kind {
+            FileKind::Unopened => self.read_head(octets),
+            FileKind::Pcap(file) => self.read_packet_of(file, octets),
+            FileKind::Pcapng => self.read_pcapng(octets),
+        }
+    }
+
+    /// Reads a packet of a pcap file.
+    #[tactic(auto, unfolding(crate::specs::Captures::packet_record, crate::specs::Captures::read_of, crate::specs::Captures::read_of_record))]
+    fn read_packet_of<'a>(
+        &mut self,
+        file: PcapFile,
+        octets: &'a [u8],
+    ) -> Result<RecordRead<'a>, CaptureFault>
+        ensures ok { IfOk result (λ r. ReadsAs (packet_record self.old file octets.now) r.found self.new r.behind.now) }
+        ensures err { IfErr result (λ e. FailsAs (packet_record self.old file octets.now) e) }
+        ensures same { self.new ≡ self.old }
+        ensures shorter { IfOk result (λ r. length r.behind.now < length octets.now) }
+    {
+        let (packet, behind) = read_pcap_packet(file, octets)?;
+        Ok(RecordRead {
+            found: read_packet(&packet)?,
+            behind,
+        })
+    }
+
+    /// Reads the head of a file.
+    #[tactic(auto, unfolding(crate::specs::Captures::head_record, crate::specs::Captures::read_of, crate::specs::Fields::front_of))]
+    fn read_head<'a>(&mut self, octets: &'a [u8]) -> Result<RecordRead<'a>, CaptureFault>
+        ensures ok { IfOk result (λ r. ReadsAs (head_record octets.now) r.found self.new r.behind.now) }
+        ensures err { IfErr result (λ e. FailsAs (head_record octets.now) e) }
+        ensures same { OnErr result (self.new ≡ self.old) }
+        ensures shorter { IfOk result (λ r. length r.behind.now < length octets.now) }
+    {
+        let (magic, _) = split_front(CaptureFault::Cut, 4, octets)?;
         let number = read_32(ByteOrder::Big, magic, 0);
         if number == SECTION {
-            return Ok(Capture {
-                kind: FileKind::Pcapng,
-                order: ByteOrder::Big,
-                interfaces: Vec::new(alloc),
-                rest: octets,
-            });
+            return self.begin_section(octets);
         }
         if let Some(unit) = unit_of(number) {
-            return open_pcap(alloc, ByteOrder::Big, unit, octets);
+            return self.open_pcap(ByteOrder::Big, unit, octets);
         }
         match unit_of(read_32(ByteOrder::Little, magic, 0)) {
-            Some(unit) => open_pcap(alloc, ByteOrder::Little, unit, octets),
+            Some(unit) => self.open_pcap(ByteOrder::Little, unit, octets),
             None => Err(CaptureFault::NoCapture),
         }
     }
 
-    /// Whether all records were read.
-    pub fn is_at_end(&self) -> bool
-        ensures { IsTrue result ↔ (self.now.rest ≡ []) }
+    /// Reads the head of a section of pcapng, in which no interface is described so far.
+    #[tactic(auto, unfolding(crate::specs::Captures::section_record, crate::specs::Captures::read_of, crate::specs::Captures::read_of_record))]
+    fn begin_section<'a>(&mut self, octets: &'a [u8]) -> Result<RecordRead<'a>, CaptureFault>
+        ensures ok { IfOk result (λ r. ReadsAs (section_record octets.now) r.found self.new r.behind.now) }
+        ensures err { IfErr result (λ e. FailsAs (section_record octets.now) e) }
+        ensures same { OnErr result (self.new ≡ self.old) }
+        ensures shorter { IfOk result (λ r. length r.behind.now < length octets.now) }
     {
-        self.rest.is_empty()
+        let (order, behind) = read_section(octets)?;
+        self.kind = FileKind::Pcapng;
+        self.order = order;
+        self.interfaces.clear();
+        Ok(RecordRead {
+            found: None,
+            behind,
+        })
     }
 
-    /// Reads a record, and answers the datagram that it has, where it has one. An `Err` changes nothing: `Cut` says that the
-    /// octets end inside the record, or that the datagram was not captured whole, and `Damaged` that a record of pcapng
-    /// contradicts itself.
-    #[tactic(auto, unfolding(crate::specs::Captures::record_of_kind, crate::specs::Captures::read_of_record))]
-    pub fn read_record(&mut self) -> Result<Option<Captured<'a>>, CaptureFault>
-        ensures ok { IfOk result (λ found. ReadsAs (record_at self.old) found self.new) }
-        ensures err { IfErr result (λ e. FailsAs (record_at self.old) e) }
+    /// Reads the head of a pcap file, whose magic number told its byte order and the unit of fractions of a second.
+    #[tactic(auto, unfolding(crate::specs::Captures::pcap_record, crate::specs::Captures::pcap_of, crate::specs::Captures::read_of, crate::specs::Captures::read_of_record, crate::specs::Fields::front_of))]
+    fn open_pcap<'a>(
+        &mut self,
+        order: ByteOrder,
+        unit: u16,
+        octets: &'a [u8],
+    ) -> Result<RecordRead<'a>, CaptureFault>
+        ensures ok { IfOk result (λ r. ReadsAs (pcap_record order unit octets.now) r.found self.new r.behind.now) }
+        ensures err { IfErr result (λ e. FailsAs (pcap_record order unit octets.now) e) }
         ensures same { OnErr result (self.new ≡ self.old) }
-        ensures shorter { OnOk result (length self.new.rest < length self.old.rest) }
+        ensures shorter { IfOk result (λ r. length r.behind.now < length octets.now) }
     {
-        match self.kind {
-            FileKind::Pcap(file) => {
-                let (packet, behind) = read_pcap_packet(file, self.rest)?;
-                let found = read_packet(&packet)?;
-                self.rest = behind;
-                Ok(found)
-            }
-            FileKind::Pcapng => self.read_pcapng(),
+        let (head, behind) = split_front(CaptureFault::Cut, 24, octets)?;
+        if read_16(order, head, 4) != 2 || read_16(order, head, 6) != 4 {
+            return Err(CaptureFault::NoCapture);
         }
+        // The link type has the low 16 bits of its field.
+        let link = (read_32(order, head, 20) % 65_536) as u16;
+        self.kind = FileKind::Pcap(PcapFile {
+            order,
+            link: LinkType::from_number(link),
+            unit,
+        });
+        self.order = order;
+        self.interfaces.clear();
+        Ok(RecordRead {
+            found: None,
+            behind,
+        })
     }
 
     /// Reads a record of pcapng: the head of a section, or a block of the section.
-    #[tactic(auto, unfolding(crate::specs::Captures::pcapng_record_at, crate::specs::Captures::read_of_record, crate::specs::Fields::front_of))]
-    fn read_pcapng(&mut self) -> Result<Option<Captured<'a>>, CaptureFault>
-        ensures ok { IfOk result (λ found. ReadsAs (pcapng_record_at self.old) found self.new) }
-        ensures err { IfErr result (λ e. FailsAs (pcapng_record_at self.old) e) }
+    #[tactic(auto, unfolding(crate::specs::Captures::pcapng_record, crate::specs::Captures::read_of, crate::specs::Fields::front_of))]
+    fn read_pcapng<'a>(&mut self, octets: &'a [u8]) -> Result<RecordRead<'a>, CaptureFault>
+        ensures ok { IfOk result (λ r. ReadsAs (pcapng_record self.old octets.now) r.found self.new r.behind.now) }
+        ensures err { IfErr result (λ e. FailsAs (pcapng_record self.old octets.now) e) }
         ensures same { OnErr result (self.new ≡ self.old) }
-        ensures shorter { OnOk result (length self.new.rest < length self.old.rest) }
+        ensures shorter { IfOk result (λ r. length r.behind.now < length octets.now) }
     {
-        let (kind, _) = split_front(CaptureFault::Cut, 4, self.rest)?;
+        let (kind, _) = split_front(CaptureFault::Cut, 4, octets)?;
         if read_32(ByteOrder::Big, kind, 0) == SECTION {
-            let (order, behind) = read_section(self.rest)?;
-            self.order = order;
-            self.interfaces.clear();
-            self.rest = behind;
-            return Ok(None);
+            return self.begin_section(octets);
         }
-        let block = read_block(self.order, self.rest)?;
-        self.take_block(&block)
+        let block = read_block(self.order, octets)?;
+        let found = self.take_block(&block)?;
+        Ok(RecordRead {
+            found,
+            behind: block.behind,
+        })
     }
 
     /// Takes a block of the section: that of an interface, or one of a packet, or one that is passed over.
     #[tactic(auto, unfolding(crate::specs::Captures::block_record, crate::specs::Captures::read_of_record))]
-    fn take_block(&mut self, block: &Block<'a>) -> Result<Option<Captured<'a>>, CaptureFault>
-        requires { length block.now.behind.now < length self.old.rest }
-        ensures ok { IfOk result (λ found. ReadsAs (block_record self.old (block_shown block.now) block.now.behind.now) found self.new) }
-        ensures err { IfErr result (λ e. FailsAs (block_record self.old (block_shown block.now) block.now.behind.now) e) }
+    fn take_block<'a>(&mut self, block: &Block<'a>) -> Result<Option<Captured<'a>>, CaptureFault>
+        ensures ok { IfOk result (λ found. ReadsBlock (block_record self.old (block_shown block.now)) found self.new) }
+        ensures err { IfErr result (λ e. FailsBlock (block_record self.old (block_shown block.now)) e) }
         ensures same { OnErr result (self.new ≡ self.old) }
-        ensures shorter { OnOk result (length self.new.rest < length self.old.rest) }
     {
         let found = match block.kind {
             INTERFACE => {
@@ -139,6 +253,10 @@ impl<'a> Capture<'a> {
                     return Err(CaptureFault::NoMemory);
                 }
                 None
+            }
+            OLD_PACKET => {
+                let packet = read_old_packet(self.order, self.interfaces.as_slice(), block.body)?;
+                read_packet(&packet)?
             }
             SIMPLE_PACKET => {
                 let packet = read_simple(self.order, self.interfaces.as_slice(), block.body)?;
@@ -150,35 +268,6 @@ impl<'a> Capture<'a> {
             }
             _ => None,
         };
-        self.rest = block.behind;
         Ok(found)
     }
-}
-
-/// The capture of a pcap file, whose magic number told its byte order and the unit of fractions of a second.
-#[tactic(auto, unfolding(crate::specs::Captures::pcap_of, crate::specs::Fields::front_of))]
-fn open_pcap(
-    alloc: Global,
-    order: ByteOrder,
-    unit: u16,
-    octets: &[u8],
-) -> Result<Capture<'_>, CaptureFault>
-    ensures { Gives (λ c. c) result (pcap_of order unit octets.now) }
-{
-    let (head, rest) = split_front(CaptureFault::Cut, 24, octets)?;
-    if read_16(order, head, 4) != 2 || read_16(order, head, 6) != 4 {
-        return Err(CaptureFault::NoCapture);
-    }
-    // The link type has the low 16 bits of its field.
-    let link = (read_32(order, head, 20) % 65_536) as u16;
-    Ok(Capture {
-        kind: FileKind::Pcap(PcapFile {
-            order,
-            link: LinkType::from_number(link),
-            unit,
-        }),
-        order,
-        interfaces: Vec::new(alloc),
-        rest,
-    })
 }

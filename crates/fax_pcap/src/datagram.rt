@@ -34,11 +34,12 @@ impl<'a> Endpoint<'a> {
     }
 }
 
-/// A UDP datagram.
+/// A UDP datagram, or what was captured of one.
 #[derive(Drop)]
 pub struct Datagram<'a> {
     pub(crate) source: Endpoint<'a>,
     pub(crate) destination: Endpoint<'a>,
+    pub(crate) is_whole: bool,
     pub(crate) octets: &'a [u8],
 }
 
@@ -47,7 +48,7 @@ impl<'a> Model for Datagram<'a> {
 
     ghost Value = { DatagramValue };
 
-    ghost view = { λ d. record { source = d.source; destination = d.destination; octets = d.octets.now } };
+    ghost view = { λ d. record { source = d.source; destination = d.destination; is_whole = d.is_whole; octets = d.octets.now } };
 }
 
 impl<'a> Datagram<'a> {
@@ -65,7 +66,14 @@ impl<'a> Datagram<'a> {
         &self.destination
     }
 
-    /// Its data.
+    /// Whether all of its data was captured.
+    pub fn is_whole(&self) -> bool
+        ensures { result ≡ self.now.is_whole }
+    {
+        self.is_whole
+    }
+
+    /// Its data, as far as it was captured.
     pub fn octets(&self) -> &'a [u8]
         ensures { result.now ≡ self.now.octets }
     {

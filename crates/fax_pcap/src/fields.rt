@@ -1,6 +1,6 @@
 //! Fields of headers.
 ghost use Rattle.std.specs.Prelude.{◌≡◌, ◌+◌, ◌≤◌, IfOk, length};
-ghost use Rattle.fax_pcap.specs.Fields.{Gives, front_of, number_16, number_32};
+ghost use Rattle.fax_pcap.specs.Fields.{Gives, front_of, number_16, number_32, number_64};
 
 /// The order of the octets of a number.
 #[derive(Clone, Copy, PartialEq, Eq, Debug)]
@@ -53,5 +53,19 @@ pub(crate) fn read_32(order: ByteOrder, octets: &[u8], place: usize) -> u32
     match order {
         ByteOrder::Big => 65_536 * first + second,
         ByteOrder::Little => first + 65_536 * second,
+    }
+}
+
+/// The number of 64 bits that stands in octets from a place on.
+#[tactic(auto, unfolding(crate::specs::Fields::number_64))]
+pub(crate) fn read_64(order: ByteOrder, octets: &[u8], place: usize) -> u64
+    requires { place + 8 ≤ length octets.now }
+    ensures { result ≡ number_64 order octets.now place }
+{
+    let first = u64::from(read_32(order, octets, place));
+    let second = u64::from(read_32(order, octets, place + 4));
+    match order {
+        ByteOrder::Big => 4_294_967_296 * first + second,
+        ByteOrder::Little => first + 4_294_967_296 * second,
     }
 }

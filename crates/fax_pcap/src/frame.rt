@@ -1,10 +1,10 @@
 //! Where a UDP datagram stands in a packet.
 ghost use Rattle.std.specs.Prelude.{◌≡◌, ◌+◌, ◌≤◌};
 ghost use Rattle.fax_pcap.specs.Fields.{Gives};
-ghost use Rattle.fax_pcap.specs.Frames.{untagged, protocol_at, behind_header, frame_at};
+ghost use Rattle.fax_pcap.specs.Frames.{untagged, protocol_at, behind_header, family_at, loopback_at, frame_at};
 
 use crate::datagram::Datagram;
-use crate::fields::{ByteOrder, read_16, split_front};
+use crate::fields::{ByteOrder, read_16, read_32, split_front};
 use crate::ip::{read_ip, read_ip_4, read_ip_6};
 use crate::link::LinkType;
 
@@ -22,7 +22,7 @@ const SERVICE_TAG: u16 = 0x88a8;
 pub(crate) enum FrameFault {
     /// It is traffic of another kind.
     Other,
-    /// Its octets end inside a header or a datagram.
+    /// Its octets end inside a header.
     Short,
 }
 
@@ -35,8 +35,32 @@ pub(crate) fn read_frame(link: LinkType, octets: &[u8]) -> Result<Datagram<'_>, 
         LinkType::Ethernet => read_behind_header(14, 12, octets),
         LinkType::LinuxCooked => read_behind_header(16, 14, octets),
         LinkType::LinuxCooked2 => read_behind_header(20, 0, octets),
+        LinkType::Loopback => read_loopback(octets),
         LinkType::RawIp => read_ip(octets),
         LinkType::Unread => Err(FrameFault::Other),
+    }
+}
+
+/// The datagram behind the header of a loopback interface.
+#[tactic(auto, unfolding(crate::specs::Frames::loopback_at, crate::specs::Fields::front_of))]
+fn read_loopback(octets: &[u8]) -> Result<Datagram<'_>, FrameFault>
+    ensures { Gives (λ d. d) result (loopback_at octets.now) }
+{
+    let (header, rest) = split_front(FrameFault::Short, 4, octets)?;
+    let big = read_32(ByteOrder::Big, header, 0);
+    let little = read_32(ByteOrder::Little, header, 0);
+    read_family(big.min(little), rest)
+}
+
+/// The datagram in the octets of a family of addresses.
+#[tactic(auto, unfolding(crate::specs::Frames::family_at))]
+fn read_family(family: u32, octets: &[u8]) -> Result<Datagram<'_>, FrameFault>
+    ensures { Gives (λ d. d) result (family_at family octets.now) }
+{
+    match family {
+        2 => read_ip_4(octets),
+        24 | 28 | 30 => read_ip_6(octets),
+        _ => Err(FrameFault::Other),
     }
 }
 

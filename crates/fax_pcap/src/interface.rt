@@ -1,10 +1,11 @@
 //! Interfaces, as pcapng describes them.
-ghost use Rattle.std.specs.Prelude.{◌≡◌, ◌<◌, ◌/◌, ◌^◌, length};
-ghost use Rattle.fax_pcap.specs.Captures.{first_octet, interface_in, nanoseconds, option_at, resolution_in};
+ghost use Rattle.std.specs.Prelude.{◌≡◌, ◌<◌, ◌≤◌, ◌*◌, ◌/◌, ◌^◌, length};
+ghost use Rattle.fax_pcap.specs.Blocks.{option_shown};
+ghost use Rattle.fax_pcap.specs.Captures.{first_eight, first_octet, interface_in, moment_of, moved_by, nanoseconds, option_at, times_in, times_with, untold};
 ghost use Rattle.fax_pcap.specs.Fields.{Gives};
 
 use crate::fault::CaptureFault;
-use crate::fields::{ByteOrder, read_16, read_32, split_front};
+use crate::fields::{ByteOrder, read_16, read_32, read_64, split_front};
 use crate::link::LinkType;
 
 /// What is described of an interface.
@@ -13,17 +14,32 @@ pub(crate) struct Interface {
     pub link: LinkType,
     /// The most octets of a packet that are captured; 0 sets no bound.
     pub most_octets: u32,
-    /// The unit of its times: below 128 a decimal place of a second, else a binary one.
-    pub resolution: u8,
+    pub times: Times,
 }
 
-/// The unit where none is told: a microsecond.
-const MICROSECONDS: u8 = 6;
+/// What the times of an interface mean.
+#[derive(Clone, Copy, PartialEq, Eq, Debug)]
+pub(crate) struct Times {
+    /// Their unit: below 128 a decimal place of a second, else a binary one.
+    pub resolution: u8,
+    /// The seconds that are added to them, as two's complement.
+    pub offset: u64,
+}
+
+/// Where nothing is told of them: microseconds since 1970.
+const UNTOLD: Times = Times {
+    resolution: 6,
+    offset: 0,
+};
 
 /// The codes of the options that are read.
 const END_OF_OPTIONS: u16 = 0;
 
 const RESOLUTION: u16 = 9;
+
+const OFFSET: u16 = 14;
+
+const NANOSECONDS_OF_SECOND: u128 = 1_000_000_000;
 
 /// The interface that a body describes.
 #[tactic(auto, unfolding(crate::specs::Captures::interface_in, crate::specs::Fields::front_of))]
@@ -34,29 +50,50 @@ pub(crate) fn read_interface(order: ByteOrder, body: &[u8]) -> Result<Interface,
     Ok(Interface {
         link: LinkType::from_number(read_16(order, fixed, 0)),
         most_octets: read_32(order, fixed, 4),
-        resolution: read_resolution(order, options)?,
+        times: read_times(order, options)?,
     })
 }
 
-/// The unit of times that options tell.
-fn read_resolution(order: ByteOrder, options: &[u8]) -> Result<u8, CaptureFault>
-    ensures { Gives (λ r. r) result (resolution_in (length options.now) order options.now) }
+/// What options tell of times.
+fn read_times(order: ByteOrder, options: &[u8]) -> Result<Times, CaptureFault>
+    ensures { Gives (λ t. t) result (times_in (length options.now) order options.now untold) }
 {
+    let mut times = UNTOLD;
     let mut rest = options;
     for _ in 0..options.len() {
         if rest.len() < 4 {
-            return Ok(MICROSECONDS);
+            return Ok(times);
         }
         let option = read_option(order, rest)?;
         if option.code == END_OF_OPTIONS {
-            return Ok(MICROSECONDS);
+            return Ok(times);
         }
-        if option.code == RESOLUTION {
-            return read_octet(option.value);
-        }
+        times = read_option_of_times(order, &option, times)?;
         rest = option.behind;
     }
-    Ok(MICROSECONDS)
+    Ok(times)
+}
+
+/// What is told of times, once one more option was read.
+#[tactic(auto, unfolding(crate::specs::Captures::times_with))]
+fn read_option_of_times(
+    order: ByteOrder,
+    option: &InterfaceOption<'_>,
+    times: Times,
+) -> Result<Times, CaptureFault>
+    ensures { Gives (λ t. t) result (times_with order (option_shown option.now) times) }
+{
+    match option.code {
+        RESOLUTION => Ok(Times {
+            resolution: read_octet(option.value)?,
+            ..times
+        }),
+        OFFSET => Ok(Times {
+            offset: read_eight(order, option.value)?,
+            ..times
+        }),
+        _ => Ok(times),
+    }
 }
 
 /// The first octet of the value of an option.
@@ -66,6 +103,15 @@ fn read_octet(value: &[u8]) -> Result<u8, CaptureFault>
 {
     let (octet, _) = split_front(CaptureFault::Damaged, 1, value)?;
     Ok(octet[0])
+}
+
+/// The number in the first eight octets of the value of an option.
+#[tactic(auto, unfolding(crate::specs::Captures::first_eight, crate::specs::Fields::front_of))]
+fn read_eight(order: ByteOrder, value: &[u8]) -> Result<u64, CaptureFault>
+    ensures { Gives (λ r. r) result (first_eight order value.now) }
+{
+    let (octets, _) = split_front(CaptureFault::Damaged, 8, value)?;
+    Ok(read_64(order, octets, 0))
 }
 
 /// An option: its code, its value, and the octets behind it.
@@ -79,7 +125,7 @@ struct InterfaceOption<'a> {
 /// The first of some options.
 #[tactic(auto, unfolding(crate::specs::Captures::option_at, crate::specs::Fields::front_of))]
 fn read_option(order: ByteOrder, octets: &[u8]) -> Result<InterfaceOption<'_>, CaptureFault>
-    ensures { Gives (λ o. record { code = o.code; value = o.value.now; behind = o.behind.now }) result (option_at order octets.now) }
+    ensures { Gives option_shown result (option_at order octets.now) }
 {
     let (header, rest) = split_front(CaptureFault::Damaged, 4, octets)?;
     let length = usize::from(read_16(order, header, 2));
@@ -91,22 +137,46 @@ fn read_option(order: ByteOrder, octets: &[u8]) -> Result<InterfaceOption<'_>, C
     })
 }
 
+/// The moment that a count of the units of an interface says, in nanoseconds since 1970.
+pub(crate) fn moment(times: Times, count: u64) -> u128
+    ensures { result ≡ moment_of times count }
+{
+    moved(times.offset, nanoseconds_of(times.resolution, count))
+}
+
+/// A time to which seconds are added, as two's complement, or 1970.
+#[tactic(auto, unfolding(crate::specs::Captures::moved_by))]
+fn moved(offset: u64, time: u128) -> u128
+    requires { time < 2 ^ 100 }
+    ensures { result ≡ moved_by offset time }
+{
+    let seconds = u128::from(offset);
+    if offset < 9_223_372_036_854_775_808 {
+        time + NANOSECONDS_OF_SECOND * seconds
+    } else {
+        time.saturating_sub(NANOSECONDS_OF_SECOND * (18_446_744_073_709_551_616 - seconds))
+    }
+}
+
 /// The nanoseconds of a time in the units of an interface.
 #[tactic(auto, unfolding(crate::specs::Captures::nanoseconds))]
-pub(crate) fn nanoseconds_of(resolution: u8, count: u64) -> u128
-    ensures { result ≡ nanoseconds resolution count }
+fn nanoseconds_of(resolution: u8, count: u64) -> u128
+    ensures is { result ≡ nanoseconds resolution count }
+    ensures small { result < 2 ^ 100 }
 {
+    let most = NANOSECONDS_OF_SECOND * u128::from(count);
     if resolution < 128 {
-        divided(1_000_000_000 * u128::from(count), 10, resolution)
+        divided(most, 10, resolution)
     } else {
-        divided(1_000_000_000 * u128::from(count), 2, resolution - 128)
+        divided(most, 2, resolution - 128)
     }
 }
 
 /// A number divided by a power of a base.
 fn divided(number: u128, base: u128, power: u8) -> u128
     requires { 0 < base }
-    ensures { result ≡ number / (base ^ power) }
+    ensures is { result ≡ number / (base ^ power) }
+    ensures less { result ≤ number }
 {
     let mut quotient = number;
     for _ in 0..power {

@@ -113,10 +113,11 @@ fn read_data<'a>(
     if count < 8 {
         return Err(FrameFault::Other);
     }
-    let (octets, _) = split_front(FrameFault::Short, usize::from(count - 8), octets)?;
+    let count = usize::from(count - 8);
     Ok(Datagram {
         source,
         destination,
-        octets,
+        is_whole: octets.len() >= count,
+        octets: first_octets(count, octets),
     })
 }

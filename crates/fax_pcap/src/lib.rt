@@ -1,5 +1,5 @@
-//! Captures of networks: the UDP datagrams in pcap and pcapng files. Every octet is read safely, and memory is taken only for
-//! what pcapng describes of an interface.
+//! Captures of networks: the UDP datagrams in pcap and pcapng files, of any size, and however their octets come. Every octet is
+//! read safely, and memory is taken only for what pcapng describes of an interface.
 #![tactic(auto)]
 
 mod capture;
@@ -14,7 +14,7 @@ mod packet;
 mod pcap;
 mod pcapng;
 
-pub use capture::Capture;
+pub use capture::{Capture, RecordRead};
 pub use datagram::{Datagram, Endpoint};
 pub use fault::CaptureFault;
 pub use packet::Captured;

@@ -10,6 +10,8 @@ pub enum LinkType {
     LinuxCooked,
     /// The same, in its second form.
     LinuxCooked2,
+    /// A loopback interface of BSD and its kin.
+    Loopback,
     /// No header before that of IP.
     RawIp,
     /// Another one, whose packets are not read.
@@ -26,7 +28,8 @@ impl LinkType {
             1 => LinkType::Ethernet,
             113 => LinkType::LinuxCooked,
             276 => LinkType::LinuxCooked2,
-            101 | 228 | 229 => LinkType::RawIp,
+            0 | 108 => LinkType::Loopback,
+            12 | 14 | 101 | 228 | 229 => LinkType::RawIp,
             _ => LinkType::Unread,
         }
     }

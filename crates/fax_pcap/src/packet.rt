@@ -9,6 +9,9 @@ use crate::frame::{FrameFault, read_frame};
 use crate::link::LinkType;
 use std::marker::Model;
 
+/// The most octets of a packet of pcap, and of a block of pcapng.
+pub(crate) const MOST_OF_RECORD: u32 = 16_777_216;
+
 /// A packet.
 #[derive(Drop)]
 pub(crate) struct Packet<'a> {
@@ -28,7 +31,7 @@ impl<'a> Model for Packet<'a> {
     ghost view = { λ p. record { time = p.time; link = p.link; is_cut = p.is_cut; octets = p.octets.now } };
 }
 
-/// A datagram, and when it was captured, in nanoseconds since 1970, where the capture tells that.
+/// A datagram, whole or in part, and when it was captured, in nanoseconds since 1970, where the capture tells that.
 #[derive(Drop)]
 pub struct Captured<'a> {
     time: Option<u128>,
@@ -59,17 +62,22 @@ impl<'a> Captured<'a> {
     }
 }
 
-/// The datagram that a packet is, where it is one.
+/// The datagram that a packet is, where it is one. `Snapped` says that it was captured up to a place inside its headers.
 #[tactic(auto, unfolding(crate::specs::Captures::datagram_of_frame))]
 pub(crate) fn read_packet<'a>(packet: &Packet<'a>) -> Result<Option<Captured<'a>>, CaptureFault>
     ensures { Gives (λ found. found) result (datagram_of_packet packet.now) }
 {
     match read_frame(packet.link, packet.octets) {
-        Ok(datagram) => Ok(Some(Captured {
-            time: packet.time,
-            datagram,
-        })),
-        Err(FrameFault::Short) if packet.is_cut => Err(CaptureFault::Cut),
+        Ok(datagram) => {
+            if !datagram.is_whole && !packet.is_cut {
+                return Ok(None);
+            }
+            Ok(Some(Captured {
+                time: packet.time,
+                datagram,
+            }))
+        }
+        Err(FrameFault::Short) if packet.is_cut => Err(CaptureFault::Snapped),
         Err(FrameFault::Short | FrameFault::Other) => Ok(None),
     }
 }

@@ -6,7 +6,7 @@ ghost use Rattle.fax_pcap.specs.Fields.{Gives};
 use crate::fault::CaptureFault;
 use crate::fields::{ByteOrder, read_32, split_front};
 use crate::link::LinkType;
-use crate::packet::Packet;
+use crate::packet::{MOST_OF_RECORD, Packet};
 
 /// What the head of a pcap file tells.
 #[derive(Clone, Copy, PartialEq, Eq, Debug)]
@@ -42,6 +42,9 @@ pub(crate) fn read_pcap_packet<'a>(
     let seconds = u128::from(read_32(file.order, header, 0));
     let fraction = u128::from(read_32(file.order, header, 4));
     let captured = read_32(file.order, header, 8);
+    if captured > MOST_OF_RECORD {
+        return Err(CaptureFault::Damaged);
+    }
     let (octets, behind) = split_front(CaptureFault::Cut, captured as usize, rest)?;
     let packet = Packet {
         time: Some(1_000_000_000 * seconds + u128::from(file.unit) * fraction),

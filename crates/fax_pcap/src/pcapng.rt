@@ -1,12 +1,12 @@
 //! The blocks of a pcapng file.
-ghost use Rattle.std.specs.Prelude.{◌≡◌, ◌<◌, IfOk, length};
-ghost use Rattle.fax_pcap.specs.Captures.{block_at, block_of, captured_of, enhanced_in, interface_at, section_at, section_order_at, simple_in};
+ghost use Rattle.std.specs.Prelude.{◌≡◌, ◌<◌, ◌≤◌, IfOk, length};
+ghost use Rattle.fax_pcap.specs.Captures.{block_at, block_of, captured_of, enhanced_in, interface_at, old_packet_in, section_at, section_order_at, simple_in, timed_packet};
 ghost use Rattle.fax_pcap.specs.Fields.{Gives};
 
 use crate::fault::CaptureFault;
 use crate::fields::{ByteOrder, read_16, read_32, split_front};
-use crate::interface::{Interface, nanoseconds_of};
-use crate::packet::Packet;
+use crate::interface::{Interface, moment};
+use crate::packet::{MOST_OF_RECORD, Packet};
 
 /// The number with which the body of a section's head begins, in the section's byte order.
 const BYTE_ORDER_MAGIC: u32 = 0x1a2b_3c4d;
@@ -45,7 +45,7 @@ fn read_block_body(
     ensures gives { Gives (λ b. (record { kind = b.kind; body = b.body.now }, b.behind.now)) result (block_of order kind count octets.now) }
     ensures shorter { IfOk result (λ b. length b.behind.now < length octets.now) }
 {
-    if count < 12 || count % 4 != 0 {
+    if count < 12 || count % 4 != 0 || count > MOST_OF_RECORD {
         return Err(CaptureFault::Damaged);
     }
     let (body, rest) = split_front(CaptureFault::Cut, (count - 12) as usize, octets)?;
@@ -108,12 +108,40 @@ pub(crate) fn read_enhanced<'a>(
 {
     let (header, rest) = split_front(CaptureFault::Damaged, 20, body)?;
     let interface = interface_of(interfaces, read_32(order, header, 0))?;
+    read_timed(order, interface, header, rest)
+}
+
+/// The packet of a packet block, which is obsolete.
+#[tactic(auto, unfolding(crate::specs::Captures::old_packet_in, crate::specs::Fields::front_of))]
+pub(crate) fn read_old_packet<'a>(
+    order: ByteOrder,
+    interfaces: &[Interface],
+    body: &'a [u8],
+) -> Result<Packet<'a>, CaptureFault>
+    ensures { Gives (λ p. p) result (old_packet_in order interfaces.now body.now) }
+{
+    let (header, rest) = split_front(CaptureFault::Damaged, 20, body)?;
+    let interface = interface_of(interfaces, u32::from(read_16(order, header, 0)))?;
+    read_timed(order, interface, header, rest)
+}
+
+/// The packet of an interface, behind its header.
+#[tactic(auto, unfolding(crate::specs::Captures::timed_packet, crate::specs::Fields::front_of))]
+fn read_timed<'a>(
+    order: ByteOrder,
+    interface: Interface,
+    header: &[u8],
+    octets: &'a [u8],
+) -> Result<Packet<'a>, CaptureFault>
+    requires { 20 ≤ length header.now }
+    ensures { Gives (λ p. p) result (timed_packet order interface header.now octets.now) }
+{
     let high = u64::from(read_32(order, header, 4));
     let low = u64::from(read_32(order, header, 8));
     let captured = read_32(order, header, 12);
-    let (octets, _) = split_front(CaptureFault::Damaged, captured as usize, rest)?;
+    let (octets, _) = split_front(CaptureFault::Damaged, captured as usize, octets)?;
     Ok(Packet {
-        time: Some(nanoseconds_of(interface.resolution, 4_294_967_296 * high + low)),
+        time: Some(moment(interface.times, 4_294_967_296 * high + low)),
         link: interface.link,
         is_cut: captured < read_32(order, header, 16),
         octets,

@@ -3,7 +3,7 @@ use Rattle.std.specs.Prelude.{◌≡◌, ℕ, ◌^◌, ◌-◌, true, false, Lis
 use Rattle.std.specs.declared.net.ip_addr.IpAddr.{IpAddr}
 use Rattle.std.specs.declared.net.ip_addr.IpAddr.TheVariants as ip
 use Rattle.std.specs.declared.net.socket_addr.SocketAddr.{SocketAddr}
-use Rattle.std.specs.Net.Addr.{ipv4_octets, ipv6_octets}
+use Rattle.std.specs.Net.Addr.{IsCanonicalOf, ipv4_octets, ipv6_octets}
 use Rattle.std.specs.Net.Grammar.{IsIpText, IsSocketText}
 use Rattle.std.specs.Net.Socket.{socket_ip, socket_port}
 use Rattle.clap.specs.Words.{Row, Text, all_of, first_of, one_of}
@@ -14,6 +14,7 @@ use Rattle.fax_gateway.specs.Setups.{AreAllowed}
 use Rattle.fax_capture.specs.declared.address.Host.{Host}
 use Rattle.fax_capture.specs.declared.address.Host.TheVariants as host
 use Rattle.fax_capture.specs.declared.address.Address.{Address}
+use Rattle.fax_capture.specs.Addresses.{AreApart}
 use Rattle.fax_machine.specs.declared.sending.SendOptions.{SendOptions}
 use Rattle.fax_machine.specs.declared.receiving.ReceiveOptions.{ReceiveOptions}
 use Rattle.fax_request.specs.declared.explain_options.ExplainOptions.{ExplainOptions}
@@ -39,10 +40,15 @@ pub record AreExplainOptionsOf (given : List Row) (options : ExplainOptions) : T
   pub pages : option_map (λ text. text.now) options.pages ≡ first_of (codes "pages") given
 
 -- the octets of an address, as a host
+abbrev pub HasOctets : IpAddr → Host → Type 0
+HasOctets (ip.V4 address) (host.V4 octets) = octets ≡ ipv4_octets address
+HasOctets (ip.V6 address) (host.V6 octets) = octets ≡ ipv6_octets address
+HasOctets address octets = ⊥
+
+-- An address of IPv6 that stands for one of IPv4 (::ffff:192.0.2.10) means that one.
 abbrev pub IsHostOf : IpAddr → Host → Type 0
-IsHostOf (ip.V4 address) (host.V4 octets) = octets ≡ ipv4_octets address
-IsHostOf (ip.V6 address) (host.V6 octets) = octets ≡ ipv6_octets address
-IsHostOf address octets = ⊥
+IsHostOf (ip.V4 address) octets = HasOctets (ip.V4 address) octets
+IsHostOf (ip.V6 address) octets = (meant : IpAddr) × IsCanonicalOf address meant × HasOctets meant octets
 
 -- A text says a host alone, or a host and a port.
 abbrev pub SaysHost : Text → Option ℕ → Host → Type 0
@@ -56,9 +62,11 @@ SaysAddress text address = SaysHost text address.port address.host
 abbrev pub text_given : Text → List Row → Text
 text_given option given = unwrap_or (first_of option given) []
 
+-- the machines of a call are apart: no endpoint is at both addresses
 pub record AreMachinesOf (given : List Row) (machines : Machines) : Type 0 where
   pub caller : SaysAddress (text_given (codes "caller") given) machines.caller
   pub called : SaysAddress (text_given (codes "called") given) machines.called
+  pub apart : AreApart machines.caller machines.called
 
 pub record AreSendOptionsOf (given : List Row) (options : SendOptions) : Type 0 where
   pub to : options.to.now ≡ text_given (codes "to") given

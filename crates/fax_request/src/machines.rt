@@ -1,12 +1,12 @@
 //! The machines that `faxgate capture` is asked for.
 ghost use Rattle.std.specs.Prelude.{IfOk, IfSome, codes};
 ghost use Rattle.clap.specs.Words.{found_of, rows_of};
-ghost use Rattle.fax_request.specs.Requests.{AreMachinesOf, IsHostOf, SaysAddress, text_given};
+ghost use Rattle.fax_request.specs.Requests.{AreMachinesOf, HasOctets, IsHostOf, SaysAddress, text_given};
 
 use crate::given::text_of;
 use clap::{ArgMatches, Error};
 use fax_capture::{Address, Host};
-use fax_words::refused_address;
+use fax_words::{refused_address, refused_machines};
 use std::alloc::Global;
 use std::net::{IpAddr, SocketAddr};
 
@@ -21,10 +21,12 @@ pub struct Machines {
 pub(crate) fn machines_of(alloc: Global, given: &ArgMatches<'_>) -> Result<Machines, Error>
     ensures { IfOk result (AreMachinesOf (rows_of (found_of given.now))) }
 {
-    Ok(Machines {
-        caller: address_of(alloc, "caller", given)?,
-        called: address_of(alloc, "called", given)?,
-    })
+    let caller = address_of(alloc, "caller", given)?;
+    let called = address_of(alloc, "called", given)?;
+    if !caller.is_apart_from(&called) {
+        return Err(refused_machines(alloc));
+    }
+    Ok(Machines { caller, called })
 }
 
 /// The address that was given with an option.
@@ -57,9 +59,19 @@ fn read_address(text: &str) -> Option<Address>
     }
 }
 
-/// A host by the octets of its address.
+/// The host of an address; that of IPv4 for which one of IPv6 stands.
 fn host_of(host: IpAddr) -> Host
     ensures { IsHostOf host result }
+{
+    match host {
+        IpAddr::V4(address) => Host::V4(address.octets()),
+        IpAddr::V6(address) => octets_of(address.to_canonical()),
+    }
+}
+
+/// A host by the octets of its address.
+fn octets_of(host: IpAddr) -> Host
+    ensures { HasOctets host result }
 {
     match host {
         IpAddr::V4(address) => Host::V4(address.octets()),

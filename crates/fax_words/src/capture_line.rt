@@ -20,7 +20,7 @@ fn caller_option<'a>(alloc: Global) -> Arg<'a> {
         alloc,
         "caller",
         "ADDRESS",
-        "Where the calling machine sends from: 192.0.2.10, 192.0.2.10:6000, 2001:db8::1 or [2001:db8::1]:6000",
+        "Where the calling machine sends from: 192.0.2.10, 192.0.2.10:6000, 2001:db8::1 or [2001:db8::1]:6000; ::ffff:192.0.2.10 is 192.0.2.10",
     )
     .required(true)
 }
@@ -57,12 +57,34 @@ fn address_error(alloc: Global, option: &str, text: &str) -> Result<Error, Error
     Ok(command.error(ErrorKind::ValueValidation, message.as_str())?)
 }
 
+/// The error of addresses of `faxgate capture` of which both mean one endpoint.
+pub fn refused_machines(alloc: Global) -> Error
+    ensures { (kind_of result ≡ ErrorKind.ValueValidation) ⊎ (kind_of result ≡ ErrorKind.OutOfMemory) }
+{
+    match machines_error(alloc) {
+        Ok(error) | Err(error) => error,
+    }
+}
+
+/// That error. An `Err` says that memory was wanted.
+fn machines_error(alloc: Global) -> Result<Error, Error>
+    ensures ok { IfOk result (λ error. kind_of error ≡ ErrorKind.ValueValidation) }
+    ensures err { IfErr result (λ error. kind_of error ≡ ErrorKind.OutOfMemory) }
+{
+    let mut command = capture_command(alloc)?.bin_name("faxgate capture")?;
+    Ok(command.error(ErrorKind::ValueValidation, ONE_MACHINE)?)
+}
+
+const ONE_MACHINE: &str =
+    "'--caller <ADDRESS>' and '--called <ADDRESS>' mean one machine: of one host, say both ports";
+
 const ABOUT: &str =
     "Read a capture made at a gateway (pcap or pcapng), and print the script of its call for faxgate trace: the ring, the datagrams of both machines at their ticks, and ticks until 40 s behind the last";
 
 const LINES_AND_STATUSES: &str = "\
 Reads:
-  A capture of at most 16,777,216 octets, on the standard input.
+  A capture of any size, on the standard input. Only datagrams of the two machines matter, and only of them all octets have to
+  be there.
 
 Prints:
   R       it rings
@@ -76,4 +98,4 @@ Statuses:
   1  the capture has none, and one line tells why: fault 1 NoCapture, 2 Cut, 3 Damaged, 4 NoAddress or 5 TooLong
   2  the command line was refused
   3  memory was wanted and refused: fault memory
-  4  a read or a write failed, or the capture is too long: the standard error tells which";
+  4  a read or a write failed: the standard error tells which";

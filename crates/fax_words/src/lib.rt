@@ -13,6 +13,6 @@ mod send_line;
 mod serve_line;
 mod trace_line;
 
-pub use capture_line::refused_address;
+pub use capture_line::{refused_address, refused_machines};
 pub use command_line::{faxgate_command, refused_command};
 pub use options::{LEAST_PREAMBLE_MS, MOST_PREAMBLE_MS, MOST_REDUNDANCY};

@@ -1,8 +1,11 @@
-use Rattle.std.proofs.Common.{Ok, Err, refl}
+use Rattle.fax_capture.proofs.AnswerLemmas.{Answers-fault, Answers-script}
 use Rattle.fax_capture.proofs.answer.answer_to.Goals as goal
 
-pub returns-in-Ok : goal.returns-in-Ok
-returns-in-Ok c = record { outcome = Ok c.in-Ok.text.items; allowed = c.in-Ok.ensures.ok; status_is = refl; text_is = refl }
+pub returns-in-Ok-clause-answers : goal.returns-in-Ok-clause-answers
+returns-in-Ok-clause-answers g c =
+    Answers-script c.args.caller.now c.args.called.now (g.I.Source.remaining c.args.source.now) c.in-Ok.text.items c.in-Ok.ensures.ok
 
-pub returns-in-Err : goal.returns-in-Err
-returns-in-Err c = record { outcome = Err c.in-Err.fault; allowed = c.in-Err.ensures.err; status_is = refl; text_is = refl }
+pub returns-in-Err-Script-clause-answers : goal.returns-in-Err-Script-clause-answers
+returns-in-Err-Script-clause-answers g c =
+    let fails = rw c.in-Err-Script.field-0-is at c.in-Err-Script.ensures.err in
+    Answers-fault c.args.caller.now c.args.called.now (g.I.Source.remaining c.args.source.now) c.in-Err-Script.fault fails

@@ -1,5 +1,5 @@
-use Rattle.std.proofs.Common.{◌≡◌, ◌/◌, ◌^◌}
+use Rattle.std.proofs.Common.{◌≡◌, ◌≤◌, ◌/◌, ◌^◌}
 use Rattle.fax_pcap.proofs.interface.divided.Given as goal
 
 abbrev pub invariant-loop : goal.invariant-loop
-invariant-loop l = l.quotient ≡ l.number / (l.base ^ l.counter)
+invariant-loop l = (l.quotient ≡ l.number / (l.base ^ l.counter))

@@ -1,0 +1,171 @@
+//! A capture that is read in pieces, as a source gives them, and told.
+ghost use Rattle.std.specs.Prelude.{ℕ, List, ◌≡◌, ◌≢◌, ◌≤◌, ◌^◌, ◌++◌, ◌⊎◌, true, Err, IfOk, IfErr, IfSome, OnOk, Ok, vec_len};
+ghost use Rattle.fax_pcap.specs.Captures.{untold_head};
+ghost use Rattle.fax_command.specs.Streams.{greatest_count};
+ghost use Rattle.fax_capture.specs.declared.address.Address.{Address};
+ghost use Rattle.fax_capture.specs.Addresses.{lacks};
+ghost use Rattle.fax_capture.specs.Answers.{Allows, Fails};
+ghost use Rattle.fax_capture.specs.Kept.{Breaks, HasRead, Holds, TookAll, Untold};
+ghost use Rattle.fax_capture.specs.Reading.{FailsSo};
+ghost use Rattle.fax_capture.specs.Scripts.{TellsFound, Told};
+
+use crate::address::{Address, Role, role_of};
+use crate::reading_fault::ReadingFault;
+use crate::script::Script;
+use crate::script_fault::ScriptFault;
+use fax_bits::NoMemory;
+use fax_command::{MOST_AT_ONCE, ReadFault, Source};
+use fax_pcap::{Capture, CaptureFault, Captured};
+use std::alloc::{AllocError, Global};
+
+/// The script of the capture that a source gives, for the addresses of the caller and the called machine, or why there is none.
+/// Of the capture a record and a piece are kept at once.
+pub(crate) fn script_of<I: Source>(
+    alloc: Global,
+    source: &mut I,
+    caller: &Address,
+    called: &Address,
+) -> Result<Vec<u8>, ReadingFault>
+    ensures ok { IfOk result (λ text. IfSome (I.remaining source.old) (λ input. Allows caller.now called.now input (Ok text.items))) }
+    ensures err { IfErr result (λ e. IfSome (I.remaining source.old) (λ input. FailsSo caller.now called.now input e)) }
+    ensures failed { result ≡ Err ReadingFault.Stream → I.reads source.old ≡ 0 → (I.failed source.new ≡ true) ⊎ (I.reads source.new ≡ greatest_count) }
+    ensures unfailed { result ≢ Err ReadingFault.Stream → I.failed source.new ≡ I.failed source.old }
+{
+    let mut capture = Capture::new(alloc);
+    let mut script = Script::new(alloc)?;
+    let mut left = Vec::new(alloc);
+    let mut buffer = new_buffer(alloc)?;
+    for _ in 0..u64::MAX {
+        match source.read(buffer.as_mut_slice()) {
+            Ok(0) => return Ok(finish(alloc, &capture, left.as_slice(), script)?),
+            Ok(count) => {
+                let piece = &buffer[..count];
+                left = take(
+                    alloc,
+                    caller,
+                    called,
+                    &mut capture,
+                    &mut script,
+                    left,
+                    piece,
+                )?;
+            }
+            Err(ReadFault::Interrupted) => {}
+            Err(ReadFault::Failed) => return Err(ReadingFault::Stream),
+        }
+    }
+    Err(ReadingFault::Stream)
+}
+
+/// Room for what a read gives.
+fn new_buffer(alloc: Global) -> Result<Vec<u8>, AllocError>
+    ensures { IfOk result (λ buffer. vec_len buffer ≡ MOST_AT_ONCE) }
+{
+    vec![in alloc; 0; MOST_AT_ONCE]
+}
+
+/// Takes a piece behind the octets that are left, reads and tells all whole records, and answers the octets that are left then.
+fn take(
+    alloc: Global,
+    caller: &Address,
+    called: &Address,
+    capture: &mut Capture,
+    script: &mut Script,
+    left: Vec<u8>,
+    piece: &[u8],
+) -> Result<Vec<u8>, ScriptFault>
+    requires few { script.old.ticks ≤ 2 ^ 103 }
+    ensures few { OnOk result (script.new.ticks ≤ 2 ^ 103) }
+    ensures ok { (read : List ℕ) → HasRead caller.now called.now read capture.old script.old left.items
+        → IfOk result (λ still. HasRead caller.now called.now (read ++ piece.now) capture.new script.new still.items) }
+    ensures err { (read : List ℕ) → HasRead caller.now called.now read capture.old script.old left.items
+        → IfErr result (λ e. (more : List ℕ) → Fails caller.now called.now ((read ++ piece.now) ++ more) e) }
+{
+    let mut octets = left;
+    if octets.extend_from_slice(piece).is_err() {
+        return Err(NoMemory.into());
+    }
+    take_records(alloc, caller, called, capture, script, octets.as_slice())
+}
+
+/// Reads and tells all whole records at the front of octets, and answers those that are left.
+fn take_records(
+    alloc: Global,
+    caller: &Address,
+    called: &Address,
+    capture: &mut Capture,
+    script: &mut Script,
+    octets: &[u8],
+) -> Result<Vec<u8>, ScriptFault>
+    requires few { script.old.ticks ≤ 2 ^ 103 }
+    ensures few { OnOk result (script.new.ticks ≤ 2 ^ 103) }
+    ensures ok { (told : Told) → Holds script.old told
+        → IfOk result (λ left. TookAll caller.now called.now capture.old octets.now told capture.new left.items script.new) }
+    ensures err { (told : Told) → Holds script.old told → IfErr result (λ e. Breaks caller.now called.now capture.old octets.now told e) }
+{
+    let mut rest = octets;
+    while let Some(read) = capture.read_record(rest)? {
+        tell(alloc, caller, called, script, read.found)?;
+        rest = read.behind;
+    }
+    match Vec::from_slice(alloc, rest) {
+        Ok(left) => Ok(left),
+        Err(_) => Err(NoMemory.into()),
+    }
+}
+
+/// Tells a datagram that was found, where one of the two machines sent it or it was sent to one.
+fn tell(
+    alloc: Global,
+    caller: &Address,
+    called: &Address,
+    script: &mut Script,
+    found: Option<Captured<'_>>,
+) -> Result<(), ScriptFault>
+    requires few { script.old.ticks ≤ 2 ^ 103 }
+    ensures few { OnOk result (script.new.ticks ≤ 2 ^ 103) }
+    ensures ok { (told : Told) → Holds script.old told
+        → OnOk result ((next : Told) × TellsFound caller.now called.now told found.entry next × Holds script.new next) }
+    ensures err { (told : Told) → Holds script.old told → IfErr result (λ e. Untold caller.now called.now told found.entry e) }
+{
+    let Some(captured) = found else {
+        return Ok(());
+    };
+    let role = role_of(caller, called, captured.datagram());
+    if is_lacking(role, captured.datagram().is_whole()) {
+        return Err(ScriptFault::Capture(CaptureFault::Snapped));
+    }
+    script.tell(alloc, &captured, role)
+}
+
+/// Whether some is lacking of a datagram that one of the two sent.
+fn is_lacking(role: Role, is_whole: bool) -> bool
+    ensures { result ≡ lacks role is_whole }
+{
+    match role {
+        Role::FromCaller | Role::FromCalled => !is_whole,
+        Role::ToEither | Role::Unrelated => false,
+    }
+}
+
+/// The script of a capture that has ended, with these octets left.
+fn finish(
+    alloc: Global,
+    capture: &Capture,
+    left: &[u8],
+    script: Script,
+) -> Result<Vec<u8>, ScriptFault>
+    requires few { script.ticks ≤ 2 ^ 103 }
+    ensures ok { (caller called : Address) (read : List ℕ) → HasRead caller called read capture.now script left.now
+        → IfOk result (λ text. Allows caller called read (Ok text.items)) }
+    ensures err { (caller called : Address) (read : List ℕ) → HasRead caller called read capture.now script left.now
+        → IfErr result (λ e. Fails caller called read e) }
+{
+    if let Some(fault) = capture.fault_at_end(left) {
+        return Err(fault.into());
+    }
+    if script.is_empty() {
+        return Err(ScriptFault::NoAddress);
+    }
+    script.finish(alloc)
+}
