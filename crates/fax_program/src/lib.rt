@@ -6,6 +6,7 @@ mod failures;
 mod pictures;
 mod refusals;
 mod run;
+mod saying;
 mod serving;
 mod streams;
 mod terminals;

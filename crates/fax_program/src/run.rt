@@ -2,6 +2,7 @@
 ghost use Rattle.fax_request.specs.Requests.{IsAllowed};
 
 use crate::refusals::{tell_refusal, tell_unread_words};
+use crate::saying::say_word;
 use crate::serving::{Service, service_of};
 use crate::streams::{answer_capture, answer_explain, answer_loop, answer_page, answer_trace};
 use crate::terminals::{receive, send};
@@ -58,6 +59,7 @@ fn run_request<R: Print + Eprint + Input + AllocGlobal, N: Net + Files + Clock +
             Ok(service) => return Ran::Serves(service),
             Err(status) => status.code(),
         },
+        Request::Say(path, saying) => say_word(rt, system, path, &saying).code(),
         Request::Send(options, files) => send(rt, system, options, files.as_slice()).code(),
         Request::Receive(options) => receive(rt, system, options).code(),
     };

@@ -1,2 +1,3 @@
 mod FileLemmas
 mod NumberLemmas
+mod SaidLemmas

@@ -1,5 +1,6 @@
 -- What a command and the values of its options ask for. (This project's profile.)
 use Rattle.std.specs.Prelude.{◌≡◌, ℕ, ◌^◌, ◌-◌, true, false, List, [], Option, Some, None, codes, option_map, map, unwrap_or}
+use Rattle.std.specs.List.{join_by}
 use Rattle.std.specs.declared.net.ip_addr.IpAddr.{IpAddr}
 use Rattle.std.specs.declared.net.ip_addr.IpAddr.TheVariants as ip
 use Rattle.std.specs.declared.net.socket_addr.SocketAddr.{SocketAddr}
@@ -20,7 +21,7 @@ use Rattle.fax_machine.specs.declared.receiving.ReceiveOptions.{ReceiveOptions}
 use Rattle.fax_request.specs.declared.explain_options.ExplainOptions.{ExplainOptions}
 use Rattle.fax_request.specs.declared.machines.Machines.{Machines}
 use Rattle.fax_request.specs.declared.request.Request.{Request}
-use Rattle.fax_request.specs.declared.request.Request.TheVariants.{Page, Trace, Explain, Capture, Loop, Serve, Send, Receive}
+use Rattle.fax_request.specs.declared.request.Request.TheVariants.{Page, Trace, Explain, Capture, Loop, Serve, Say, Send, Receive}
 use Rattle.fax_request.specs.Given.{IsNumberOf, IsFlagOf, IsFormatOf, AreSettingsOf, AreScriptSettingsOf, coding_named, repeat_named}
 
 -- what is made of the input: --back, --pbm
@@ -68,6 +69,10 @@ pub record AreMachinesOf (given : List Row) (machines : Machines) : Type 0 where
   pub called : SaysAddress (text_given (codes "called") given) machines.called
   pub apart : AreApart machines.caller machines.called
 
+-- the words that are said, with one space between
+abbrev pub words_said : List Row → Text
+words_said given = join_by (λ word. word) (codes " ") (unwrap_or (all_of (codes "word") given) [])
+
 pub record AreSendOptionsOf (given : List Row) (options : SendOptions) : Type 0 where
   pub to : options.to.now ≡ text_given (codes "to") given
   pub on : option_map (λ text. text.now) options.on ≡ first_of (codes "on") given
@@ -91,6 +96,8 @@ Asks command given (Explain options) = (command ≡ codes "explain") × AreExpla
 Asks command given (Capture machines) = (command ≡ codes "capture") × AreMachinesOf given machines
 Asks command given (Loop settings) = (command ≡ codes "loop") × AreSettingsOf given settings
 Asks command given (Serve path) = (command ≡ codes "serve") × (path.now ≡ text_given (codes "config") given)
+Asks command given (Say socket saying) =
+    (command ≡ codes "say") × (socket.now ≡ text_given (codes "socket") given) × (saying ≡ words_said given)
 Asks command given (Send options files) =
     (command ≡ codes "send") × AreSendOptionsOf given options × (map (λ file. file.now) files.items ≡ unwrap_or (all_of (codes "file") given) [])
 Asks command given (Receive options) = (command ≡ codes "receive") × AreReceiveOptionsOf given options

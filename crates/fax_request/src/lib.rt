@@ -6,6 +6,7 @@ mod given;
 mod machines;
 mod page_words;
 mod request;
+mod say_words;
 mod terminal_words;
 
 pub use explain_options::ExplainOptions;

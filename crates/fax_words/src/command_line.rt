@@ -7,6 +7,7 @@ use crate::explain_line::explain_command;
 use crate::loop_line::loop_command;
 use crate::page_line::page_command;
 use crate::receive_line::receive_command;
+use crate::say_line::say_command;
 use crate::send_line::send_command;
 use crate::serve_line::serve_command;
 use crate::trace_line::trace_command;
@@ -43,6 +44,7 @@ fn with_calls<'a>(alloc: Global, command: Command<'a>) -> Result<Command<'a>, Al
     command
         .subcommand(loop_command(alloc)?)?
         .subcommand(serve_command(alloc)?)?
+        .subcommand(say_command(alloc)?)?
         .subcommand(send_command(alloc)?)?
         .subcommand(receive_command(alloc)?)
 }

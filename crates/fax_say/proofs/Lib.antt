@@ -1,0 +1,4 @@
+pub mod AnswerLemmas
+pub mod HearingLemmas
+mod LawLemmas
+pub mod LineFeeds

@@ -1,0 +1,4 @@
+pub mod Answers
+pub mod Hearings
+pub mod Laws
+pub mod Sayings
