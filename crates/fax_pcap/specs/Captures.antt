@@ -281,11 +281,11 @@ record_at head octets = record_of_kind head.kind head octets
 
 -- ---- what a capture means
 
--- What a frame tells of its packet: a datagram, or none. Of a packet that was captured in part a datagram may be there in part;
--- where its headers are not there, whose it is is not known, and the capture is a cut one.
+-- What a frame tells of its packet: a datagram, or none. Of a packet that was captured in part, and in the first of fragments, a
+-- datagram may be there in part; where its headers are not there, whose it is is not known, and the capture is a cut one.
 unfoldable pub datagram_of_frame : Option ℕ → Bool → FrameRead → Result (Option TimedDatagram) CaptureFault
 datagram_of_frame time is_cut (Ok datagram) =
-    if not datagram.is_whole && not is_cut then Ok None else Ok (Some (record { time = time; datagram = datagram }))
+    if not datagram.is_whole && not (is_cut || datagram.is_fragment) then Ok None else Ok (Some (record { time = time; datagram = datagram }))
 datagram_of_frame time is_cut (Err Other) = Ok None
 datagram_of_frame time true (Err Short) = Err Snapped
 datagram_of_frame time false (Err Short) = Ok None

@@ -1,8 +1,7 @@
 -- FRAMES: where a UDP datagram stands in what was captured of a link. (IEEE 802.3 and 802.1Q; LINKTYPE_LINUX_SLL and
--- LINKTYPE_LINUX_SLL2, LINKTYPE_NULL and
--- LINKTYPE_LOOP of the registry of link types; RFC 791, RFC 8200, RFC 768. Fragments, and headers of extension, are
--- not read: this project's profile.)
-use Rattle.std.specs.Prelude.{ℕ, min, ◌-◌, ◌*◌, ◌/◌, ◌%◌, ◌==◌, ◌&&◌, ◌||◌, not, nat_lt, Bool, List, take, drop, length, slice_index, Result, Ok, Err, if◌then◌else◌}
+-- LINKTYPE_LINUX_SLL2, LINKTYPE_NULL and LINKTYPE_LOOP of the registry of link types; RFC 791, RFC 8200, RFC 768. Of fragments
+-- the first alone is read, and headers of extension are not: this project's profile.)
+use Rattle.std.specs.Prelude.{ℕ, min, ◌-◌, ◌*◌, ◌/◌, ◌%◌, ◌==◌, ◌&&◌, ◌||◌, not, nat_lt, Bool, false, List, take, drop, length, slice_index, Result, Ok, Err, if◌then◌else◌}
 use Rattle.fax_pcap.specs.declared.fields.ByteOrder.TheVariants.{Big, Little}
 use Rattle.fax_pcap.specs.declared.link.LinkType.{LinkType}
 use Rattle.fax_pcap.specs.declared.link.LinkType.TheVariants.{Ethernet, LinuxCooked, LinuxCooked2, Loopback, RawIp, Unread}
@@ -15,10 +14,12 @@ pub record EndpointValue : Type 0 where
   pub host : List ℕ
   pub port : ℕ
 
--- a UDP datagram: who sent it, to whom, whether all of its data is there, and what is there of it
+-- a UDP datagram: who sent it, to whom, whether it is the first of fragments of one, whether all of its data is there, and what
+-- is there of it
 pub record DatagramValue : Type 0 where
   pub source : EndpointValue
   pub destination : EndpointValue
+  pub is_fragment : Bool
   pub is_whole : Bool
   pub octets : List ℕ
 
@@ -38,36 +39,41 @@ link_of number =
     else Unread
 
 -- the data of UDP: its length counts the eight octets of the header too
-unfoldable pub data_at : EndpointValue → EndpointValue → ℕ → List ℕ → FrameRead
-data_at source destination count octets =
+unfoldable pub data_at : EndpointValue → EndpointValue → Bool → ℕ → List ℕ → FrameRead
+data_at source destination is_fragment count octets =
     if nat_lt count 8 then Err Other
     else Ok (record {
       source = source;
       destination = destination;
+      is_fragment = is_fragment;
       is_whole = not (nat_lt (length octets) (count - 8));
       octets = take (count - 8) octets;
     })
 
 -- UDP (RFC 768): the ports of both sides, the length and a checksum, which is not read
-unfoldable pub udp_at : List ℕ → List ℕ → List ℕ → FrameRead
-udp_at source destination octets = do
+unfoldable pub udp_at : List ℕ → List ℕ → Bool → List ℕ → FrameRead
+udp_at source destination is_fragment octets = do
   parts ← front_of Short 8 octets
   data_at (record { host = source; port = number_16 Big parts.0 0 }) (record { host = destination; port = number_16 Big parts.0 2 })
-      (number_16 Big parts.0 4) parts.1
+      is_fragment (number_16 Big parts.0 4) parts.1
 
--- The first 20 octets of a datagram of IPv4 (RFC 791) say that it carries UDP and is whole: its version, a header of 20
--- octets or more, which the total length counts, no more fragments and no offset, and the protocol.
-unfoldable pub is_whole_udp_4 : List ℕ → Bool
-is_whole_udp_4 header =
+-- The first 20 octets of a datagram of IPv4 (RFC 791) say that it carries UDP from its front on: its version, a header of 20
+-- octets or more, which the total length counts, no offset, and the protocol.
+unfoldable pub is_udp_4 : List ℕ → Bool
+is_udp_4 header =
     (slice_index header 0 / 16 == 4) && (not (nat_lt (slice_index header 0 % 16) 5)
     && (not (nat_lt (number_16 Big header 2) (4 * (slice_index header 0 % 16)))
-    && ((number_16 Big header 6 % 16384 == 0) && (slice_index header 9 == 17))))
+    && ((number_16 Big header 6 % 8192 == 0) && (slice_index header 9 == 17))))
+
+-- or that more fragments follow
+unfoldable pub is_followed : List ℕ → Bool
+is_followed header = (number_16 Big header 6 / 8192) % 2 == 1
 
 unfoldable pub ip_4_at : List ℕ → FrameRead
 ip_4_at octets = do
   parts ← front_of Short 20 octets
-  if is_whole_udp_4 parts.0 then (front_of Short (4 * (slice_index parts.0 0 % 16) - 20) parts.1 >>= λ options.
-      udp_at (take 4 (drop 12 parts.0)) (take 4 (drop 16 parts.0)) (take (number_16 Big parts.0 2 - 4 * (slice_index parts.0 0 % 16)) options.1))
+  if is_udp_4 parts.0 then (front_of Short (4 * (slice_index parts.0 0 % 16) - 20) parts.1 >>= λ options.
+      udp_at (take 4 (drop 12 parts.0)) (take 4 (drop 16 parts.0)) (is_followed parts.0) (take (number_16 Big parts.0 2 - 4 * (slice_index parts.0 0 % 16)) options.1))
       else Err Other
 
 -- The 40 octets of a header of IPv6 (RFC 8200) say that it carries UDP: its version, and the next header.
@@ -77,7 +83,7 @@ is_udp_6 header = (slice_index header 0 / 16 == 6) && (slice_index header 6 == 1
 unfoldable pub ip_6_at : List ℕ → FrameRead
 ip_6_at octets = do
   parts ← front_of Short 40 octets
-  if is_udp_6 parts.0 then udp_at (take 16 (drop 8 parts.0)) (take 16 (drop 24 parts.0)) (take (number_16 Big parts.0 4) parts.1) else Err Other
+  if is_udp_6 parts.0 then udp_at (take 16 (drop 8 parts.0)) (take 16 (drop 24 parts.0)) false (take (number_16 Big parts.0 4) parts.1) else Err Other
 
 -- IP of either version, which its first four bits tell
 unfoldable pub ip_at : List ℕ → FrameRead

@@ -34,11 +34,13 @@ impl<'a> Endpoint<'a> {
     }
 }
 
-/// A UDP datagram, or what was captured of one.
+/// A UDP datagram, or what was captured of one, or what its first fragment has of it.
 #[derive(Drop)]
 pub struct Datagram<'a> {
     pub(crate) source: Endpoint<'a>,
     pub(crate) destination: Endpoint<'a>,
+    /// Whether it is the first of the fragments of one.
+    pub(crate) is_fragment: bool,
     pub(crate) is_whole: bool,
     pub(crate) octets: &'a [u8],
 }
@@ -48,7 +50,7 @@ impl<'a> Model for Datagram<'a> {
 
     ghost Value = { DatagramValue };
 
-    ghost view = { λ d. record { source = d.source; destination = d.destination; is_whole = d.is_whole; octets = d.octets.now } };
+    ghost view = { λ d. record { source = d.source; destination = d.destination; is_fragment = d.is_fragment; is_whole = d.is_whole; octets = d.octets.now } };
 }
 
 impl<'a> Datagram<'a> {
@@ -66,14 +68,14 @@ impl<'a> Datagram<'a> {
         &self.destination
     }
 
-    /// Whether all of its data was captured.
+    /// Whether all of its data is there.
     pub fn is_whole(&self) -> bool
         ensures { result ≡ self.now.is_whole }
     {
         self.is_whole
     }
 
-    /// Its data, as far as it was captured.
+    /// Its data, as far as it is there.
     pub fn octets(&self) -> &'a [u8]
         ensures { result.now ≡ self.now.octets }
     {

@@ -69,7 +69,7 @@ pub(crate) fn read_packet<'a>(packet: &Packet<'a>) -> Result<Option<Captured<'a>
 {
     match read_frame(packet.link, packet.octets) {
         Ok(datagram) => {
-            if !datagram.is_whole && !packet.is_cut {
+            if !datagram.is_whole && !(packet.is_cut || datagram.is_fragment) {
                 return Ok(None);
             }
             Ok(Some(Captured {
