@@ -25,9 +25,11 @@ def script(datagrams, last):
     return "".join(f"{line}\n" for line in lines)
 
 
-# What two of the three datagrams of a capture mean: the gateway's first one, and one of the caller 81 ms later.
-ONE = script({}, 0)
-TWO = script({80: ["A 000101080000"]}, 80)
+# What two of the three datagrams of a capture mean: the gateway's first one, and one of the caller 81 ms later. A machine of which
+# nothing came is told.
+NO_CALLER, NO_CALLED = (f"faxgate: --{option} {host}: no datagram came from there\n" for option, host in zip(("caller", "called"), WORDS[2::2]))
+ONE = (0, script({}, 0), NO_CALLER + NO_CALLED)
+TWO = (0, script({80: ["A 000101080000"]}, 80), NO_CALLED)
 
 
 class Cuts(unittest.TestCase):
@@ -40,8 +42,8 @@ class Cuts(unittest.TestCase):
         wanted = [(1, "fault 2 Cut\n", "")] * len(octets)
         wanted[:4] = [(1, "fault 1 NoCapture\n", "")] * 4
         for length in without:
-            wanted[length] = (1, "fault 4 NoAddress\n", "")
-        wanted[one], wanted[two] = (0, ONE, ""), (0, TWO, "")
+            wanted[length] = (1, "fault 4 NoAddress\n", NO_CALLER + NO_CALLED)
+        wanted[one], wanted[two] = ONE, TWO
         with ThreadPoolExecutor(AT_ONCE) as pool:
             answers = pool.map(captured, [octets[:length] for length in range(len(octets))])
             for length, answer in enumerate(answers):

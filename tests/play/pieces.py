@@ -55,12 +55,14 @@ class Pieces(unittest.TestCase):
         gateway, caller, called, other = ((192, 0, 2, last) for last in (1, 10, 20, 99))
         head = struct.pack("<IHHiIII", 0xA1B2C3D4, 2, 4, 0, 0, 262144, 101)
         others = record(50_000, raw(other, gateway, bytes(1472)))
-        many = others * (LARGE // len(others) // 2)
+        count = LARGE // len(others) // 2
+        many = others * count
         pieces = [head, record(0, raw(gateway, caller, bytes.fromhex("000001040000"))), *cut(many, 100_000)]
         pieces += [record(81_007, raw(caller, gateway, bytes.fromhex("000101080000"))), *cut(many, 1_000_003)]
         pieces += [record(121_000, raw(called, gateway, bytes.fromhex("00020106")))]
         answer, memory = run(pieces)
-        self.assertEqual(answer, (0, THREE, ""))
+        passed_over = f"faxgate: {2 * count} datagrams of other hosts or ports were passed over\n"
+        self.assertEqual(answer, (0, THREE, passed_over))
         self.assertLess(memory, LARGE // 2)
 
 

@@ -54,7 +54,7 @@ stopped : (caller called : Address) (head : HeadValue) (octets : List ℕ) (told
     → Stops fault (text_of_lines told.lines) → BreaksAt caller called head octets told fault
 stopped caller called head octets told TooLong stops =
     Stops-same TooLong _ _ (sym (text_of_lines-append told.lines (tick_lines told.ticks 1000))) (Stops-more TooLong (text_of_lines told.lines) (text_of_lines (tick_lines told.ticks 1000)) stops)
-stopped caller called head octets told NoAddress stops = absurd stops
+stopped caller called head octets told (NoAddress counts) stops = absurd stops
 stopped caller called head octets told (Capture capture.NoMemory) stops = tt
 stopped caller called head octets told (Capture capture.NoCapture) stops = absurd stops
 stopped caller called head octets told (Capture capture.Cut) stops = absurd stops
@@ -156,7 +156,7 @@ Refuses-more caller called head octets more capture.NoMemory is = refused-more h
 fails_by : (caller called : Address) (input : List ℕ) (head : HeadValue) (rest more : List ℕ) (told : Told) (fault : ScriptFault)
     → ToldSoFar caller called input head (rest ++ more) told → BreaksAt caller called head rest told fault → Fails caller called input fault
 fails_by caller called input head rest more told TooLong so_far breaks = (head, rest ++ more, told, so_far, breaks)
-fails_by caller called input head rest more told NoAddress so_far breaks = absurd breaks
+fails_by caller called input head rest more told (NoAddress counts) so_far breaks = absurd breaks
 fails_by caller called input head rest more told (Capture capture.NoMemory) so_far breaks = tt
 fails_by caller called input head rest more told (Capture capture.Cut) so_far breaks = absurd breaks
 fails_by caller called input head rest more told (Capture capture.Snapped) so_far breaks =
@@ -205,7 +205,7 @@ whole_of caller called read head script left has ended = record { head = head; l
 pub fails_growing : (caller called : Address) (read : List ℕ) (head : HeadValue) (script : Script) (left : List ℕ) (fault : ScriptFault)
     → (has : HasRead caller called read head script left) → Stops fault (text_of_lines (script_lines has.took.next)) → Fails caller called read fault
 fails_growing caller called read head script left TooLong has s = (head, left, has.took.next, so_far_of caller called read head script left has, s)
-fails_growing caller called read head script left NoAddress has s = absurd s
+fails_growing caller called read head script left (NoAddress counts) has s = absurd s
 fails_growing caller called read head script left (Capture capture.NoMemory) has s = tt
 fails_growing caller called read head script left (Capture capture.NoCapture) has s = absurd s
 fails_growing caller called read head script left (Capture capture.Cut) has s = absurd s

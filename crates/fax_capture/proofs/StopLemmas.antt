@@ -8,7 +8,7 @@ use Rattle.fax_capture.specs.Growing.{Stops}
 -- what stops a text stops a longer one
 pub Stops-more : (fault : ScriptFault) (text more : List ℕ) → Stops fault text → Stops fault (text ++ more)
 Stops-more TooLong text more s = omega (arith, length-append text more, s)
-Stops-more NoAddress text more s = absurd s
+Stops-more (NoAddress counts) text more s = absurd s
 Stops-more (Capture capture.NoMemory) text more s = tt
 Stops-more (Capture capture.NoCapture) text more s = absurd s
 Stops-more (Capture capture.Cut) text more s = absurd s

@@ -5,13 +5,14 @@ use Rattle.fax_pcap.specs.declared.fault.CaptureFault.{CaptureFault}
 use Rattle.fax_pcap.specs.declared.fault.CaptureFault.TheVariants as capture
 use Rattle.fax_pcap.specs.Captures.{TimedDatagram, HeadValue, Follow, ReadsAs, fault_of_end, read_of, record_at, untold_head}
 use Rattle.fax_capture.specs.declared.address.Address.{Address}
+use Rattle.fax_capture.specs.declared.counts.Counts.{Counts}
 use Rattle.fax_capture.specs.declared.script_fault.ScriptFault.{ScriptFault}
 use Rattle.fax_capture.specs.declared.script_fault.ScriptFault.TheVariants.{Capture, NoAddress, TooLong}
 use Rattle.fax_capture.specs.Scripts.{Told, TellsAll, IsLacking, only_ring, script_lines}
 
--- a script, or what is wrong with the input
+-- a script and how many datagrams came from whom, or what is wrong with the input
 abbrev pub Outcome : Type 0
-Outcome = Result (List ℕ) ScriptFault
+Outcome = Result (List ℕ × Counts) ScriptFault
 
 -- the most octets of a script: no more are read of one
 abbrev pub most_octets : ℕ
@@ -60,13 +61,13 @@ FailsReading caller called input fault = FailsCapture caller called input fault
 -- much of it is too long
 abbrev pub Fails : Address → Address → List ℕ → ScriptFault → Type 0
 Fails caller called input (Capture fault) = FailsReading caller called input fault
-Fails caller called input NoAddress = (told : Told) × ToldWhole caller called input told × (told.ticks ≡ 0)
+Fails caller called input (NoAddress counts) = (told : Told) × ToldWhole caller called input told × (told.ticks ≡ 0) × (counts ≡ told.counts)
 Fails caller called input TooLong = (head : HeadValue) × (behind : List ℕ) × (told : Told)
     × ToldSoFar caller called input head behind told × (most_octets < length (text_of_lines (script_lines told)))
 
 abbrev pub Allows : Address → Address → List ℕ → Outcome → Type 0
-Allows caller called input (Ok text) =
-    (told : Told) × ToldWhole caller called input told × (0 < told.ticks) × (text ≡ text_of_lines (script_lines told))
+Allows caller called input (Ok made) = (told : Told) × ToldWhole caller called input told × (0 < told.ticks)
+    × (made.0 ≡ text_of_lines (script_lines told)) × (made.1 ≡ told.counts)
 Allows caller called input (Err fault) = Fails caller called input fault
 
 abbrev pub capture_fault_line : CaptureFault → List ℕ
@@ -78,7 +79,7 @@ capture_fault_line capture.NoMemory = codes "fault memory\n"
 
 abbrev pub fault_line : ScriptFault → List ℕ
 fault_line (Capture fault) = capture_fault_line fault
-fault_line NoAddress = codes "fault 4 NoAddress\n"
+fault_line (NoAddress counts) = codes "fault 4 NoAddress\n"
 fault_line TooLong = codes "fault 5 TooLong\n"
 
 abbrev pub fault_status : ScriptFault → ℕ
@@ -86,16 +87,26 @@ fault_status (Capture capture.NoMemory) = 3
 fault_status fault = 1
 
 abbrev pub text_of : Outcome → List ℕ
-text_of (Ok text) = text
+text_of (Ok made) = made.0
 text_of (Err fault) = fault_line fault
 
 abbrev pub status_of : Outcome → ℕ
-status_of (Ok text) = 0
+status_of (Ok made) = 0
 status_of (Err fault) = fault_status fault
 
--- The exit status and the text that a run may answer to an input, for the addresses of the caller and the called machine.
-pub record Answers (caller called : Address) (input : List ℕ) (status : ℕ) (text : List ℕ) : Type 0 where
+-- Datagrams are counted where the capture was read to its end.
+abbrev pub fault_counts : ScriptFault → Option Counts
+fault_counts (NoAddress counts) = Some counts
+fault_counts fault = None
+
+abbrev pub counts_of : Outcome → Option Counts
+counts_of (Ok made) = Some made.1
+counts_of (Err fault) = fault_counts fault
+
+-- The exit status, the counts and the text that a run may answer to an input, for the addresses of the caller and the called machine.
+pub record Answers (caller called : Address) (input : List ℕ) (status : ℕ) (counts : Option Counts) (text : List ℕ) : Type 0 where
   pub outcome : Outcome
   pub allowed : Allows caller called input outcome
   pub status_is : status ≡ status_of outcome
+  pub counts_is : counts ≡ counts_of outcome
   pub text_is : text ≡ text_of outcome

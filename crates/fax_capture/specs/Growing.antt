@@ -8,6 +8,6 @@ use Rattle.fax_capture.specs.Answers.{most_octets}
 -- before it became this text: that is too long, or memory was wanted
 abbrev pub Stops : ScriptFault → List ℕ → Type 0
 Stops TooLong text = most_octets < length text
-Stops NoAddress text = ⊥
+Stops (NoAddress counts) text = ⊥
 Stops (Capture capture.NoMemory) text = Unit {0}
 Stops (Capture fault) text = ⊥

@@ -6,10 +6,11 @@ use Rattle.fax_pcap.specs.Captures.{TimedDatagram, HeadValue, Follow, read_of, r
 use Rattle.fax_capture.specs.declared.address.Address.{Address}
 use Rattle.fax_capture.specs.declared.answer.Answer.{Answer}
 use Rattle.fax_capture.specs.declared.answer.Answer.TheVariants as answers
+use Rattle.fax_capture.specs.declared.counts.Counts.{Counts}
 use Rattle.fax_capture.specs.declared.script.Script.{Script}
 use Rattle.fax_capture.specs.declared.script_fault.ScriptFault.{ScriptFault}
 use Rattle.fax_capture.specs.declared.script_fault.ScriptFault.TheVariants.{Capture, NoAddress, TooLong}
-use Rattle.fax_capture.specs.Answers.{Refuses, fault_line, fault_status, most_octets}
+use Rattle.fax_capture.specs.Answers.{Refuses, fault_counts, fault_line, fault_status, most_octets}
 use Rattle.fax_capture.specs.Growing.{Stops}
 use Rattle.fax_capture.specs.Scripts.{IsLacking, Tells, TellsAll, Told, only_ring, script_lines}
 
@@ -17,6 +18,7 @@ pub record Holds (script : Script) (told : Told) : Type 0 where
   pub start : script.start ≡ told.start
   pub ticks : script.ticks ≡ told.ticks
   pub text : script.text.items ≡ text_of_lines told.lines
+  pub counts : script.counts ≡ told.counts
 
 -- Records at the front of octets were read, and told: what is told of the capture then, the octets behind, and the script.
 pub record Took (caller called : Address) (old : HeadValue) (octets : List ℕ) (told : Told) (new : HeadValue) (behind : List ℕ) (script : Script) : Type 0 where
@@ -35,7 +37,7 @@ pub record TookAll (caller called : Address) (old : HeadValue) (octets : List �
 abbrev pub BreaksAt : Address → Address → HeadValue → List ℕ → Told → ScriptFault → Type 0
 BreaksAt caller called head octets told (Capture NoMemory) = Unit {0}
 BreaksAt caller called head octets told (Capture fault) = Refuses caller called head octets fault
-BreaksAt caller called head octets told NoAddress = ⊥
+BreaksAt caller called head octets told (NoAddress counts) = ⊥
 BreaksAt caller called head octets told TooLong = most_octets < length (text_of_lines (script_lines told))
 
 abbrev pub Breaks : Address → Address → HeadValue → List ℕ → Told → ScriptFault → Type 0
@@ -54,11 +56,15 @@ pub record HasRead (caller called : Address) (read : List ℕ) (head : HeadValue
   pub took : Took caller called untold_head read only_ring head left script
   pub waits : read_of (record_at head left) ≡ Err Cut
 
--- the text and the exit status of a script, or of what is wrong
+-- the text, the exit status and the counts of a script, or of what is wrong
 abbrev pub text_of_answer : Answer → List ℕ
-text_of_answer (answers.Script text) = text.items
+text_of_answer (answers.Script made) = made.text.items
 text_of_answer (answers.Fault fault) = fault_line fault
 
 abbrev pub status_of_answer : Answer → ℕ
-status_of_answer (answers.Script text) = 0
+status_of_answer (answers.Script made) = 0
 status_of_answer (answers.Fault fault) = fault_status fault
+
+abbrev pub counts_of_answer : Answer → Option Counts
+counts_of_answer (answers.Script made) = Some made.counts
+counts_of_answer (answers.Fault fault) = fault_counts fault

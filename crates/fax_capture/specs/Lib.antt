@@ -1,5 +1,6 @@
 pub mod Addresses
 pub mod Answers
+pub mod Counts
 pub mod Faults
 pub mod Growing
 pub mod Kept

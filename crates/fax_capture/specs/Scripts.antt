@@ -5,7 +5,9 @@ use Rattle.fax_pcap.specs.Captures.{TimedDatagram}
 use Rattle.fax_capture.specs.declared.address.Address.{Address}
 use Rattle.fax_capture.specs.declared.address.Role.{Role}
 use Rattle.fax_capture.specs.declared.address.Role.TheVariants.{FromCaller, FromCalled, ToEither, Unrelated}
+use Rattle.fax_capture.specs.declared.counts.Counts.{Counts}
 use Rattle.fax_capture.specs.Addresses.{IsRole, lacks}
+use Rattle.fax_capture.specs.Counts.{counts_with, no_counts}
 
 -- tick k is the moment 40 k, in milliseconds
 abbrev pub tick_line : ℕ → List ℕ
@@ -25,15 +27,16 @@ role_lines ToEither octets = []
 role_lines Unrelated octets = []
 
 -- What was told: when the first of the datagrams was captured that one of the two sent or was sent, where that is known;
--- how many ticks were told, from 0 on; and the lines.
+-- how many ticks were told, from 0 on; the lines; and how many datagrams came from whom.
 pub record Told : Type 0 where
   pub start : Option ℕ
   pub ticks : ℕ
   pub lines : List (List ℕ)
+  pub counts : Counts
 
 -- it rings
 abbrev pub only_ring : Told
-only_ring = record { start = None; ticks = 0; lines = codes "R" ∷ [] }
+only_ring = record { start = None; ticks = 0; lines = codes "R" ∷ []; counts = no_counts }
 
 abbrev pub start_of : Option ℕ → Option ℕ → Option ℕ
 start_of None time = time
@@ -54,11 +57,12 @@ told_with told time role octets = record {
   start = start_of told.start time;
   ticks = ticks_to told time;
   lines = (told.lines ++ tick_lines told.ticks (ticks_to told time - told.ticks)) ++ role_lines role octets;
+  counts = counts_with told.counts role;
 }
 
--- one datagram more
+-- one datagram more; one of others is counted alone
 abbrev pub told_of : Told → TimedDatagram → Role → Told
-told_of told captured Unrelated = told
+told_of told captured Unrelated = record told { counts = counts_with told.counts Unrelated }
 told_of told captured role = told_with told captured.time role captured.datagram.octets
 
 abbrev pub Tells : Address → Address → Told → TimedDatagram → Told → Type 0

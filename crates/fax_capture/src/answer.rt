@@ -4,11 +4,13 @@ ghost use Rattle.std.specs.Io.KnownBytes.{Appends};
 ghost use Rattle.fax_command.specs.Statuses.{status_code};
 ghost use Rattle.fax_command.specs.Streams.{failed_after_write, greatest_count};
 ghost use Rattle.fax_capture.specs.Answers.{Answers};
-ghost use Rattle.fax_capture.specs.Kept.{status_of_answer, text_of_answer};
+ghost use Rattle.fax_capture.specs.Kept.{counts_of_answer, status_of_answer, text_of_answer};
 
 use crate::address::Address;
+use crate::counts::Counts;
 use crate::reading::script_of;
 use crate::reading_fault::ReadingFault;
+use crate::script::Made;
 use crate::script_fault::ScriptFault;
 use fax_command::{Sink, Source, Status, WriteFault, write_text};
 use std::alloc::Global;
@@ -16,7 +18,7 @@ use std::alloc::Global;
 /// A script, or what is wrong.
 #[derive(Drop)]
 pub(crate) enum Answer {
-    Script(Vec<u8>),
+    Script(Made),
     Fault(ScriptFault),
 }
 
@@ -28,7 +30,7 @@ impl Answer {
         ensures handed_on { OnOk result (O.held_back sink.new ≡ false) }
     {
         match self {
-            Answer::Script(text) => write_text(sink, text.as_slice()),
+            Answer::Script(made) => write_text(sink, made.text.as_slice()),
             Answer::Fault(fault) => write_text(sink, fault.line()),
         }
     }
@@ -42,6 +44,16 @@ impl Answer {
             Answer::Fault(fault) => fault.status(),
         }
     }
+
+    /// How many datagrams came from whom, where the capture was read to its end.
+    pub fn counts(&self) -> Option<Counts>
+        ensures { result ≡ counts_of_answer self.now }
+    {
+        match self {
+            Answer::Script(made) => Some(made.counts),
+            Answer::Fault(fault) => fault.counts(),
+        }
+    }
 }
 
 /// The answer to the capture that a source gives, for the addresses of the caller and the called machine; None where a read
@@ -52,12 +64,12 @@ pub(crate) fn answer_to<I: Source>(
     caller: &Address,
     called: &Address,
 ) -> Option<Answer>
-    ensures answers { IfSome result (λ answer. IfSome (I.remaining source.old) (λ input. Answers caller.now called.now input (status_of_answer answer) (text_of_answer answer))) }
+    ensures answers { IfSome result (λ answer. IfSome (I.remaining source.old) (λ input. Answers caller.now called.now input (status_of_answer answer) (counts_of_answer answer) (text_of_answer answer))) }
     ensures failed { result ≡ None → I.reads source.old ≡ 0 → (I.failed source.new ≡ true) ⊎ (I.reads source.new ≡ greatest_count) }
     ensures unfailed { result ≢ None → I.failed source.new ≡ I.failed source.old }
 {
     match script_of(alloc, source, caller, called) {
-        Ok(text) => Some(Answer::Script(text)),
+        Ok(made) => Some(Answer::Script(made)),
         Err(ReadingFault::Script(fault)) => Some(Answer::Fault(fault)),
         Err(ReadingFault::Stream) => None,
     }

@@ -3,6 +3,7 @@
 
 mod address;
 mod answer;
+mod counts;
 mod reading;
 mod reading_fault;
 mod run;
@@ -10,4 +11,5 @@ mod script;
 mod script_fault;
 
 pub use address::{Address, Host};
-pub use run::run_capture;
+pub use counts::Counts;
+pub use run::{CaptureRun, run_capture};

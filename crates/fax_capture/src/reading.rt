@@ -11,7 +11,7 @@ ghost use Rattle.fax_capture.specs.Scripts.{TellsFound, Told};
 
 use crate::address::{Address, Role, role_of};
 use crate::reading_fault::ReadingFault;
-use crate::script::Script;
+use crate::script::{Made, Script};
 use crate::script_fault::ScriptFault;
 use fax_bits::NoMemory;
 use fax_command::{MOST_AT_ONCE, ReadFault, Source};
@@ -25,8 +25,8 @@ pub(crate) fn script_of<I: Source>(
     source: &mut I,
     caller: &Address,
     called: &Address,
-) -> Result<Vec<u8>, ReadingFault>
-    ensures ok { IfOk result (λ text. IfSome (I.remaining source.old) (λ input. Allows caller.now called.now input (Ok text.items))) }
+) -> Result<Made, ReadingFault>
+    ensures ok { IfOk result (λ made. IfSome (I.remaining source.old) (λ input. Allows caller.now called.now input (Ok (made.text.items, made.counts)))) }
     ensures err { IfErr result (λ e. IfSome (I.remaining source.old) (λ input. FailsSo caller.now called.now input e)) }
     ensures failed { result ≡ Err ReadingFault.Stream → I.reads source.old ≡ 0 → (I.failed source.new ≡ true) ⊎ (I.reads source.new ≡ greatest_count) }
     ensures unfailed { result ≢ Err ReadingFault.Stream → I.failed source.new ≡ I.failed source.old }
@@ -154,10 +154,10 @@ fn finish(
     capture: &Capture,
     left: &[u8],
     script: Script,
-) -> Result<Vec<u8>, ScriptFault>
+) -> Result<Made, ScriptFault>
     requires few { script.ticks ≤ 2 ^ 103 }
     ensures ok { (caller called : Address) (read : List ℕ) → HasRead caller called read capture.now script left.now
-        → IfOk result (λ text. Allows caller called read (Ok text.items)) }
+        → IfOk result (λ made. Allows caller called read (Ok (made.text.items, made.counts))) }
     ensures err { (caller called : Address) (read : List ℕ) → HasRead caller called read capture.now script left.now
         → IfErr result (λ e. Fails caller called read e) }
 {
@@ -165,7 +165,7 @@ fn finish(
         return Err(fault.into());
     }
     if script.is_empty() {
-        return Err(ScriptFault::NoAddress);
+        return Err(ScriptFault::NoAddress(script.counts()));
     }
     script.finish(alloc)
 }

@@ -7,6 +7,7 @@ ghost use Rattle.fax_capture.specs.Kept.{Holds};
 ghost use Rattle.fax_capture.specs.Scripts.{Told, only_ring, role_lines, script_lines, start_of, tick_line, tick_lines, tick_of, told_of, ticks_to};
 
 use crate::address::Role;
+use crate::counts::Counts;
 use crate::script_fault::ScriptFault;
 use fax_bits::NoMemory;
 use fax_command::MOST_OCTETS;
@@ -23,12 +24,21 @@ const TICKS_BEHIND: u128 = 1000;
 /// How many milliseconds pass from a tick to the next.
 const MILLISECONDS_OF_TICK: u128 = 40;
 
-/// A script: when the first of its datagrams was captured, where that is known, how many ticks were told, and its text.
+/// A script: when the first of its datagrams was captured, where that is known, how many ticks were told, its text, and how many
+/// datagrams came from whom.
 #[derive(Drop)]
 pub(crate) struct Script {
     start: Option<u128>,
     ticks: u128,
     text: Vec<u8>,
+    counts: Counts,
+}
+
+/// A script that was told to its end.
+#[derive(Drop)]
+pub(crate) struct Made {
+    pub text: Vec<u8>,
+    pub counts: Counts,
 }
 
 impl Script {
@@ -41,6 +51,7 @@ impl Script {
             start: None,
             ticks: 0,
             text: Vec::from_slice(alloc, b"R\n")?,
+            counts: Counts::new(),
         })
     }
 
@@ -51,7 +62,14 @@ impl Script {
         self.ticks == 0
     }
 
-    /// Tells a datagram, behind the ticks up to its own, unless it is unrelated.
+    /// How many datagrams came from whom.
+    pub fn counts(&self) -> Counts
+        ensures { result ≡ self.now.counts }
+    {
+        self.counts
+    }
+
+    /// Tells a datagram, behind the ticks up to its own, unless it is unrelated, and counts it.
     pub fn tell(
         &mut self,
         alloc: Global,
@@ -64,6 +82,7 @@ impl Script {
         ensures err { (told : Told) → Holds self.old told → IfErr result (λ e. Stops e (text_of_lines (told_of told captured.now role).lines)) }
     {
         if role == Role::Unrelated {
+            self.counts = self.counts.with(role);
             return Ok(());
         }
         let time = captured.time();
@@ -73,18 +92,23 @@ impl Script {
         push_datagram(alloc, &mut self.text, role, captured.datagram().octets())?;
         self.start = start;
         self.ticks = ticks;
+        self.counts = self.counts.with(role);
         Ok(())
     }
 
     /// The text, with the ticks behind the last datagram.
-    pub fn finish(self, alloc: Global) -> Result<Vec<u8>, ScriptFault>
+    pub fn finish(self, alloc: Global) -> Result<Made, ScriptFault>
         requires few { self.ticks ≤ 2 ^ 103 }
-        ensures ok { (told : Told) → Holds self told → IfOk result (λ text. text.items ≡ text_of_lines (script_lines told)) }
+        ensures text { (told : Told) → Holds self told → IfOk result (λ made. made.text.items ≡ text_of_lines (script_lines told)) }
+        ensures counts { IfOk result (λ made. made.counts ≡ self.counts) }
         ensures err { (told : Told) → Holds self told → IfErr result (λ e. Stops e (text_of_lines (script_lines told))) }
     {
         let mut text = self.text;
         push_ticks(alloc, &mut text, self.ticks, self.ticks + TICKS_BEHIND)?;
-        Ok(text)
+        Ok(Made {
+            text,
+            counts: self.counts,
+        })
     }
 }
 

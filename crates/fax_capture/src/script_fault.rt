@@ -1,8 +1,9 @@
 //! Why a capture gives no script, and the line that tells it.
 ghost use Rattle.std.specs.Prelude.{◌≡◌};
 ghost use Rattle.fax_command.specs.Statuses.{status_code};
-ghost use Rattle.fax_capture.specs.Answers.{capture_fault_line, fault_line, fault_status};
+ghost use Rattle.fax_capture.specs.Answers.{capture_fault_line, fault_counts, fault_line, fault_status};
 
+use crate::counts::Counts;
 use fax_bits::NoMemory;
 use fax_command::{MEMORY_LINE, Status};
 use fax_pcap::CaptureFault;
@@ -12,8 +13,8 @@ use fax_pcap::CaptureFault;
 pub(crate) enum ScriptFault {
     /// What is wrong with the capture, or want of memory.
     Capture(CaptureFault),
-    /// No datagram was sent by one of the two machines, or to one.
-    NoAddress,
+    /// Of the datagrams, so many, none was sent by one of the two machines, or to one.
+    NoAddress(Counts),
     /// The script has more octets than are read of one.
     TooLong,
 }
@@ -25,7 +26,7 @@ impl ScriptFault {
     {
         match self {
             ScriptFault::Capture(fault) => line_of_capture_fault(fault),
-            ScriptFault::NoAddress => b"fault 4 NoAddress\n",
+            ScriptFault::NoAddress(_) => b"fault 4 NoAddress\n",
             ScriptFault::TooLong => b"fault 5 TooLong\n",
         }
     }
@@ -37,6 +38,16 @@ impl ScriptFault {
         match self {
             ScriptFault::Capture(CaptureFault::NoMemory) => Status::NoMemory,
             _ => Status::Fault,
+        }
+    }
+
+    /// How many datagrams came from whom, where the capture was read to its end.
+    pub fn counts(self) -> Option<Counts>
+        ensures { result ≡ fault_counts self }
+    {
+        match self {
+            ScriptFault::NoAddress(counts) => Some(counts),
+            ScriptFault::Capture(_) | ScriptFault::TooLong => None,
         }
     }
 }

@@ -2,6 +2,7 @@
 //! streams, files, sockets and the clock that it is handed, and tells what failed on the standard error.
 #![tactic(auto)]
 
+mod captures;
 mod failures;
 mod pictures;
 mod refusals;

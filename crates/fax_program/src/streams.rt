@@ -1,6 +1,7 @@
 //! The commands that answer an input: over the streams of the process.
 ghost use Rattle.fax_gateway.specs.Setups.{AreAllowed};
 
+use crate::captures::tell_counts;
 use crate::failures::{tell_loop, tell_streams};
 use crate::pictures::Pictures;
 use fax_capture::run_capture;
@@ -71,16 +72,24 @@ fn explain<R: Eprint + AllocGlobal, H: Files, I: Source, O: Sink>(
     }
 }
 
-/// Runs `faxgate capture`.
+/// Runs `faxgate capture`. An address of which nothing came is told, and how many datagrams were passed over.
 pub(crate) fn answer_capture<R: Print + Eprint + Input + AllocGlobal>(
     rt: &R,
     machines: Machines,
 ) -> u8 {
-    let Machines { caller, called } = machines;
     let mut source = StdSource::new(rt.reader());
     let mut sink = StdSink::new(io::writer(rt));
-    let status = run_capture(rt.alloc(), &mut source, &mut sink, &caller, &called);
-    tell_streams(rt, status, &source, &sink)
+    let run = run_capture(
+        rt.alloc(),
+        &mut source,
+        &mut sink,
+        &machines.caller,
+        &machines.called,
+    );
+    if let Some(counts) = run.counts {
+        tell_counts(rt, machines, counts);
+    }
+    tell_streams(rt, run.status, &source, &sink)
 }
 
 /// Runs `faxgate loop`.

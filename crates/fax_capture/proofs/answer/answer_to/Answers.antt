@@ -3,7 +3,7 @@ use Rattle.fax_capture.proofs.answer.answer_to.Goals as goal
 
 pub returns-in-Ok-clause-answers : goal.returns-in-Ok-clause-answers
 returns-in-Ok-clause-answers g c =
-    Answers-script c.args.caller.now c.args.called.now (g.I.Source.remaining c.args.source.now) c.in-Ok.text.items c.in-Ok.ensures.ok
+    Answers-script c.args.caller.now c.args.called.now (g.I.Source.remaining c.args.source.now) c.in-Ok.made.text.items c.in-Ok.made.counts c.in-Ok.ensures.ok
 
 pub returns-in-Err-Script-clause-answers : goal.returns-in-Err-Script-clause-answers
 returns-in-Err-Script-clause-answers g c =

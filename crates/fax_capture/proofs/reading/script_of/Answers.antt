@@ -40,7 +40,7 @@ returns-in-Ok-eq0-clause-ok g c =
     let remaining = g.I.Source.remaining in
     let none : c.in-Ok-eq0.field-0 ≡ 0 = first_of (omega arith, search rules, grind (arith, common_steps)) in
     let some : 0 < length c.read.new.buffer = first_of (omega arith, search rules, grind (arith, common_steps)) in
-    ended (λ (input : List ℕ). Allows caller called input (Ok c.in_ok-finish-in-Ok-eq0.field-0.items)) (remaining c.args.source.now) (remaining c.loop.source) (remaining c.read.new.self) inv.read c.read.new.buffer c.in-Ok-eq0.field-0
+    ended (λ (input : List ℕ). Allows caller called input (Ok (c.in_ok-finish-in-Ok-eq0.field-0.text.items, c.in_ok-finish-in-Ok-eq0.field-0.counts))) (remaining c.args.source.now) (remaining c.loop.source) (remaining c.read.new.self) inv.read c.read.new.buffer c.in-Ok-eq0.field-0
     inv.consumed c.in-Ok-eq0.ensures.octets none some
     (c.in_ok-finish-in-Ok-eq0.ensures.ok caller called inv.read (HasRead-same caller called inv.read inv.read c.loop.capture c.loop.capture c.loop.script c.loop.script c.loop.left.items c.as_slice.result.now inv.has refl refl refl c.as_slice.ensures.value))
 
