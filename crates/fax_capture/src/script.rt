@@ -100,7 +100,7 @@ impl Script {
     pub fn finish(self, alloc: Global) -> Result<Made, ScriptFault>
         requires few { self.ticks ≤ 2 ^ 103 }
         ensures text { (told : Told) → Holds self told → IfOk result (λ made. made.text.items ≡ text_of_lines (script_lines told)) }
-        ensures counts { IfOk result (λ made. made.counts ≡ self.counts) }
+        ensures counts { (told : Told) → Holds self told → IfOk result (λ made. made.counts ≡ told.counts) }
         ensures err { (told : Told) → Holds self told → IfErr result (λ e. Stops e (text_of_lines (script_lines told))) }
     {
         let mut text = self.text;
