@@ -1,0 +1,4 @@
+pub mod AnswerLemmas
+pub mod FieldLemmas
+pub mod PartLemmas
+pub mod TextLemmas
