@@ -21,6 +21,8 @@ mod runcodes;
 #[cfg(test)]
 mod sdp;
 #[cfg(test)]
+mod sip;
+#[cfg(test)]
 mod timers;
 #[cfg(test)]
 mod udptl;
