@@ -50,7 +50,8 @@ pub fn run_capture<I: Source, O: Sink>(
 
 /// A run that a stream failed.
 fn failed() -> CaptureRun
-    ensures { result ≡ record { status = 4; counts = None } }
+    ensures status { result.status ≡ 4 }
+    ensures counts { result.counts ≡ None }
 {
     CaptureRun {
         status: Status::Stream.code(),
