@@ -4,3 +4,4 @@ mod Passings
 mod Restoring
 mod Histories
 mod Crossings
+mod Openings

@@ -46,6 +46,11 @@ pub record ServedKept {D K : Type 0} (same : K → K → Type 0) (puts : List Pa
   pub restored : AreRestored (whole_pages opened.torn.items opened.pages.items) configs begun (shelves_of keeper)
   pub run : RanKept same puts notes ends begun keeper
 
+-- the same, and this was its spool as it was opened
+pub record ServedWith {D K : Type 0} (same : K → K → Type 0) (puts : List PageToKeep → Bool → K → K → Type 0) (notes : ℕ → ℕ → K → K → Type 0) (ends : ℕ → Report → K → K → Type 0) (spool_of : K → Spool D) (shelves_of : K → List ShelfValue) (configs : List LineConfig) (opened : Opened D) : Type 0 where
+  pub served : ServedKept same puts notes ends spool_of shelves_of configs
+  pub is : served.opened ≡ opened
+
 -- A SERVER RAN OVER THESE FILES: it ran, and the spool that it opened was opened over two files that held this, where no wrong answer of
 -- either was taken as true.
 pub record ServedOver {D K : Type 0} (seen : D → List ℕ) (may_leave : D → List ℕ → Type 0) (is_usable is_clean : D → Bool) (same : K → K → Type 0) (puts : List PageToKeep → Bool → K → K → Type 0) (notes : ℕ → ℕ → K → K → Type 0) (ends : ℕ → Report → K → K → Type 0) (spool_of : K → Spool D) (shelves_of : K → List ShelfValue) (one other : List ℕ) (configs : List LineConfig) : Type 0 where

@@ -23,6 +23,6 @@ pub use keeper::SpoolKeeper;
 pub use pace::RealPace;
 pub use run::{run_serve, serve_clients};
 pub use schedule::Schedule;
-pub use sockets::{ServedLines, SocketLegs, open_lines};
+pub use sockets::{OpenedWire, ServedWire, SocketLegs, SocketWire, open_lines};
 pub use unserved::answer_unserved;
 pub use watch::Watch;

@@ -1,7 +1,7 @@
 //! A run of `faxgate serve`.
 ghost use Rattle.std.specs.Prelude.{◌≡◌, IfOk, None, OnOk, true, false, is_some, length};
 ghost use Rattle.fax_line.specs.Deeds.{AreBegun, AreNew};
-ghost use Rattle.fax_serve.specs.KeptRuns.{RanKept, ServedOver};
+ghost use Rattle.fax_serve.specs.KeptRuns.{RanKept, ServedOver, ServedWith};
 ghost use Rattle.fax_serve.specs.Runs.{ServedAlone};
 
 use crate::clock::Stopwatch;
@@ -9,14 +9,14 @@ use crate::control::{close_control, open_control};
 use crate::fault::ServeFault;
 use crate::keeper::SpoolKeeper;
 use crate::pace::RealPace;
-use crate::sockets::{ServedLines, open_lines, open_restored_lines};
+use crate::sockets::{ServedWire, SocketLegs, SocketWire, open_lines, open_restored_lines};
 use crate::watch::Watch;
 use fax_clients::Clients;
 use fax_config::{Config, LineConfig};
 use fax_desk::{Card, Damage, Desk, RunEnd};
-use fax_hold::Keeper;
+use fax_hold::{HoldingWire, Keeper};
 use fax_keep::{Folders, KeptFile};
-use fax_line::{PageToKeep, RunKeeper, serve};
+use fax_line::{Lines, PageToKeep, RunKeeper, serve};
 use fax_shelf::Keeping;
 use fax_spool::Opened;
 use sqlite_disk::{Disk, Start};
@@ -73,9 +73,30 @@ pub fn serve_clients<N: Net + Clock + Folders, I: Read + Drop, O: Write + Drop, 
     ensures alone { OnOk result (ServedAlone (length config.now.lines.items) (is_some config.now.spool)) }
     ensures kept { OnOk result (is_some config.now.spool ≡ true → ServedOver ⟦<KeptFile<S> as Disk>⟧.seen ⟦<KeptFile<S> as Disk>⟧.may_leave ⟦<KeptFile<S> as Disk>⟧.is_usable ⟦<KeptFile<S> as Disk>⟧.is_clean ⟦<SpoolKeeper<KeptFile<S>> as RunKeeper>⟧.is_same ⟦<SpoolKeeper<KeptFile<S>> as Keeper<PageToKeep>>⟧.puts ⟦<SpoolKeeper<KeptFile<S>> as RunKeeper>⟧.notes ⟦<SpoolKeeper<KeptFile<S>> as RunKeeper>⟧.ends (λ keeper. keeper.keeping.spool) (λ keeper. keeper.keeping.shelves.items) S.db S.log config.now.lines.items) }
 {
+    serve_over::<ServedWire, N, I, O, S>(system, alloc, config, clients, spool_failures, start)
+}
+
+/// The same over wires of this type.
+fn serve_over<
+    W: SocketWire + Drop,
+    N: Net + Clock + Folders,
+    I: Read + Drop,
+    O: Write + Drop,
+    S: Start,
+>(
+    system: &N,
+    alloc: Global,
+    config: &Config,
+    clients: Clients<I, O>,
+    spool_failures: u64,
+    start: S,
+) -> Result<RunEnd, ServeFault>
+    ensures alone { OnOk result (ServedAlone (length config.now.lines.items) (is_some config.now.spool)) }
+    ensures kept { OnOk result (is_some config.now.spool ≡ true → ServedOver ⟦<KeptFile<S> as Disk>⟧.seen ⟦<KeptFile<S> as Disk>⟧.may_leave ⟦<KeptFile<S> as Disk>⟧.is_usable ⟦<KeptFile<S> as Disk>⟧.is_clean ⟦<SpoolKeeper<KeptFile<S>> as RunKeeper>⟧.is_same ⟦<SpoolKeeper<KeptFile<S>> as Keeper<PageToKeep>>⟧.puts ⟦<SpoolKeeper<KeptFile<S>> as RunKeeper>⟧.notes ⟦<SpoolKeeper<KeptFile<S>> as RunKeeper>⟧.ends (λ keeper. keeper.keeping.spool) (λ keeper. keeper.keeping.shelves.items) S.db S.log config.now.lines.items) }
+{
     match &config.spool {
-        None => serve_in_memory(system, alloc, config, clients, start),
-        Some(folder) => serve_spooled(
+        None => serve_in_memory::<W, N, I, O, KeptFile<S>>(system, alloc, config, clients),
+        Some(folder) => serve_spooled::<W, N, I, O, S>(
             system,
             alloc,
             config,
@@ -87,25 +108,31 @@ pub fn serve_clients<N: Net + Clock + Folders, I: Read + Drop, O: Write + Drop, 
     }
 }
 
-/// The same where pages are kept in memory alone.
-fn serve_in_memory<N: Net + Clock, I: Read + Drop, O: Write + Drop, S: Start>(
-    system: &N,
-    alloc: Global,
-    config: &Config,
-    clients: Clients<I, O>,
-    _start: S,
-) -> Result<RunEnd, ServeFault>
+/// The same where pages are kept in memory alone, and on no disk of this type.
+fn serve_in_memory<
+    W: SocketWire + Drop,
+    N: Net + Clock,
+    I: Read + Drop,
+    O: Write + Drop,
+    D: Disk + Drop,
+>(system: &N, alloc: Global, config: &Config, clients: Clients<I, O>) -> Result<RunEnd, ServeFault>
     ensures { OnOk result (ServedAlone (length config.now.lines.items) false) }
 {
-    let lines = open_lines(system, alloc, config.lines.as_slice())?;
+    let lines: Lines<HoldingWire<W>> = open_lines(system, alloc, config.lines.as_slice())?;
     let mut pace = pace_of(system, alloc, config, clients, &lines, 0)?;
-    serve_new::<N, I, O, S>(lines, &mut pace);
+    serve_new::<W, N, I, O, D>(lines, &mut pace);
     Ok(pace.finish())
 }
 
 /// The same where pages are kept in the spool of this folder: each line begins with those of its own that wait there, but for calls that
 /// lack a page.
-fn serve_spooled<N: Net + Clock + Folders, I: Read + Drop, O: Write + Drop, S: Start>(
+fn serve_spooled<
+    W: SocketWire + Drop,
+    N: Net + Clock + Folders,
+    I: Read + Drop,
+    O: Write + Drop,
+    S: Start,
+>(
     system: &N,
     alloc: Global,
     config: &Config,
@@ -117,6 +144,28 @@ fn serve_spooled<N: Net + Clock + Folders, I: Read + Drop, O: Write + Drop, S: S
     ensures alone { OnOk result (ServedAlone (length config.now.lines.items) true) }
     ensures kept { OnOk result (ServedOver ⟦<KeptFile<S> as Disk>⟧.seen ⟦<KeptFile<S> as Disk>⟧.may_leave ⟦<KeptFile<S> as Disk>⟧.is_usable ⟦<KeptFile<S> as Disk>⟧.is_clean ⟦<SpoolKeeper<KeptFile<S>> as RunKeeper>⟧.is_same ⟦<SpoolKeeper<KeptFile<S>> as Keeper<PageToKeep>>⟧.puts ⟦<SpoolKeeper<KeptFile<S>> as RunKeeper>⟧.notes ⟦<SpoolKeeper<KeptFile<S>> as RunKeeper>⟧.ends (λ keeper. keeper.keeping.spool) (λ keeper. keeper.keeping.shelves.items) S.db S.log config.now.lines.items) }
 {
+    let opened = system.open_spool(folder, start)?;
+    serve_opened::<W, N, I, O, KeptFile<S>>(system, alloc, config, clients, opened, spool_failures)
+}
+
+/// The same where the spool is open.
+fn serve_opened<
+    W: SocketWire + Drop,
+    N: Net + Clock,
+    I: Read + Drop,
+    O: Write + Drop,
+    D: Disk + Drop,
+>(
+    system: &N,
+    alloc: Global,
+    config: &Config,
+    clients: Clients<I, O>,
+    opened: Opened<D>,
+    spool_failures: u64,
+) -> Result<RunEnd, ServeFault>
+    ensures alone { OnOk result (ServedAlone (length config.now.lines.items) true) }
+    ensures kept { OnOk result (ServedWith ⟦<SpoolKeeper<D> as RunKeeper>⟧.is_same ⟦<SpoolKeeper<D> as Keeper<PageToKeep>>⟧.puts ⟦<SpoolKeeper<D> as RunKeeper>⟧.notes ⟦<SpoolKeeper<D> as RunKeeper>⟧.ends (λ keeper. keeper.keeping.spool) (λ keeper. keeper.keeping.shelves.items) config.now.lines.items opened) }
+{
     let Opened {
         spool,
         pages,
@@ -125,9 +174,9 @@ fn serve_spooled<N: Net + Clock + Folders, I: Read + Drop, O: Write + Drop, S: S
         newer_damaged,
         older_passed_over,
         newer_passed_over,
-    } = system.open_spool(folder, start)?;
+    } = opened;
     let mut shelves = Vec::new(alloc);
-    let lines = open_restored_lines(
+    let lines: Lines<HoldingWire<W>> = open_restored_lines(
         system,
         alloc,
         config.lines.as_slice(),
@@ -154,12 +203,12 @@ fn serve_spooled<N: Net + Clock + Folders, I: Read + Drop, O: Write + Drop, S: S
 }
 
 /// What gives the orders to these lines, whose spool has failed so often before.
-fn pace_of<'a, N: Net + Clock, I: Read + Drop, O: Write + Drop>(
+fn pace_of<'a, W: SocketLegs + Drop, N: Net + Clock, I: Read + Drop, O: Write + Drop>(
     system: &'a N,
     alloc: Global,
     config: &Config,
     clients: Clients<I, O>,
-    lines: &ServedLines,
+    lines: &Lines<W>,
     spool_failures: u64,
 ) -> Result<RealPace<'a, N, I, O>, ServeFault>
     ensures { IfOk result (λ pace. pace.waits ≡ None) }
@@ -183,29 +232,29 @@ fn pace_of<'a, N: Net + Clock, I: Read + Drop, O: Write + Drop>(
 }
 
 /// Serves lines that are new.
-fn serve_new<C: Clock, I: Read + Drop, O: Write + Drop, S: Start>(
-    mut lines: ServedLines,
+fn serve_new<W: SocketWire + Drop, C: Clock, I: Read + Drop, O: Write + Drop, D: Disk + Drop>(
+    mut lines: Lines<HoldingWire<W>>,
     pace: &mut RealPace<'_, C, I, O>,
 )
     requires new { AreNew lines.lines }
     requires idle { pace.old.waits ≡ None }
     ensures { ServedAlone (length lines.lines) false }
 {
-    let mut keeper: Option<SpoolKeeper<KeptFile<S>>> = None;
+    let mut keeper: Option<SpoolKeeper<D>> = None;
     serve(&mut lines, &mut keeper, pace);
 }
 
 /// Serves lines that begin with the pages that wait.
-fn serve_restored<C: Clock, I: Read + Drop, O: Write + Drop, S: Start>(
-    mut lines: ServedLines,
-    keeper: SpoolKeeper<KeptFile<S>>,
+fn serve_restored<W: SocketWire + Drop, C: Clock, I: Read + Drop, O: Write + Drop, D: Disk + Drop>(
+    mut lines: Lines<HoldingWire<W>>,
+    keeper: SpoolKeeper<D>,
     pace: &mut RealPace<'_, C, I, O>,
 )
     requires begun { AreBegun lines.lines }
     requires first { lines.slot ≡ 0 }
     requires idle { pace.old.waits ≡ None }
     ensures alone { ServedAlone (length lines.lines) true }
-    ensures kept { RanKept ⟦<SpoolKeeper<KeptFile<S>> as RunKeeper>⟧.is_same ⟦<SpoolKeeper<KeptFile<S>> as Keeper<PageToKeep>>⟧.puts ⟦<SpoolKeeper<KeptFile<S>> as RunKeeper>⟧.notes ⟦<SpoolKeeper<KeptFile<S>> as RunKeeper>⟧.ends lines.lines keeper }
+    ensures kept { RanKept ⟦<SpoolKeeper<D> as RunKeeper>⟧.is_same ⟦<SpoolKeeper<D> as Keeper<PageToKeep>>⟧.puts ⟦<SpoolKeeper<D> as RunKeeper>⟧.notes ⟦<SpoolKeeper<D> as RunKeeper>⟧.ends lines.lines keeper }
 {
     let mut keeper = Some(keeper);
     serve(&mut lines, &mut keeper, pace);

@@ -2,6 +2,7 @@
 ghost use Rattle.std.specs.Prelude.{◌≡◌, ◌+◌, [], IfOk, OnOk, length, map};
 ghost use Rattle.fax_gateway.specs.Setups.{AreAllowed};
 ghost use Rattle.fax_gateway.specs.Restored.{call_shown};
+ghost use Rattle.fax_hold.specs.Keeping.{HasSent};
 ghost use Rattle.fax_line.specs.Actions.{BeginsWith};
 ghost use Rattle.fax_line.specs.Deeds.{AreBegun, AreNew};
 ghost use Rattle.fax_shelf.specs.OnLeg.{HasDoneOn};
@@ -17,20 +18,15 @@ use fax_hold::{HoldingWire, LineWire};
 use fax_legs::{LegSocket, UdpWire};
 use fax_line::{Line, Lines};
 use fax_pagestore::PackedRows;
-use fax_repeat::{RepeatPolicy, RepeatingWire};
+use fax_repeat::{RepeatPolicy, RepeatingWire, TimedWire};
 use fax_shelf::{Restored, Shelf, restore_line};
 use fax_spool::{CallName, WaitingPage};
 use std::alloc::Global;
 use std::io;
 use std::net::{Net, UdpSocket};
 
-/// The wire of a line that is served.
-pub type ServedWire = HoldingWire<RepeatingWire<UdpWire<UdpSocket>>>;
-
-/// A line that is served, and all of them.
-pub type ServedLine = Line<HoldingWire<RepeatingWire<UdpWire<UdpSocket>>>>;
-
-pub type ServedLines = Lines<HoldingWire<RepeatingWire<UdpWire<UdpSocket>>>>;
+/// The sockets of a line that is served, whose datagrams are sent again.
+pub type ServedWire = RepeatingWire<UdpWire<UdpSocket>>;
 
 /// The most of the packets before its own that a datagram has.
 const MOST_REDUNDANCY: u16 = 8;
@@ -40,12 +36,67 @@ const LEAST_PREAMBLE_MS: u16 = 40;
 
 const MOST_PREAMBLE_MS: u16 = 2_000;
 
+/// A wire over the sockets of both legs of a line.
+pub trait SocketWire: TimedWire + Sized {
+    /// Opens the sockets of a line, through which nothing went out so far. An `Err` names the line and the leg whose socket could not be
+    /// opened.
+    fn open<N: Net>(net: &N, alloc: Global, config: &LineConfig) -> Result<Self, ServeFault>
+        ensures { IfOk result (λ wire. HasSent [] (Self.known wire).sent) };
+
+    /// The socket of a leg.
+    fn leg(&self, side: Side) -> &LegSocket<UdpSocket>;
+}
+
+impl SocketWire for RepeatingWire<UdpWire<UdpSocket>> {
+    fn open<N: Net>(net: &N, alloc: Global, config: &LineConfig) -> Result<Self, ServeFault> {
+        let wire = open_wire(net, alloc, config)?;
+        Ok(RepeatingWire::new(wire, policy_of(config.repeat)))
+    }
+
+    fn leg(&self, side: Side) -> &LegSocket<UdpSocket> {
+        self.wire().leg(side)
+    }
+}
+
+/// A wire of a line whose legs are sockets.
+pub trait SocketLegs: LineWire {
+    /// The socket of a leg.
+    fn leg(&self, side: Side) -> &LegSocket<UdpSocket>;
+
+    /// Whether nothing goes out on the calling leg, since a page could not be kept.
+    fn is_mute(&self) -> bool;
+}
+
+impl<W: SocketWire + Drop> SocketLegs for HoldingWire<W> {
+    fn leg(&self, side: Side) -> &LegSocket<UdpSocket> {
+        self.wire().leg(side)
+    }
+
+    fn is_mute(&self) -> bool {
+        HoldingWire::is_mute(self)
+    }
+}
+
+/// A wire of a line that is opened over its sockets, and holds nothing back so far.
+pub trait OpenedWire: SocketLegs + Sized {
+    /// Opens the sockets of a line. An `Err` names the line and the leg whose socket could not be opened.
+    fn open<N: Net>(net: &N, alloc: Global, config: &LineConfig) -> Result<Self, ServeFault>
+        ensures { IfOk result (λ wire. HasDoneOn [] (Self.holding wire)) };
+}
+
+impl<W: SocketWire + Drop> OpenedWire for HoldingWire<W> {
+    fn open<N: Net>(net: &N, alloc: Global, config: &LineConfig) -> Result<Self, ServeFault> {
+        let wire = W::open(net, alloc, config)?;
+        Ok(HoldingWire::new(alloc, wire))
+    }
+}
+
 /// Opens the sockets of all lines. An `Err` names the line and the leg whose socket could not be opened.
-pub fn open_lines<N: Net>(
+pub fn open_lines<W: OpenedWire + Drop, N: Net>(
     net: &N,
     alloc: Global,
     configs: &[LineConfig],
-) -> Result<ServedLines, ServeFault>
+) -> Result<Lines<W>, ServeFault>
     ensures new { IfOk result (λ lines. AreNew lines.lines) }
     ensures first { IfOk result (λ lines. lines.slot ≡ 0) }
     ensures as_many { IfOk result (λ lines. length lines.lines ≡ length configs.now) }
@@ -56,14 +107,14 @@ pub fn open_lines<N: Net>(
 
 /// The same behind a crash, where these pages wait and these calls lack one: each line begins with its own, but for those calls. What is
 /// known of the pages of each is added to these shelves.
-pub(crate) fn open_restored_lines<N: Net>(
+pub(crate) fn open_restored_lines<W: OpenedWire + Drop, N: Net>(
     net: &N,
     alloc: Global,
     configs: &[LineConfig],
     pages: &[WaitingPage],
     torn: &[CallName],
     shelves: &mut Vec<Shelf>,
-) -> Result<ServedLines, ServeFault>
+) -> Result<Lines<W>, ServeFault>
     ensures begun { IfOk result (λ lines. AreBegun lines.lines) }
     ensures new { pages.now ≡ [] → IfOk result (λ lines. AreNew lines.lines) }
     ensures first { IfOk result (λ lines. lines.slot ≡ 0) }
@@ -78,13 +129,13 @@ pub(crate) fn open_restored_lines<N: Net>(
 }
 
 /// Opens the sockets of a line, which joins the others; it begins with its own of these pages, but for those of calls that lack one.
-fn add_line<N: Net>(
+fn add_line<W: OpenedWire + Drop, N: Net>(
     net: &N,
     alloc: Global,
     config: &LineConfig,
     pages: &[WaitingPage],
     torn: &[CallName],
-    lines: &mut ServedLines,
+    lines: &mut Lines<W>,
     shelves: &mut Vec<Shelf>,
 ) -> Result<(), ServeFault>
     ensures begun { OnOk result (AreBegun lines.old.lines → AreBegun lines.new.lines) }
@@ -101,19 +152,17 @@ fn add_line<N: Net>(
 }
 
 /// Opens the sockets of a line, which is restored with these calls.
-fn open_line<N: Net>(
+fn open_line<W: OpenedWire + Drop, N: Net>(
     net: &N,
     alloc: Global,
     config: &LineConfig,
     calls: Vec<RestoredCall<PackedRows>>,
-) -> Result<ServedLine, ServeFault>
+) -> Result<Line<W>, ServeFault>
     ensures begins { IfOk result (λ line. BeginsWith (map call_shown calls.items) line) }
     ensures fresh { IfOk result (λ line. HasDoneOn [] line.holding) }
     ensures settings { IfOk result (λ line. line.gateway.settings ≡ settings_by config.now) }
 {
-    let wire = open_wire(net, alloc, config)?;
-    let wire = RepeatingWire::new(wire, policy_of(config.repeat));
-    let wire = HoldingWire::new(alloc, wire);
+    let wire = W::open(net, alloc, config)?;
     Ok(Line::restore(alloc, settings_of(config), calls, wire)?)
 }
 
@@ -138,25 +187,6 @@ fn leg_fault(alloc: Global, config: &LineConfig, leg: Leg, error: io::Error) -> 
     match String::from_str(alloc, config.name.as_str()) {
         Ok(name) => ServeFault::Leg(name, leg, error),
         Err(_) => ServeFault::NoMemory,
-    }
-}
-
-/// A wire of a line whose legs are sockets.
-pub trait SocketLegs: LineWire {
-    /// The socket of a leg.
-    fn leg(&self, side: Side) -> &LegSocket<UdpSocket>;
-
-    /// Whether nothing goes out on the calling leg, since a page could not be kept.
-    fn is_mute(&self) -> bool;
-}
-
-impl SocketLegs for HoldingWire<RepeatingWire<UdpWire<UdpSocket>>> {
-    fn leg(&self, side: Side) -> &LegSocket<UdpSocket> {
-        self.wire().wire().leg(side)
-    }
-
-    fn is_mute(&self) -> bool {
-        HoldingWire::is_mute(self)
     }
 }
 
