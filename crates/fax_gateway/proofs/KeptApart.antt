@@ -1,5 +1,5 @@
--- The datagrams of each leg stand at least 40 ms apart.
-use Rattle.std.proofs.Common.{◌≡◌, ℕ, ◌+◌, ◌≤◌, max, min, Bool, true, false, not, is_some, List, [], ◌∷◌, ◌++◌, Option, Some, None, Result, Ok, Err, option_map, refl, sym, ◌∙◌, ap, subst, arith, if◌then◌else◌}
+-- The datagrams of each leg stand at least 40 ms apart, and behind a preamble as far as is set.
+use Rattle.std.proofs.Common.{◌≡◌, ℕ, ◌+◌, ◌≤◌, max, min, Bool, true, false, not, List, [], ◌∷◌, ◌++◌, Option, Some, None, Result, Ok, Err, option_map, refl, sym, ◌∙◌, ap, subst, arith, if◌then◌else◌}
 use Rattle.std.proofs.lemmas.Bool.{leb-true}
 use Rattle.fax_timers.specs.declared.pace.LastPacket.{LastPacket}
 use Rattle.fax_timers.specs.Moments.{is_due}
@@ -30,42 +30,49 @@ use Rattle.fax_gateway.specs.CalledLegs as called_legs
 use Rattle.fax_gateway.specs.CalledLegs.{CalledLeg, core_left, begun_core, calls, comes_to, leg_ticked, hears, with_tick, told_called}
 use Rattle.fax_gateway.specs.Sides.{Sides, begins_next, heard_in_tick, leg_of, sends, sends_if, book_of, sides, in_tick}
 use Rattle.fax_gateway.specs.Traces.{IsTrace}
-use Rattle.fax_gateway.specs.Apart.{if_given, last_given, IsApart, DatagramsAreApart}
+use Rattle.fax_gateway.specs.Apart.{LastGiven, if_given, last_given, HasPreamble, IsApart, DatagramsAreApart}
+use Rattle.fax_gateway.proofs.Preambles.{preamble_answered, preamble_called}
 
--- A PACE: its pause is that of the setup, and it lets nothing through for 40 ms behind the datagram given last
-abbrev Holds : Option LastPacket → Option ℕ → Type 0
-Holds packet None = Unit {0}
-Holds packet (Some before) = before + 40 ≤ allowed_from packet
+-- A PACE: its pause is that of the setup, and it lets nothing through for 40 ms behind the datagram given last, and behind a
+-- preamble for that pause
+abbrev Holds : Setup → Option LastPacket → Option LastGiven → Type 0
+Holds setup packet None = Unit {0}
+Holds setup packet (Some last) = (last.at + 40 ≤ allowed_from packet) × (HasPreamble last.octets → last.at + setup.pause ≤ allowed_from packet)
 
-record IsPaced (setup : Setup) (p : PaceValue) (last : Option ℕ) : Type 0 where
+record IsPaced (setup : Setup) (p : PaceValue) (last : Option LastGiven) : Type 0 where
   pause : p.pause ≡ setup.pause
-  holds : Holds p.last last
+  holds : Holds setup p.last last
 
 allowed : (packet : Option LastPacket) (now : ℕ) → pace_allows packet now ≡ true → allowed_from packet ≤ now
 allowed None now h = omega arith
 allowed (Some p) now h = leb-true (p.at + p.span) now h
 
-apart : (packet : Option LastPacket) (last : Option ℕ) (now : ℕ) → Holds packet last → pace_allows packet now ≡ true → IsApart last now
-apart packet None now h a = tt
-apart packet (Some before) now h a = omega (arith, h, allowed packet now a)
+apart : (setup : Setup) (packet : Option LastPacket) (last : Option LastGiven) (now : ℕ) → Holds setup packet last → pace_allows packet now ≡ true → IsApart setup last now
+apart setup packet None now h a = tt
+apart setup packet (Some last) now h a = (omega (arith, h.0, allowed packet now a), λ e. omega (arith, h.1 e, allowed packet now a))
 
--- a packet is given at a moment, where the pace allows, or none is
-abbrev Moves : (given : Bool) → PaceValue → ℕ → PaceValue → Type 0
-Moves false p now q = q ≡ p
-Moves true p now q = (pace_allows p.last now ≡ true) × (b : Bool) × (q ≡ pace_behind b p now)
+-- a datagram is given at a moment, where the pace allows, and moves it as a preamble where its packet is one; or none is
+abbrev Moves : (given : Option (List ℕ)) → PaceValue → ℕ → PaceValue → Type 0
+Moves None p now q = q ≡ p
+Moves (Some octets) p now q = (pace_allows p.last now ≡ true) × (b : Bool) × (q ≡ pace_behind b p now) × (HasPreamble octets → b ≡ true)
 
 span_is : (setup : Setup) (p : PaceValue) (now : ℕ) (b : Bool) → p.pause ≡ setup.pause → now + 40 ≤ allowed_from (pace_behind b p now).last
 span_is setup p now true e = omega (arith, e, setup.is_pause.0)
 span_is setup p now false e = omega arith
 
-paced_on : (setup : Setup) (p q : PaceValue) (now : ℕ) (last : Option ℕ) (o : Option (List ℕ)) → Moves (is_some o) p now q → IsPaced setup p last → IsPaced setup q (if_given o now last)
-paced_on setup p q now last None m i = subst (λ (x : PaceValue). IsPaced setup x last) (sym m) i
-paced_on setup p q now last (Some d) m i =
-    subst (λ (x : PaceValue). IsPaced setup x (Some now)) (sym m.2) (record { pause = i.pause; holds = span_is setup p now m.1 i.pause })
+pause_is : (setup : Setup) (p : PaceValue) (now : ℕ) (b : Bool) → p.pause ≡ setup.pause → b ≡ true → now + setup.pause ≤ allowed_from (pace_behind b p now).last
+pause_is setup p now true e t = omega (arith, e, setup.is_pause.1)
+pause_is setup p now false e t = cc
 
-apart_now : (setup : Setup) (p q : PaceValue) (now : ℕ) (last : Option ℕ) (o : Option (List ℕ)) (datagram : List ℕ) → Moves (is_some o) p now q → IsPaced setup p last → o ≡ Some datagram → IsApart last now
+paced_on : (setup : Setup) (p q : PaceValue) (now : ℕ) (last : Option LastGiven) (o : Option (List ℕ)) → Moves o p now q → IsPaced setup p last → IsPaced setup q (if_given o now last)
+paced_on setup p q now last None m i = subst (λ (x : PaceValue). IsPaced setup x last) (sym m) i
+paced_on setup p q now last (Some octets) m i =
+    subst (λ (x : PaceValue). IsPaced setup x (Some (record { at = now; octets = octets }))) (sym m.2)
+    (record { pause = i.pause; holds = (span_is setup p now m.1 i.pause, λ h. pause_is setup p now m.1 i.pause (m.3 h)) })
+
+apart_now : (setup : Setup) (p q : PaceValue) (now : ℕ) (last : Option LastGiven) (o : Option (List ℕ)) (datagram : List ℕ) → Moves o p now q → IsPaced setup p last → o ≡ Some datagram → IsApart setup last now
 apart_now setup p q now last None datagram m i e = cc
-apart_now setup p q now last (Some d) datagram m i e = apart p.last last now i.holds m.0
+apart_now setup p q now last (Some d) datagram m i e = apart setup p.last last now i.holds m.0
 
 -- THE CALLING LEG
 either_pace : (b : Bool) (p : PaceValue) (x y : Answering) → x.pace ≡ p → y.pace ≡ p → (if b then x else y).pace ≡ p
@@ -84,13 +91,18 @@ timed_in_pace Again a now = either_pace (is_due a.timers.t2 now) a.pace (identif
 timed_pace : (a : Answering) (now : ℕ) → (answer.timed a now).pace ≡ a.pace
 timed_pace a now = either_pace (is_waiting a.waiting) a.pace a (timed_in a.state a now) refl (timed_in_pace a.state a now)
 
+-- a packet is given, where the pace allows, or none is
+abbrev WaitingMoves : (given : Option Waiting) → PaceValue → ℕ → PaceValue → Type 0
+WaitingMoves None p now q = q ≡ p
+WaitingMoves (Some w) p now q = (pace_allows p.last now ≡ true) × (q ≡ pace_behind (is_preamble w.packet) p now)
+
 abbrev TickMoves : PaceValue → ℕ → answer.Ticked → Type 0
-TickMoves p now t = Moves (is_some t.given) p now t.core.pace
+TickMoves p now t = WaitingMoves t.given p now t.core.pace
 
 first_moves : (a : Answering) (now : ℕ) (ws : List Waiting) → pace_allows a.pace.last now ≡ true → TickMoves a.pace now (answer.given_first a now ws)
 first_moves a now [] e = refl
-first_moves a now (w ∷ []) e = (e, is_preamble w.packet, refl)
-first_moves a now (w ∷ v ∷ ws) e = (e, is_preamble w.packet, refl)
+first_moves a now (w ∷ []) e = (e, refl)
+first_moves a now (w ∷ v ∷ ws) e = (e, refl)
 
 paced_moves : (a : Answering) (now : ℕ) (b : Bool) → pace_allows a.pace.last now ≡ b → TickMoves a.pace now (if◌then◌else◌ {A = answer.Ticked} b (answer.given_first a now a.waiting) (record { core = a; given = None; ended = false }))
 paced_moves a now true e = first_moves a now a.waiting e
@@ -102,19 +114,19 @@ answers_move l now =
     let b : Answering = answer.timed a now in
     subst (λ (p : PaceValue). TickMoves p now (answers l now)) (timed_pace a now) (paced_moves b now (pace_allows b.pace.last now) refl)
 
-same_some : (setup : Setup) (given : List (List ℕ)) (o : Option Waiting) → is_some (calling_legs.told_by setup given o) ≡ is_some o
-same_some setup given None = refl
-same_some setup given (Some w) = refl
+waiting_told : (setup : Setup) (given : List (List ℕ)) (o : Option Waiting) (p q : PaceValue) (now : ℕ) → WaitingMoves o p now q → Moves (calling_legs.told_by setup given o) p now q
+waiting_told setup given None p q now m = m
+waiting_told setup given (Some w) p q now m = (m.0, is_preamble w.packet, m.1, preamble_answered setup given w.packet)
 
 abbrev pace_on : Setup → Option CallingLeg → PaceValue
 pace_on setup None = new_pace setup.pause
 pace_on setup (Some l) = (calling_legs.core_of l).pace
 
 -- what a tick tells on the leg
-told_moves : (setup : Setup) (o : Option CallingLeg) (now at : ℕ) (given : Given) → Moves (is_some (told_calling setup o now)) (pace_on setup o) now (pace_on setup (calling_after setup o now (Tick at given)))
+told_moves : (setup : Setup) (o : Option CallingLeg) (now at : ℕ) (given : Given) → Moves (told_calling setup o now) (pace_on setup o) now (pace_on setup (calling_after setup o now (Tick at given)))
 told_moves setup None now at given = refl
 told_moves setup (Some l) now at given =
-    subst (λ (b : Bool). Moves b (calling_legs.core_of l).pace now (answers l now).core.pace) (sym (same_some setup l.given (answers l now).given)) (answers_move l now)
+    waiting_told setup l.given (answers l now).given (calling_legs.core_of l).pace (answers l now).core.pace now (answers_move l now)
 
 comes_pace : (a : Answering) (ps : List Piece) (now : ℕ) (read : Reading) (events : List answer.CallEvent) → (answer.after_events a (comes_all ps now read events)).pace ≡ (answer.after_events a events).pace
 comes_pace a [] now read events = refl
@@ -148,10 +160,10 @@ abbrev CallingPaced : Setup → List Event → Type 0
 CallingPaced setup trace = IsPaced setup (pace_on setup (calling_leg setup trace)) (last_given (λ g. g.on_calling) trace)
 
 calling_moves : (setup : Setup) (writes : Writing) (earlier : List Event) (at : ℕ) (given : Given) → IsTrace setup writes (Tick at given ∷ earlier) →
-    Moves (is_some given.on_calling) (pace_on setup (calling_leg setup earlier)) (max at (clock earlier)) (pace_on setup (calling_leg setup (Tick at given ∷ earlier)))
+    Moves given.on_calling (pace_on setup (calling_leg setup earlier)) (max at (clock earlier)) (pace_on setup (calling_leg setup (Tick at given ∷ earlier)))
 calling_moves setup writes earlier at given t =
     let now : ℕ = max at (clock earlier) in
-    subst (λ (o : Option (List ℕ)). Moves (is_some o) (pace_on setup (calling_leg setup earlier)) now (pace_on setup (calling_leg setup (Tick at given ∷ earlier)))) (sym (ap (λ (g : Given). g.on_calling) t.0))
+    subst (λ (o : Option (List ℕ)). Moves o (pace_on setup (calling_leg setup earlier)) now (pace_on setup (calling_leg setup (Tick at given ∷ earlier)))) (sym (ap (λ (g : Given). g.on_calling) t.0))
     (told_moves setup (calling_leg setup earlier) now at given)
 
 calling_paced : (setup : Setup) (writes : Writing) (trace : List Event) → IsTrace setup writes trace → CallingPaced setup trace
@@ -178,8 +190,12 @@ moved_pace a (Turns format t1 c) = refl
 moved_pace a (Closes outcome c) = refl
 moved_pace a HangsUp = refl
 
+abbrev PacketMoves : (given : Option Packet) → PaceValue → ℕ → PaceValue → Type 0
+PacketMoves None p now q = q ≡ p
+PacketMoves (Some packet) p now q = (pace_allows p.last now ≡ true) × (q ≡ pace_behind (signals_preamble packet) p now)
+
 abbrev CallMoves : PaceValue → ℕ → call.Ticked → Type 0
-CallMoves p now t = Moves (is_some t.given) p now t.core.pace
+CallMoves p now t = PacketMoves t.given p now t.core.pace
 
 giving_pace : (a : Calling) (now : ℕ) (packet : Packet) (due : List Due) → (after_giving a now packet due).pace ≡ pace_behind (signals_preamble packet) a.pace now
 giving_pace a now packet [] = refl
@@ -188,7 +204,7 @@ giving_pace a now packet (d ∷ due) = refl
 call_first : (writes : Writing) (job : JobValue) (a : Calling) (now : ℕ) (due : List Due) → pace_allows a.pace.last now ≡ true → CallMoves a.pace now (call.given_first writes job a now due)
 call_first writes job a now [] e = refl
 call_first writes job a now (d ∷ due) e =
-    let t : Taken = taken writes job d due in (e, signals_preamble t.packet, giving_pace a now t.packet t.rest)
+    let t : Taken = taken writes job d due in (e, giving_pace a now t.packet t.rest)
 
 call_paced : (writes : Writing) (job : JobValue) (a : Calling) (now : ℕ) (b : Bool) → pace_allows a.pace.last now ≡ b →
     CallMoves a.pace now (if◌then◌else◌ {A = call.Ticked} b (call.given_first writes job a now a.waiting) (record { core = a; given = None }))
@@ -201,21 +217,21 @@ calls_move writes l now =
     let b : Calling = call.timed a now in
     subst (λ (p : PaceValue). CallMoves p now (calls writes l now)) (moved_pace a (if waits a.waiting then Stays else on_timers (is_due a.t1 now) (is_due a.t4 now) a.state a.counts)) (call_paced writes l.job b now (pace_allows b.pace.last now) refl)
 
-same_packet : (setup : Setup) (given : List (List ℕ)) (o : Option Packet) → is_some (called_legs.told_by setup given o) ≡ is_some o
-same_packet setup given None = refl
-same_packet setup given (Some p) = refl
+packet_told : (setup : Setup) (given : List (List ℕ)) (o : Option Packet) (p q : PaceValue) (now : ℕ) → PacketMoves o p now q → Moves (called_legs.told_by setup given o) p now q
+packet_told setup given None p q now m = m
+packet_told setup given (Some packet) p q now m = (m.0, signals_preamble packet, m.1, preamble_called setup given packet)
 
 abbrev pace_left : Setup → Writing → Option CalledLeg → PaceValue
 pace_left setup writes leg = (core_left setup writes leg).pace
 
-called_moves_by : (setup : Setup) (writes : Writing) (leg : Option CalledLeg) (now : ℕ) → Moves (is_some (told_called setup writes leg now)) (pace_left setup writes leg) now (pace_left setup writes (option_map (leg_ticked writes now) leg))
+called_moves_by : (setup : Setup) (writes : Writing) (leg : Option CalledLeg) (now : ℕ) → Moves (told_called setup writes leg now) (pace_left setup writes leg) now (pace_left setup writes (option_map (leg_ticked writes now) leg))
 called_moves_by setup writes None now = refl
 called_moves_by setup writes (Some l) now = by l.entered
   where
-    by : (b : Bool) → Moves (is_some (if◌then◌else◌ {A = Option (List ℕ)} b None (called_legs.told_by setup l.given (calls writes l now).given))) (called_legs.core_of writes l).pace now
+    by : (b : Bool) → Moves (if◌then◌else◌ {A = Option (List ℕ)} b None (called_legs.told_by setup l.given (calls writes l now).given)) (called_legs.core_of writes l).pace now
         (called_legs.core_of writes (if◌then◌else◌ {A = CalledLeg} b l (with_tick (calls writes l now) now l))).pace
     by true = refl
-    by false = subst (λ (b : Bool). Moves b (called_legs.core_of writes l).pace now (calls writes l now).core.pace) (sym (same_packet setup l.given (calls writes l now).given)) (calls_move writes l now)
+    by false = packet_told setup l.given (calls writes l now).given (called_legs.core_of writes l).pace (calls writes l now).core.pace now (calls_move writes l now)
 
 begun_pace : (connected : Bool) (setup : Setup) (writes : Writing) (o : Option JobValue) (now : ℕ) (leg : Option CalledLeg) → pace_left setup writes (leg_of connected o (core_left setup writes leg) now leg) ≡ pace_left setup writes leg
 begun_pace connected setup writes None now leg = refl
@@ -230,14 +246,14 @@ served_pace setup writes now s = by (begins_next setup s.leg)
     by false = refl
 
 called_moves : (setup : Setup) (writes : Writing) (earlier : List Event) (at : ℕ) (given : Given) → IsTrace setup writes (Tick at given ∷ earlier) →
-    Moves (is_some given.on_called) (pace_left setup writes (sides setup writes earlier).leg) (max at (clock earlier)) (pace_left setup writes (sides setup writes (Tick at given ∷ earlier)).leg)
+    Moves given.on_called (pace_left setup writes (sides setup writes earlier).leg) (max at (clock earlier)) (pace_left setup writes (sides setup writes (Tick at given ∷ earlier)).leg)
 called_moves setup writes earlier at given t =
     let now : ℕ = max at (clock earlier) in
     let s : Sides = sides setup writes earlier in
     let z : Sides = in_tick setup writes earlier at in
     let after : PaceValue = pace_left setup writes (sides setup writes (Tick at given ∷ earlier)).leg in
-    subst (λ (p : PaceValue). Moves (is_some given.on_called) p now after) (served_pace setup writes now (record s { steps = heard_in_tick (calling_leg setup earlier) now s.steps }))
-    (subst (λ (o : Option (List ℕ)). Moves (is_some o) (pace_left setup writes z.leg) now after) (sym (ap (λ (g : Given). g.on_called) t.0)) (called_moves_by setup writes z.leg now))
+    subst (λ (p : PaceValue). Moves given.on_called p now after) (served_pace setup writes now (record s { steps = heard_in_tick (calling_leg setup earlier) now s.steps }))
+    (subst (λ (o : Option (List ℕ)). Moves o (pace_left setup writes z.leg) now after) (sym (ap (λ (g : Given). g.on_called) t.0)) (called_moves_by setup writes z.leg now))
 
 comes_to_pace : (writes : Writing) (job : JobValue) (a : Calling) (ps : List Piece) (now : ℕ) (events : List call.CallEvent) → (call.after_events writes job a (comes_to ps now events)).pace ≡ (call.after_events writes job a events).pace
 comes_to_pace writes job a [] now events = refl

@@ -19,6 +19,7 @@ mod McfAnswers
 mod Newest
 mod OfTheirCalls
 mod OwnConfirmed
+mod Preambles
 mod RefusedJobs
 mod Replied
 mod Reporting

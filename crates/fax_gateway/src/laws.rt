@@ -167,7 +167,8 @@ pub fn hears_sent_frames()
     ensures { HearsSentFrames }
 {}
 
-/// On each leg a datagram is given at least 40 ms behind the one before it, over all its calls.
+/// On each leg, over all its calls, a datagram is given at least 40 ms behind the one before it, and where the packet of that one is
+/// the preamble before a frame, at least so many milliseconds as the gateway is set to (`Settings::preamble_ms`).
 pub fn datagrams_are_apart()
     ensures { DatagramsAreApart }
 {}
