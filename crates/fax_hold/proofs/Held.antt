@@ -207,8 +207,8 @@ begins deeds old new done speaks told = record {
 }
 
 -- over a wire that tells nothing of what it was handed, it has done nothing at first
-pub fresh_did_nothing : (known : Known) (calling_due called_due : Option ℕ) (peers : Peers) → known.sent ≡ None → HasDone [] (fresh known calling_due called_due peers)
-fresh_did_nothing known calling_due called_due peers none = record { held = refl; is_mute = refl; out = λ sent told. absurd (none_told sent (sym none ∙ told)) }
+pub fresh_did_nothing : (known : Known) (clock : ℕ) (calling_due called_due : Option ℕ) (peers : Peers) → known.sent ≡ None → HasDone [] (fresh known clock calling_due called_due peers)
+fresh_did_nothing known clock calling_due called_due peers none = record { held = refl; is_mute = refl; out = λ sent told. absurd (none_told sent (sym none ∙ told)) }
   where
     none_told : (sent : List Handed) → None ≡ Some sent → ⊥
     none_told sent told = cc

@@ -23,6 +23,7 @@ told_more (Some old) (Some mid) None first second = absurd second
 told_more (Some old) (Some mid) (Some new) first second = record {
   held = second.held ∙ first.held;
   is_mute = second.is_mute ∙ first.is_mute;
+  clock = second.clock ∙ first.clock;
   calling_due = second.calling_due ∙ first.calling_due;
   called_due = second.called_due ∙ first.called_due;
   sent = grows_none_on old.wire.sent mid.wire.sent new.wire.sent first.sent second.sent;
@@ -30,7 +31,7 @@ told_more (Some old) (Some mid) (Some new) first second = record {
 
 pub told_same : (held : Option HoldingValue) → TellsWhere held held
 told_same None = tt
-told_same (Some held) = record { held = refl; is_mute = refl; calling_due = refl; called_due = refl; sent = handed_none held.wire.sent }
+told_same (Some held) = record { held = refl; is_mute = refl; clock = refl; calling_due = refl; called_due = refl; sent = handed_none held.wire.sent }
 
 -- ---- a leg on which a call begins
 

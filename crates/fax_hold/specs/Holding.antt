@@ -1,5 +1,5 @@
 -- A wire that holds back what goes out on the calling leg. Lists have the newest first. (This project's profile.)
-use Rattle.std.specs.Prelude.{◌≡◌, ℕ, Bool, true, false, List, [], ◌∷◌, Option, Some, None, Vec, if◌then◌else◌}
+use Rattle.std.specs.Prelude.{◌≡◌, ℕ, max, Bool, true, false, List, [], ◌∷◌, Option, Some, None, Vec, if◌then◌else◌}
 use Rattle.std.specs.declared.alloc.Global.{Global}
 use Rattle.fax_gateway.specs.declared.side.Side.{Side}
 use Rattle.fax_gateway.specs.declared.side.Side.TheVariants as side
@@ -8,12 +8,14 @@ use Rattle.fax_repeat.specs.Peers.{Peers}
 use Rattle.fax_repeat.specs.Policies.{IsToldAs, other_side}
 
 -- The octets of the datagram that is held, where one is; whether the calling leg is mute; how many calls failed; what is known
--- of the wire below, from which moments on that has something to do on both legs, and the peers of these.
+-- of the wire below, the latest moment that it was told, from which moments on it has something to do on both legs, and the peers of
+-- these.
 pub record HoldingValue : Type 0 where
   pub held : Option (List ℕ)
   pub is_mute : Bool
   pub failures : ℕ
   pub wire : Known
+  pub clock : ℕ
   pub calling_due : Option ℕ
   pub called_due : Option ℕ
   pub peers : Peers
@@ -27,8 +29,8 @@ octets_of None = None
 octets_of (Some octets) = Some octets.items
 
 -- over a wire it holds nothing at first
-abbrev pub fresh : Known → (calling_due called_due : Option ℕ) → Peers → HoldingValue
-fresh wire calling_due called_due peers = record { held = None; is_mute = false; failures = 0; wire = wire; calling_due = calling_due; called_due = called_due; peers = peers }
+abbrev pub fresh : Known → (clock : ℕ) → (calling_due called_due : Option ℕ) → Peers → HoldingValue
+fresh wire clock calling_due called_due peers = record { held = None; is_mute = false; failures = 0; wire = wire; clock = clock; calling_due = calling_due; called_due = called_due; peers = peers }
 
 -- what is told of it: nothing of what it was handed to send
 abbrev pub as_told : HoldingValue → Known
@@ -105,9 +107,18 @@ pub record Ceases (at : Side) (old new : HoldingValue) : Type 0 where
 pub record TellsPeers (old new : HoldingValue) : Type 0 where
   pub held : new.held ≡ old.held
   pub is_mute : new.is_mute ≡ old.is_mute
+  pub clock : new.clock ≡ old.clock
   pub calling_due : new.calling_due ≡ old.calling_due
   pub called_due : new.called_due ≡ old.called_due
   pub sent : Grows [] old.wire.sent new.wire.sent
+
+-- THE WIRE BELOW WAS TOLD THIS MOMENT: one before another that it was told reads as the latest.
+abbrev pub IsToldTime : ℕ → HoldingValue → HoldingValue → Type 0
+IsToldTime now old new = new.clock ≡ max old.clock now
+
+-- it was told none
+abbrev pub KeepsClock : HoldingValue → HoldingValue → Type 0
+KeepsClock old new = new.clock ≡ old.clock
 
 -- ---- a wire that holds back, or one that does not
 
@@ -120,6 +131,12 @@ WhereItHolds comes (Some old) (Some new) = comes old new
 
 abbrev pub StaysWhere : Option HoldingValue → Option HoldingValue → Type 0
 StaysWhere old new = WhereItHolds Stays old new
+
+abbrev pub IsToldTimeWhere : ℕ → Option HoldingValue → Option HoldingValue → Type 0
+IsToldTimeWhere now old new = WhereItHolds (IsToldTime now) old new
+
+abbrev pub KeepsClockWhere : Option HoldingValue → Option HoldingValue → Type 0
+KeepsClockWhere old new = WhereItHolds KeepsClock old new
 
 abbrev pub SendsWhere : Side → List ℕ → Bool → Option HoldingValue → Option HoldingValue → Type 0
 SendsWhere at octets is_sent old new = WhereItHolds (Sends at octets is_sent) old new

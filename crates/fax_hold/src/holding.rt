@@ -4,7 +4,7 @@ ghost use Rattle.fax_gateway.specs.Wires.{Grows, failures_after};
 ghost use Rattle.fax_gateway.specs.declared.side.Side.{Side as SideShown};
 ghost use Rattle.fax_repeat.specs.Peers.{peers_of};
 ghost use Rattle.fax_repeat.specs.Policies.{IsToldAs, other_side};
-ghost use Rattle.fax_hold.specs.Holding.{Holds, Mutes, Releases, Sends, Speaks, as_told, due_on, fresh};
+ghost use Rattle.fax_hold.specs.Holding.{Holds, IsToldTime, KeepsClock, Mutes, Releases, Sends, Speaks, as_told, due_on, fresh};
 
 use crate::line_wire::LineWire;
 use fax_gateway::{Side, Wire, WireFault};
@@ -36,7 +36,7 @@ impl<W: TimedWire + Drop> Model for HoldingWire<W> {
 
     ghost Value = { HoldingValue };
 
-    ghost view = { λ w. record { held = octets_of w.held; is_mute = w.is_mute; failures = w.failures; wire = W.known w.wire; calling_due = W.due side_shown.Calling w.wire; called_due = W.due side_shown.Called w.wire; peers = peers_of W.peer_at w.wire } };
+    ghost view = { λ w. record { held = octets_of w.held; is_mute = w.is_mute; failures = w.failures; wire = W.known w.wire; clock = W.clock w.wire; calling_due = W.due side_shown.Calling w.wire; called_due = W.due side_shown.Called w.wire; peers = peers_of W.peer_at w.wire } };
 
     ghost invariant = { λ w. w.is_mute ≡ true → octets_of w.held ≡ None };
 }
@@ -44,7 +44,7 @@ impl<W: TimedWire + Drop> Model for HoldingWire<W> {
 impl<W: TimedWire + Drop> HoldingWire<W> {
     /// A wire that holds nothing, over this one. The calling leg is not mute.
     pub fn new(alloc: Global, wire: W) -> Self
-        ensures { result ≡ fresh (W.known wire) (W.due SideShown.Calling wire) (W.due SideShown.Called wire) (peers_of W.peer_at wire) }
+        ensures { result ≡ fresh (W.known wire) (W.clock wire) (W.due SideShown.Calling wire) (W.due SideShown.Called wire) (peers_of W.peer_at wire) }
     {
         HoldingWire {
             wire,
@@ -73,6 +73,7 @@ impl<W: TimedWire + Drop> HoldingWire<W> {
     /// What is held goes on to the wire below, where something is. An `Err`: its send failed, and it counts as lost.
     pub fn release(&mut self) -> Result<(), WireFault>
         ensures released { Releases self.old self.new }
+        ensures clock { KeepsClock self.old self.new }
         ensures told { IsToldAs (as_told self.old) (as_told self.new) }
     {
         match self.held.take() {
@@ -85,6 +86,7 @@ impl<W: TimedWire + Drop> HoldingWire<W> {
     /// until the next call begins.
     pub fn mute(&mut self)
         ensures muted { Mutes self.old self.new }
+        ensures clock { KeepsClock self.old self.new }
         ensures told { IsToldAs (as_told self.old) (as_told self.new) }
     {
         self.held = None;
@@ -106,6 +108,7 @@ impl<W: TimedWire + Drop> HoldingWire<W> {
         ensures mute { self.new.is_mute ≡ self.old.is_mute }
         ensures failures { self.new.failures ≡ failures_after self.old.failures result }
         ensures wire { self.new.wire ≡ self.old.wire }
+        ensures clock { KeepsClock self.old self.new }
         ensures peers { self.new.peers ≡ self.old.peers }
     {
         if self.is_mute {
@@ -131,6 +134,7 @@ impl<W: TimedWire + Drop> HoldingWire<W> {
         ensures failures { self.new.failures ≡ failures_after self.old.failures result }
         ensures received { Grows [] self.old.wire.received self.new.wire.received }
         ensures sent { Grows (record { side = SideShown.Called; octets = octets.now } ∷ []) self.old.wire.sent self.new.wire.sent }
+        ensures clock { KeepsClock self.old self.new }
         ensures peers { self.new.peers ≡ self.old.peers }
     {
         match self.wire.send(Side::Called, octets) {
@@ -145,13 +149,13 @@ impl<W: TimedWire + Drop> HoldingWire<W> {
 
 impl<W: TimedWire + Drop> Wire for HoldingWire<W> {
     ghost use Rattle.fax_repeat.specs.Peers.{HearsOn};
-    ghost use Rattle.fax_hold.specs.Holding.{Sends, Stays, as_told};
+    ghost use Rattle.fax_hold.specs.Holding.{KeepsClock, Sends, Stays, as_told};
 
     ghost known = { as_told };
 
-    ghost receives = { λ side old new. Stays old new × HearsOn side old.peers new.peers };
+    ghost receives = { λ side old new. Stays old new × HearsOn side old.peers new.peers × KeepsClock old new };
 
-    ghost sends = { λ side octets is_sent old new. Sends side octets is_sent old new × (new.peers ≡ old.peers) };
+    ghost sends = { λ side octets is_sent old new. Sends side octets is_sent old new × (new.peers ≡ old.peers) × KeepsClock old new };
 
     fn receive(&mut self, side: Side, buffer: &mut [u8]) -> Result<Option<usize>, WireFault> {
         match self.wire.receive(side, buffer) {
@@ -168,6 +172,7 @@ impl<W: TimedWire + Drop> Wire for HoldingWire<W> {
         ensures failures { self.new.failures ≡ failures_after self.old.failures result }
         ensures received { Grows [] self.old.wire.received self.new.wire.received }
         ensures sends { Sends side octets.now (is_ok result) self.old self.new }
+        ensures clock { KeepsClock self.old self.new }
         ensures peers { self.new.peers ≡ self.old.peers }
     {
         match side {
@@ -216,22 +221,33 @@ impl<W: TimedWire + Drop> LegWire for HoldingWire<W> {
 }
 
 impl<W: TimedWire + Drop> TimedWire for HoldingWire<W> {
-    ghost use Rattle.fax_hold.specs.Holding.{Ceases, Stays, due_on};
+    ghost use Rattle.fax_hold.specs.Holding.{Ceases, IsToldTime, KeepsClock, Stays, due_on};
     ghost use Rattle.fax_hold.specs.Telling.{told_due};
 
     ghost due = { due_on };
 
+    ghost clock = { λ wire. wire.clock };
+
     ghost goes_on = { λ old new. Stays old new × (new.peers ≡ old.peers) };
 
-    ghost ceases = { λ side old new. Ceases side old new × (new.peers ≡ old.peers) };
+    ghost ceases = { λ side old new. Ceases side old new × (new.peers ≡ old.peers) × KeepsClock old new };
 
     ghost keeps_due = { told_due };
+
+    ghost clock_on_receive = { λ at old new made. made.2 };
+
+    ghost clock_on_send = { λ at octets is_sent old new made. made.2 };
+
+    ghost clock_on_told = { λ old new made. made.clock };
+
+    ghost clock_on_cease = { λ at old new made. made.2 };
 
     ghost keeps_on_time = { λ old new made. made.1 };
 
     ghost keeps_on_cease = { λ at old new made. made.1 };
 
     fn go_on(&mut self, now: u64)
+        ensures clock { IsToldTime now self.old self.new }
         ensures told { IsToldAs (as_told self.old) (as_told self.new) }
         ensures held { self.new.held ≡ self.old.held }
         ensures mute { self.new.is_mute ≡ self.old.is_mute }
@@ -246,6 +262,7 @@ impl<W: TimedWire + Drop> TimedWire for HoldingWire<W> {
     fn cease(&mut self, side: Side)
         ensures told { IsToldAs (as_told self.old) (as_told self.new) }
         ensures speaks { Speaks side self.old self.new }
+        ensures clock { KeepsClock self.old self.new }
         ensures ended { due_on side self.new ≡ None }
         ensures beside { due_on (other_side side) self.new ≡ due_on (other_side side) self.old }
         ensures wire { IsToldAs self.old.wire self.new.wire }
@@ -281,6 +298,10 @@ impl<W: TimedWire + Drop> LineWire for HoldingWire<W> {
     ghost on_cease = { λ side old new made. made.0 };
 
     ghost on_told = { λ old new made. made };
+
+    ghost holds_clock = { λ old new same. same };
+
+    ghost holds_time = { λ now old new told. told };
 }
 
 /// It sends at once.
@@ -298,4 +319,8 @@ impl<W: LegWire + Drop> LineWire for RepeatingWire<W> {
     ghost on_cease = { λ side old new made. tt };
 
     ghost on_told = { λ old new made. tt };
+
+    ghost holds_clock = { λ old new same. tt };
+
+    ghost holds_time = { λ now old new told. tt };
 }

@@ -1,7 +1,7 @@
 //! The wire of a line.
-ghost use Rattle.std.specs.Prelude.{ℕ, Bool, List, Option};
+ghost use Rattle.std.specs.Prelude.{◌≡◌, ℕ, max, Bool, List, Option};
 ghost use Rattle.fax_gateway.specs.declared.side.Side.{Side as SideShown};
-ghost use Rattle.fax_hold.specs.Holding.{CeasesWhere, HoldingValue, SendsWhere, StaysWhere, TellsWhere};
+ghost use Rattle.fax_hold.specs.Holding.{CeasesWhere, HoldingValue, IsToldTimeWhere, KeepsClockWhere, SendsWhere, StaysWhere, TellsWhere};
 
 use fax_repeat::TimedWire;
 
@@ -24,4 +24,10 @@ pub trait LineWire: TimedWire {
 
     /// By what it is told of its peers what it holds stays.
     ghost on_told: { (old new : Self) → Self.is_told old new → TellsWhere (holding old) (holding new) };
+
+    /// What it holds knows its clock: where this stays that one does,
+    ghost holds_clock: { (old new : Self) → Self.clock new ≡ Self.clock old → KeepsClockWhere (holding old) (holding new) };
+
+    /// and where it was told a moment that one was.
+    ghost holds_time: { (now : ℕ) (old new : Self) → Self.clock new ≡ max (Self.clock old) now → IsToldTimeWhere now (holding old) (holding new) };
 }

@@ -137,9 +137,9 @@ impl<W: LegWire + Drop> Wire for RepeatingWire<W> {
 
     ghost known = { told_of };
 
-    ghost receives = { λ side old new. HearsOn side old.peers new.peers };
+    ghost receives = { λ side old new. HearsOn side old.peers new.peers × (new.clock ≡ old.clock) };
 
-    ghost sends = { λ side octets is_sent old new. new.peers ≡ old.peers };
+    ghost sends = { λ side octets is_sent old new. (new.peers ≡ old.peers) × (new.clock ≡ old.clock) };
 
     fn receive(&mut self, side: Side, buffer: &mut [u8]) -> Result<Option<usize>, WireFault> {
         match self.wire.receive(side, buffer) {
@@ -177,9 +177,9 @@ impl<W: LegWire + Drop> LegWire for RepeatingWire<W> {
 
     ghost is_told = { TellsPeers };
 
-    ghost keeps_on_receive = { λ at old new made. made };
+    ghost keeps_on_receive = { λ at old new made. made.0 };
 
-    ghost keeps_on_send = { λ at octets is_sent old new made. made };
+    ghost keeps_on_send = { λ at octets is_sent old new made. made.0 };
 
     fn set_peer(&mut self, side: Side, peer: Peer) -> Result<(), NoRoute> {
         self.wire.set_peer(side, peer)
@@ -211,15 +211,25 @@ impl<W: LegWire + Drop> TimedWire for RepeatingWire<W> {
 
     ghost due = { λ side wire. (last_on side wire).due };
 
+    ghost clock = { λ wire. wire.clock };
+
     ghost goes_on = { λ old new. new.peers ≡ old.peers };
 
-    ghost ceases = { λ side old new. new.peers ≡ old.peers };
+    ghost ceases = { λ side old new. (new.peers ≡ old.peers) × (new.clock ≡ old.clock) };
 
     ghost keeps_due = { told_due };
 
+    ghost clock_on_receive = { λ at old new made. made.1 };
+
+    ghost clock_on_send = { λ at octets is_sent old new made. made.1 };
+
+    ghost clock_on_told = { λ old new made. made.clock };
+
+    ghost clock_on_cease = { λ at old new made. made.1 };
+
     ghost keeps_on_time = { λ old new made. made };
 
-    ghost keeps_on_cease = { λ at old new made. made };
+    ghost keeps_on_cease = { λ at old new made. made.0 };
 
     /// The last datagram of each leg whose moment has come is sent again, once. A moment before another reads as the latest.
     fn go_on(&mut self, now: u64)

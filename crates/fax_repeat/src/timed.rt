@@ -1,5 +1,5 @@
 //! Wires that are told the time.
-ghost use Rattle.std.specs.Prelude.{◌≡◌, ℕ, Option, None};
+ghost use Rattle.std.specs.Prelude.{◌≡◌, ℕ, max, Bool, List, Option, None};
 ghost use Rattle.fax_gateway.specs.declared.side.Side.{Side as SideShown};
 ghost use Rattle.fax_repeat.specs.Peers.{peers_of};
 ghost use Rattle.fax_repeat.specs.Policies.{IsToldAs, due_of, other_side};
@@ -12,14 +12,18 @@ pub trait TimedWire: LegWire {
     /// From which moment on it has something to do on a leg.
     ghost due: { SideShown → Self → Option ℕ };
 
+    /// The latest moment that it was told. At first it was told none, which is 0.
+    ghost clock: { Self → ℕ };
+
     /// What is made of it where time goes on. By default nothing is told of that.
     ghost goes_on: { Self → Self → Type 0 } = { λ old new. Unit {0} };
 
     /// What is made of it where a new call begins on a leg. By default nothing is told of that.
     ghost ceases: { SideShown → Self → Self → Type 0 } = { λ side old new. Unit {0} };
 
-    /// Time goes on to this moment.
+    /// Time goes on to this moment. One before another that it was told reads as the latest.
     fn go_on(&mut self, now: u64)
+        ensures clock { clock self.new ≡ max (clock self.old) now }
         ensures told { IsToldAs (Self.known self.old) (Self.known self.new) }
         ensures makes { goes_on self.old self.new };
 
@@ -36,6 +40,18 @@ pub trait TimedWire: LegWire {
 
     /// By what it is told of its peers it has no more to do, and no less.
     ghost keeps_due: { (side : SideShown) (old new : Self) → Self.is_told old new → due side new ≡ due side old };
+
+    /// Nothing but time itself moves its clock: no receive,
+    ghost clock_on_receive: { (at : SideShown) (old new : Self) → Self.receives at old new → clock new ≡ clock old };
+
+    /// no send,
+    ghost clock_on_send: { (at : SideShown) (octets : List ℕ) (is_sent : Bool) (old new : Self) → Self.sends at octets is_sent old new → clock new ≡ clock old };
+
+    /// nothing that it is told of its peers,
+    ghost clock_on_told: { (old new : Self) → Self.is_told old new → clock new ≡ clock old };
+
+    /// and no call that begins.
+    ghost clock_on_cease: { (at : SideShown) (old new : Self) → ceases at old new → clock new ≡ clock old };
 
     /// As time goes on the peers of both legs stay.
     ghost keeps_on_time: { (old new : Self) → goes_on old new → peers_of Self.peer_at new ≡ peers_of Self.peer_at old };

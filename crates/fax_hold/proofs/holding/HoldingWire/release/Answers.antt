@@ -7,7 +7,7 @@ use Rattle.fax_hold.proofs.holding.HoldingWire.release.Goals as goal
 
 pub returns-in-None-clause-released : goal.returns-in-None-clause-released
 returns-in-None-clause-released g c =
-    let old : HoldingValue = record { held = octets_of c.self.inside.held; is_mute = c.self.inside.is_mute; failures = c.self.inside.failures; wire = g.W.Wire.known c.self.inside.wire; calling_due = g.W.TimedWire.due side_shown.Calling c.self.inside.wire; called_due = g.W.TimedWire.due side_shown.Called c.self.inside.wire; peers = peers_of g.W.LegWire.peer_at c.self.inside.wire } in
-    let new : HoldingValue = record { held = octets_of c.take.new.self; is_mute = c.self.inside.is_mute; failures = c.self.inside.failures; wire = g.W.Wire.known c.self.inside.wire; calling_due = g.W.TimedWire.due side_shown.Calling c.self.inside.wire; called_due = g.W.TimedWire.due side_shown.Called c.self.inside.wire; peers = peers_of g.W.LegWire.peer_at c.self.inside.wire } in
+    let old : HoldingValue = record { held = octets_of c.self.inside.held; is_mute = c.self.inside.is_mute; failures = c.self.inside.failures; wire = g.W.Wire.known c.self.inside.wire; clock = g.W.TimedWire.clock c.self.inside.wire; calling_due = g.W.TimedWire.due side_shown.Calling c.self.inside.wire; called_due = g.W.TimedWire.due side_shown.Called c.self.inside.wire; peers = peers_of g.W.LegWire.peer_at c.self.inside.wire } in
+    let new : HoldingValue = record { held = octets_of c.take.new.self; is_mute = c.self.inside.is_mute; failures = c.self.inside.failures; wire = g.W.Wire.known c.self.inside.wire; clock = g.W.TimedWire.clock c.self.inside.wire; calling_due = g.W.TimedWire.due side_shown.Calling c.self.inside.wire; called_due = g.W.TimedWire.due side_shown.Called c.self.inside.wire; peers = peers_of g.W.LegWire.peer_at c.self.inside.wire } in
     subst (λ (was : HoldingValue). Releases was new) c.self.view_is
     (nothing_released c.self.inside.held old new (sym c.in-None.ensures.value) refl (ap octets_of c.in-None.ensures.after) refl refl refl)
