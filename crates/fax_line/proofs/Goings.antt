@@ -20,7 +20,7 @@ use Rattle.fax_gateway.specs.Driving.{Accepts, Carries, DriverValue, Entry, HasM
 use Rattle.fax_gateway.proofs.DrivingLemmas.{carries_unseen, grows_none, happens_more, made_unseen, refused_so, refuses, steps_ring}
 use Rattle.fax_repeat.specs.Peers.{Peers}
 use Rattle.fax_repeat.specs.Policies.{IsToldAs}
-use Rattle.fax_hold.specs.Holding.{HoldingValue}
+use Rattle.fax_hold.specs.Holding.{HoldingValue, IsToldTimeWhere}
 use Rattle.fax_hold.specs.Keeping.{HoldsByLog}
 use Rattle.fax_line.specs.declared.asked.Answered.{Answered}
 use Rattle.fax_line.specs.declared.asked.Answered.TheVariants as answered
@@ -120,12 +120,14 @@ pub drives_turn :
     → (turn : List Entry) × IsTurn now turn × Happens setup writes turn trace new b c × HasMade (turn ++ earlier) driven
     × TellTicks setup trace (events turn ++ trace) y.report y.kept y.refused y.gave_up × HoldsByLog turn h k)
     → ((setup : Setup) (writes : Writing) (trace : List Event) (earlier : List Entry) → IsWriting writes → IsReachedBy setup writes trace old → HasMade earlier driver → HearBoth p q)
+    → ((setup : Setup) (writes : Writing) (trace : List Event) (earlier : List Entry) → IsWriting writes → IsReachedBy setup writes trace old → HasMade earlier driver → IsToldTimeWhere now h k)
     → Drives now (line_of old driver a m h p x) (line_of new driven c n k q y)
-drives_turn now old new driver driven a b c m n h k p q x y told turned hear = record {
+drives_turn now old new driver driven a b c m n h k p q x y told turned hear time = record {
   tells = λ setup writes trace earlier writing reached made.
       let t = turned setup writes trace earlier writing reached made in
       (t.0, t.1, wire_first setup writes t.0 trace old new a b c reached told t.2, t.3, t.4, t.5);
   hear = hear;
+  time = time;
 }
 
 -- ---- what is asked of a line

@@ -17,6 +17,7 @@ use Rattle.fax_repeat.specs.Telling.{hears_same}
 use Rattle.fax_repeat.proofs.Hearing.{hears_where_more}
 use Rattle.fax_hold.specs.Holding.{CeasesWhere, HoldingValue, StaysWhere, TellsWhere}
 use Rattle.fax_hold.specs.Keeping.{handed_by}
+use Rattle.fax_hold.proofs.Clocks.{clock_told, then_time, time_then}
 use Rattle.fax_hold.proofs.Held.{grows_none_on, held_later, stays_where}
 use Rattle.fax_hold.proofs.Telling.{ceases_told, told_ceases, told_more, told_same, told_stays}
 use Rattle.fax_line.specs.declared.asked.Answered.{Answered}
@@ -145,6 +146,12 @@ turn_between now old a b new before settles drives behind cuts = record {
         hear = subst (λ (p : Peers). HearBoth p b.peers) settles (drives.hear setup writes trace earlier writing reached_then made_then);
         behind = subst (λ (x : Turned). new.peers ≡ cut_if side.Called (is_some x.report) b.peers) (sym behind.turned) cuts;
       };
+  time = λ setup writes trace earlier writing reached made.
+      let reached_then = subst (λ (g : GatewayValue). IsReachedBy setup writes trace g) (sym before.gateway) reached in
+      let made_then = subst (λ (d : DriverValue). HasMade earlier d) (sym before.driver) made in
+      time_then now old.holding b.holding new.holding
+      (then_time now old.holding a.holding b.holding (clock_told old.holding a.holding before.holding) (drives.time setup writes trace earlier writing reached_then made_then))
+      (clock_told b.holding new.holding behind.holding);
 }
 
 -- before it two things are told

@@ -19,7 +19,7 @@ use Rattle.fax_gateway.specs.Driving.{Accepts, DriverValue, Entry, HasMade, Happ
 use Rattle.fax_gateway.specs.Turns.{TellTicks, call_kept}
 use Rattle.fax_repeat.specs.Peers.{Peers}
 use Rattle.fax_repeat.specs.Policies.{IsToldAs}
-use Rattle.fax_hold.specs.Holding.{CeasesWhere, HoldingValue, StaysWhere, TellsWhere}
+use Rattle.fax_hold.specs.Holding.{CeasesWhere, HoldingValue, IsToldTimeWhere, StaysWhere, TellsWhere}
 use Rattle.fax_hold.specs.Keeping.{HoldsByLog}
 use Rattle.fax_line.specs.declared.asked.Answered.{Answered}
 use Rattle.fax_line.specs.declared.asked.Answered.TheVariants as answered
@@ -107,7 +107,7 @@ pub record Goes (actions : List Action) (old new : LineValue) : Type 0 where
       → (log : List Entry) × AreSteps setup writes trace actions log × Happens setup writes log trace new.gateway old.wire new.wire × HasMade (log ++ earlier) new.driver
 
 -- A gateway is driven: of the trace that this made longer, what the ticks told by which it did. What its wire holds back is what was handed
--- over, and the peers of its legs stay, or are heard.
+-- over, the wire was told the moment, and the peers of its legs stay, or are heard.
 pub record Drives (now : ℕ) (old new : LineValue) : Type 0 where
   pub tells :
       (setup : Setup) (writes : Writing) (trace : List Event) (earlier : List Entry) → IsWriting writes → IsReachedBy setup writes trace old.gateway → HasMade earlier old.driver
@@ -116,8 +116,11 @@ pub record Drives (now : ℕ) (old new : LineValue) : Type 0 where
   pub hear :
       (setup : Setup) (writes : Writing) (trace : List Event) (earlier : List Entry) → IsWriting writes → IsReachedBy setup writes trace old.gateway → HasMade earlier old.driver
       → HearBoth old.peers new.peers
+  pub time :
+      (setup : Setup) (writes : Writing) (trace : List Event) (earlier : List Entry) → IsWriting writes → IsReachedBy setup writes trace old.gateway → HasMade earlier old.driver
+      → IsToldTimeWhere now old.holding new.holding
 
--- A turn, and what it told: it was driven. Of the calls of its peers no more is known where no call was on; the peers of its legs stay, or
+-- A turn, and what it told: it was driven, and its wire was told the moment. Of the calls of its peers no more is known where no call was on; the peers of its legs stay, or
 -- are heard; and the called leg is cut where a job was reported.
 pub record TellsTurn (now : ℕ) (old new : LineValue) : Type 0 where
   pub tells :
@@ -127,6 +130,9 @@ pub record TellsTurn (now : ℕ) (old new : LineValue) : Type 0 where
   pub peers :
       (setup : Setup) (writes : Writing) (trace : List Event) (earlier : List Entry) → IsWriting writes → IsReachedBy setup writes trace old.gateway → HasMade earlier old.driver
       → TurnsPeers (is_some new.turned.report) (is_some (call_kept old.gateway.calling)) (is_some old.gateway.book.sending) old.peers new.peers
+  pub time :
+      (setup : Setup) (writes : Writing) (trace : List Event) (earlier : List Entry) → IsWriting writes → IsReachedBy setup writes trace old.gateway → HasMade earlier old.driver
+      → IsToldTimeWhere now old.holding new.holding
 
 -- Its wire is told of the peers of its legs: what it holds back stays, and nothing else of the line changes.
 pub record TellsWire (old new : LineValue) : Type 0 where

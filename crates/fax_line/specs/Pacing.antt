@@ -9,6 +9,10 @@ use Rattle.fax_line.specs.Runs.{AskedOf, Done, Turned, Woken, most_orders}
 abbrev pub SeesTurn : {P : Type 0} → (P → P → Type 0) → P → P → Type 0
 SeesTurn {P} sees old new = sees old new ⊎ ((put : P) × (kept : P) × sees old put × sees put kept × sees kept new)
 
+-- What it saw last is the end of a turn, with what keeps the pages as this: that of which the job's end was not noted yet.
+abbrev pub SawKept : {K P : Type 0} → (Option K → P → P → Type 0) → K → P → Type 0
+SawKept {K} {P} sees_kept keeper new = (before : P) × sees_kept (Some keeper) before new
+
 -- IT GIVES EACH ORDER THAT WAS DONE, one behind the other, and nothing else is done with it: behind a turn it sees what that came to; behind
 -- what it asked of a line it is told the answer, once, before it is asked for the next order.
 abbrev pub Paced : {P : Type 0} → (Option Order → P → P → Type 0) → (ℕ → Option Answered → P → P → Type 0) → (P → P → Type 0) → List Done → P → P → Type 0

@@ -20,7 +20,7 @@ ghost use Rattle.fax_line.specs.declared.asked.Asked.TheVariants as asked;
 ghost use Rattle.fax_line.specs.declared.asked.Connecting.{Connecting as ConnectingShown};
 ghost use Rattle.fax_line.specs.declared.asked.Ringing.{Ringing as RingingShown};
 ghost use Rattle.fax_gateway.specs.declared.side.Side.TheVariants as side_shown;
-ghost use Rattle.fax_hold.specs.Holding.{CeasesWhere, StaysWhere};
+ghost use Rattle.fax_hold.specs.Holding.{CeasesWhere, IsToldTimeWhere, StaysWhere};
 ghost use Rattle.fax_repeat.specs.Peers.{bounded, change_on, cut_off, gone, no_bounds, peer_on, peers_of, said, settled, state_of};
 ghost use Rattle.fax_repeat.specs.Policies.{due_of};
 ghost use Rattle.fax_line.specs.Settling.{EndsTurn, IsOfTurnIf};
@@ -226,6 +226,7 @@ impl<W: LineWire + Drop> Line<W> {
     /// The wire is told the time, between two turns.
     pub fn tell_time(&mut self, now: u64)
         ensures goes { Goes [] self.old self.new }
+        ensures time { IsToldTimeWhere now self.old.holding self.new.holding }
         ensures stays { StaysWhere self.old.holding self.new.holding }
         ensures peers { self.new.peers ≡ self.old.peers }
         ensures turned { self.new.turned ≡ self.old.turned }

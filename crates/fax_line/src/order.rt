@@ -1,5 +1,5 @@
 //! What gives the orders.
-ghost use Rattle.std.specs.Prelude.{◌≡◌, ℕ, List, [], ◌∷◌, Option};
+ghost use Rattle.std.specs.Prelude.{◌≡◌, ℕ, List, [], ◌∷◌, Option, option_copied};
 ghost use Rattle.fax_gateway.specs.Wires.{Grows};
 ghost use Rattle.fax_line.specs.Words.{Answers, Asks, Word};
 ghost use Rattle.fax_line.specs.declared.asked.Answered.{Answered as AnsweredShown};
@@ -40,6 +40,10 @@ pub trait Pace<W: LineWire + Drop, K: RunKeeper> {
     /// What is made of it where it sees what a turn came to. By default nothing is told of that.
     ghost sees: { Self → Self → Type 0 } = { λ old new. Unit {0} };
 
+    /// What is made of it where it sees the end of a turn, and with it what keeps the pages as that is then. By default nothing is
+    /// told of that.
+    ghost sees_kept: { Option K → Self → Self → Type 0 } = { λ keeper old new. Unit {0} };
+
     /// What is to be done next, once it is due. `None`: the run ends.
     fn next(&mut self, lines: &Lines<W>, keeper: Option<&K>) -> Option<Order>
         ensures words { Grows (Asks result ∷ []) (words self.old) (words self.new) }
@@ -60,7 +64,8 @@ pub trait Pace<W: LineWire + Drop, K: RunKeeper> {
     /// The turn of a slot has ended. The jobs that ended in it wait on the keeper still.
     fn turned(&mut self, lines: &Lines<W>, keeper: Option<&K>)
         ensures words { words self.new ≡ words self.old }
-        ensures sees { sees self.old self.new };
+        ensures sees { sees self.old self.new }
+        ensures sees_kept { sees_kept (option_copied keeper.entry) self.old self.new };
 
     /// What was asked of a line by an order is done, and the line answered so. `None`: there is no such line.
     fn done(&mut self, line: usize, answer: Option<Answered>)

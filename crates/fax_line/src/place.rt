@@ -2,6 +2,7 @@
 ghost use Rattle.std.specs.Prelude.{◌≡◌, List, [], ◌∷◌, Some, not, true, false, IfOk, OnErr};
 ghost use Rattle.fax_timers.specs.Moments.{is_due};
 ghost use Rattle.fax_gateway.specs.Restored.{RestoredCall};
+ghost use Rattle.fax_hold.specs.Holding.{IsToldTimeWhere};
 ghost use Rattle.fax_line.specs.Actions.{Asks, BeginsWith, Frees, Wakes, side_begun};
 ghost use Rattle.fax_line.specs.LegPeers.{peers_behind};
 ghost use Rattle.fax_line.specs.Places.{BeginsInPlace, GoesInPlace, StaysHeld, TellsOrRests, is_at_rest, visit_of};
@@ -97,6 +98,7 @@ impl<W: LineWire + Drop> Place<W> {
     /// Its wire is told the time, between two turns, where something is due.
     pub fn tell_time(&mut self, now: u64)
         ensures goes { GoesInPlace [] self.old self.new }
+        ensures time { is_due self.old.due now ≡ true → IsToldTimeWhere now self.old.line.holding self.new.line.holding }
         ensures stays { StaysHeld self.old self.new }
         ensures turned { self.new.turned ≡ self.old.turned }
     {

@@ -2,7 +2,7 @@
 ghost use Rattle.std.specs.Prelude.{◌≡◌, ℕ, List, []};
 ghost use Rattle.fax_line.specs.Deeds.{AreRising, Went, slot_before};
 ghost use Rattle.fax_line.specs.KeptRuns.{IsSettled, IsSettledIf, RanIf};
-ghost use Rattle.fax_line.specs.Pacing.{PacedToEnd, SeesTurn};
+ghost use Rattle.fax_line.specs.Pacing.{PacedToEnd, SawKept, SeesTurn};
 ghost use Rattle.fax_line.specs.Runs.{Done, Ends, deeds_of, latest, next_slot};
 ghost use Rattle.fax_line.specs.declared.settling.SlotEnd.{SlotEnd as EndShown};
 
@@ -72,7 +72,8 @@ fn settle<W: TimedWire + Drop, K: RunKeeper, P: Pace<HoldingWire<W>, K>>(
     }
 }
 
-/// The same where there is a keeper.
+/// The same where there is a keeper. The end of the turn, with what its jobs came to, is told before the keeper notes that they
+/// ended: a job whose end nobody was told is sent again.
 fn settle_kept<W: TimedWire + Drop, K: RunKeeper, P: Pace<HoldingWire<W>, K>>(
     lines: &mut Lines<HoldingWire<W>>,
     keeper: &mut K,
@@ -82,7 +83,8 @@ fn settle_kept<W: TimedWire + Drop, K: RunKeeper, P: Pace<HoldingWire<W>, K>>(
     ensures slot { lines.new.slot ≡ lines.old.slot }
     ensures words { P.words pace.new ≡ P.words pace.old }
     ensures sees { SeesTurn P.sees pace.old pace.new }
-    ensures settled { (end : EndShown) × IsSettled K.is_same K.puts K.notes K.ends (slot_before lines.old.slot) end lines.old.lines lines.new.lines keeper.old keeper.new }
+    ensures settled { (end : EndShown) × (made : IsSettled K.is_same K.puts K.notes K.ends (slot_before lines.old.slot) end lines.old.lines lines.new.lines keeper.old keeper.new)
+        × SawKept P.sees_kept made.kept pace.new }
 {
     pace.before_put(lines, keeper);
     let end = lines.settle_slot(keeper);

@@ -16,4 +16,5 @@ returns-clause-settled g c = (
     told = subst (λ (slot : ℕ). TellsSlot g.K.RunKeeper.notes g.K.RunKeeper.ends slot c.settle_slot-end.result.pages.items c.settle_slot-end.new.self.lines c.settle_slot-end.new.keeper c.tell_keeper.new.keeper)
         (ap slot_before c.settle_slot-end.ensures.slot) c.tell_keeper.ensures;
   },
+  (c.behind_put.new.self, c.turned.ensures.sees_kept),
 )

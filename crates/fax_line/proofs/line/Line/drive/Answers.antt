@@ -8,6 +8,7 @@ use Rattle.fax_gateway.proofs.DrivingLemmas.{wire_shown}
 use Rattle.fax_repeat.specs.Peers.{HearsOn, peers_of}
 use Rattle.fax_repeat.specs.Policies.{due_of}
 use Rattle.fax_hold.specs.Holding.{SendsWhere, StaysWhere}
+use Rattle.fax_hold.proofs.Clocks.{SameBySend, SameOn, same_over, time_then}
 use Rattle.fax_hold.proofs.Held.{held_later, logs_are_held}
 use Rattle.fax_line.specs.Actions.{Drives, Goes, LineValue, Turns}
 use Rattle.fax_line.proofs.Goings.{drives_turn, goes_turn, line_of}
@@ -50,4 +51,10 @@ returns-clause-drives g c =
     let t = c.turn-self-inside.ensures.turned setup writes trace earlier writing reached made in
     hear_later heard_was heard_mid heard_is (g.met.W.TimedWire.keeps_on_time c.self.inside.wire c.go_on.new.self c.go_on.ensures.makes)
     (hear_over t.0 heard_mid heard_is
-    (wire_shown (peers_of g.W.LegWire.peer_at) g.W.Wire.receives g.W.Wire.sends HearsOn SendStays t.0 c.go_on.new.self c.turn-self-inside.new.wire g.met.W.LegWire.keeps_on_receive g.met.W.LegWire.keeps_on_send t.5))))
+    (wire_shown (peers_of g.W.LegWire.peer_at) g.W.Wire.receives g.W.Wire.sends HearsOn SendStays t.0 c.go_on.new.self c.turn-self-inside.new.wire g.met.W.LegWire.keeps_on_receive g.met.W.LegWire.keeps_on_send t.5)))
+    (λ (setup : Setup) (writes : Writing) (trace : List Event) (earlier : List Entry) (writing : IsWriting writes) (reached : IsReachedBy setup writes trace c.self.inside.gateway) (made : HasMade earlier c.self.inside.engine).
+    let t = c.turn-self-inside.ensures.turned setup writes trace earlier writing reached made in
+    time_then c.args.now was mid is (g.met.W.LineWire.holds_time c.args.now c.self.inside.wire c.go_on.new.self c.go_on.ensures.clock)
+    (g.met.W.LineWire.holds_clock c.go_on.new.self c.turn-self-inside.new.wire
+    (same_over t.0 (g.W.TimedWire.clock c.go_on.new.self) (g.W.TimedWire.clock c.turn-self-inside.new.wire)
+    (wire_shown g.W.TimedWire.clock g.W.Wire.receives g.W.Wire.sends SameOn SameBySend t.0 c.go_on.new.self c.turn-self-inside.new.wire g.met.W.TimedWire.clock_on_receive g.met.W.TimedWire.clock_on_send t.5)))))
