@@ -7,7 +7,7 @@ use Rattle.fax_config.specs.declared.config.LegConfig.{LegConfig}
 use Rattle.fax_config.specs.declared.config.LineConfig.{LineConfig}
 use Rattle.fax_config.specs.declared.config.Config.{Config}
 use Rattle.fax_config.specs.declared.keys.Level.TheVariants as levels
-use Rattle.fax_config.specs.Members.{HasKnownKeys, IsAddressAt, IsLineName, IsNumberAt, IsRepeatAt, IsTableAt, IsTextAt}
+use Rattle.fax_config.specs.Members.{HasKnownKeys, IsAddressAt, IsLineName, IsNumberAt, IsPathAt, IsRepeatAt, IsTableAt, IsTextAt}
 
 -- A line's name can be said in a control word, and its settings are in their ranges.
 pub record IsInRange (line : LineConfig) : Type 0 where
@@ -34,11 +34,12 @@ names_of config = names_of_lines config.lines.items
 abbrev pub local_addresses : Config → List SocketAddr
 local_addresses config = locals_of_lines config.lines.items
 
--- The table tells this leg.
+-- The table tells this leg, which is not its own peer.
 pub record IsLeg (members : Members) (leg : LegConfig) : Type 0 where
   pub keys : HasKnownKeys levels.Leg members
   pub local : IsAddressAt (codes "local") members (Some leg.local)
   pub peer : IsAddressAt (codes "peer") members leg.peer
+  pub other : leg.peer ≢ Some leg.local
 
 -- the table at a key tells this leg
 abbrev pub IsLegAt : List ℕ → Members → LegConfig → Type 0
@@ -74,8 +75,8 @@ AreLinesAt members lines =
 -- The document tells this configuration.
 pub record IsConfig (members : Members) (config : Config) : Type 0 where
   pub keys : HasKnownKeys levels.Top members
-  pub control : IsTextAt (codes "control") members (option_map (λ path. string_bytes path) config.control)
-  pub spool : IsTextAt (codes "spool") members (option_map (λ path. string_bytes path) config.spool)
+  pub control : IsPathAt (codes "control") members (option_map (λ path. string_bytes path) config.control)
+  pub spool : IsPathAt (codes "spool") members (option_map (λ path. string_bytes path) config.spool)
   pub stop_seconds : IsNumberAt (codes "stop_seconds") members 120 config.stop_seconds
   pub stop_in_range : config.stop_seconds ≤ 86400
   pub lines : AreLinesAt members config.lines.items

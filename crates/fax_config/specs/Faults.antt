@@ -1,7 +1,8 @@
 -- What each fault says of a text (this project's profile).
-use Rattle.std.specs.Prelude.{◌≡◌, ◌≢◌, ℕ, ℤ, pos, Bool, true, ◌+◌, ◌<◌, ◌≤◌, ◌⊎◌, Option, None, Some, IsSomeAnd, List, length, take, codes, count_by, ◌==◌, get_or, Contains, option_and_then, string_bytes}
+use Rattle.std.specs.Prelude.{◌≡◌, ◌≢◌, ℕ, ℤ, pos, Bool, true, ◌+◌, ◌<◌, ◌≤◌, ◌⊎◌, Option, None, Some, IsSomeAnd, List, [], length, take, codes, count_by, ◌==◌, get_or, Contains, option_and_then, string_bytes}
 use Rattle.std.specs.List.{list_any}
 use Rattle.std.specs.Net.Grammar.{IsSocketText}
+use Rattle.std.specs.Net.Socket.{socket_port}
 use Rattle.std.specs.declared.net.socket_addr.SocketAddr.{SocketAddr}
 use Rattle.toml.specs.Data.{Data, string, integer, array, table, Items, no_items, item, Members, get_item, get_member, as_str, as_integer, as_array, as_table}
 use Rattle.toml.specs.Parse.{parse_document}
@@ -22,7 +23,7 @@ use Rattle.fax_config.specs.declared.fault.Trouble.TheVariants as troubles
 use Rattle.fax_config.specs.declared.keys.Level.{Level}
 use Rattle.fax_config.specs.declared.keys.Level.TheVariants as levels
 use Rattle.fax_config.specs.Configurations.{AreLinesAt, names_of_lines}
-use Rattle.fax_config.specs.Members.{IsLineName, IsTableAt, keys_of, known_keys, repeat_text}
+use Rattle.fax_config.specs.Members.{IsAddressAt, IsLineName, IsTableAt, keys_of, known_keys, repeat_text}
 
 -- the value is no list, or an item of it is no table
 abbrev pub IsNoListOfTables : Data → Type 0
@@ -37,6 +38,9 @@ IsTrouble troubles.NotNumber found = IsSomeAnd found (λ value. as_integer value
 IsTrouble troubles.NotTable found = IsSomeAnd found (λ value. as_table value ≡ None)
 IsTrouble troubles.NotTables found = IsSomeAnd found IsNoListOfTables
 IsTrouble troubles.NotAddress found = (text : List ℕ) × (found ≡ Some (string text)) × ((address : SocketAddr) → ¬ (IsSocketText text address))
+IsTrouble troubles.NoPort found =
+    (text : List ℕ) × (address : SocketAddr) × (found ≡ Some (string text)) × IsSocketText text address × (socket_port address ≡ 0)
+IsTrouble troubles.Empty found = found ≡ Some (string [])
 IsTrouble troubles.NotRepeat found = (text : List ℕ) × (found ≡ Some (string text)) × ((kind : Repeat) → text ≢ repeat_text kind)
 IsTrouble troubles.NotName found = (text : List ℕ) × (found ≡ Some (string text)) × ¬ (IsLineName text)
 IsTrouble (troubles.OutOfRange least most) found =
@@ -46,6 +50,7 @@ IsTrouble (troubles.OutOfRange least most) found =
 abbrev pub HasFlaw : Level → Members → Flaw → Type 0
 HasFlaw level inside (flaws.Unknown key) = Contains (keys_of inside) (string_bytes key) × ¬ (Contains (known_keys level) (string_bytes key))
 HasFlaw level inside (flaws.At key trouble) = IsTrouble trouble (get_member key.now inside)
+HasFlaw level inside flaws.OwnPeer = (address : SocketAddr) × IsAddressAt (codes "local") inside (Some address) × IsAddressAt (codes "peer") inside (Some address)
 HasFlaw level inside flaws.NoMemory = Unit {0}
 
 -- a line is told of by its name, or by how many stand before it where it has no name that is a text

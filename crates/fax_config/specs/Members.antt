@@ -1,6 +1,7 @@
 -- What the members of a TOML table tell (TOML 1.1; which keys there are is this project's profile).
 use Rattle.std.specs.Prelude.{◌≡◌, ◌≢◌, ℕ, ◌<◌, ◌≤◌, ◌⊎◌, pos, List, [], ◌∷◌, length, codes, Option, None, Some, All, Contains}
 use Rattle.std.specs.Net.Grammar.{IsSocketText}
+use Rattle.std.specs.Net.Socket.{socket_port}
 use Rattle.std.specs.declared.net.socket_addr.SocketAddr.{SocketAddr}
 use Rattle.toml.specs.Data.{string, integer, table, Members, no_members, member, get_member}
 use Rattle.fax_config.specs.declared.config.Repeat.{Repeat}
@@ -33,10 +34,16 @@ abbrev pub IsNumberAt : List ℕ → Members → ℕ → ℕ → Type 0
 IsNumberAt key members default n =
     ((get_member key members ≡ None) × (n ≡ default)) ⊎ (get_member key members ≡ Some (integer (pos n)))
 
--- the address at a key, or that there is none
+-- the path at a key, of an octet at least, or that there is none
+abbrev pub IsPathAt : List ℕ → Members → Option (List ℕ) → Type 0
+IsPathAt key members None = get_member key members ≡ None
+IsPathAt key members (Some path) = (get_member key members ≡ Some (string path)) × (path ≢ [])
+
+-- the address at a key, whose port is not 0, or that there is none
 abbrev pub IsAddressAt : List ℕ → Members → Option SocketAddr → Type 0
 IsAddressAt key members None = get_member key members ≡ None
-IsAddressAt key members (Some address) = (text : List ℕ) × (get_member key members ≡ Some (string text)) × IsSocketText text address
+IsAddressAt key members (Some address) =
+    (text : List ℕ) × (get_member key members ≡ Some (string text)) × IsSocketText text address × (socket_port address ≢ 0)
 
 -- the table at a key
 abbrev pub IsTableAt : List ℕ → Members → Members → Type 0

@@ -12,6 +12,9 @@ pub enum Trouble {
     NotTable,
     NotTables,
     NotAddress,
+    /// Its port is 0, at which nothing is heard.
+    NoPort,
+    Empty,
     NotRepeat,
     NotName,
     /// The least and the most that it may be.
@@ -25,6 +28,8 @@ pub enum Flaw {
     Unknown(String),
     /// The value at a key.
     At(&'static str, Trouble),
+    /// The peer of a leg is the leg's own address.
+    OwnPeer,
     NoMemory,
 }
 
@@ -72,6 +77,8 @@ impl fmt::Display for Trouble {
             Trouble::NotTable => write!(f, "is no table"),
             Trouble::NotTables => write!(f, "is no list of tables"),
             Trouble::NotAddress => write!(f, "is no address with a port"),
+            Trouble::NoPort => write!(f, "has port 0"),
+            Trouble::Empty => write!(f, "is empty"),
             Trouble::NotRepeat => write!(f, "is none of full, last and none"),
             Trouble::NotName => write!(
                 f,
@@ -87,6 +94,7 @@ impl fmt::Display for Flaw {
         match self {
             Flaw::Unknown(key) => write!(f, "the key {key:?} is not known"),
             Flaw::At(key, trouble) => write!(f, "{key} {trouble}"),
+            Flaw::OwnPeer => write!(f, "peer is the leg's own address"),
             Flaw::NoMemory => write!(f, "memory was refused"),
         }
     }

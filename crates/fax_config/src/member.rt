@@ -4,7 +4,7 @@ ghost use Rattle.toml.specs.Data.{get_member};
 ghost use Rattle.toml.specs.View.{table_view, view};
 ghost use Rattle.fax_config.specs.declared.keys.Level.{Level};
 ghost use Rattle.fax_config.specs.Faults.{HasFlaw};
-ghost use Rattle.fax_config.specs.Members.{IsAddressAt, IsLineName, IsNumberAt, IsRepeatAt, IsTableAt, IsTextAt};
+ghost use Rattle.fax_config.specs.Members.{IsAddressAt, IsLineName, IsNumberAt, IsPathAt, IsRepeatAt, IsTableAt, IsTextAt};
 
 use crate::config::{MOST_NAME_OCTETS, Repeat};
 use crate::fault::{Flaw, Trouble};
@@ -30,6 +30,20 @@ pub fn text_at<'a>(table: &'a Table, key: &'static str) -> Result<Option<&'a str
         Some(text) => Ok(Some(text)),
         None => Err(Flaw::At(key, Trouble::NotText)),
     }
+}
+
+/// The path at a key, if there is one. It has an octet at least.
+pub fn path_at<'a>(table: &'a Table, key: &'static str) -> Result<Option<&'a str>, Flaw>
+    ensures ok { IfOk result (λ path. IsPathAt key.now (table_view table.now) (option_map (λ octets. octets.now) path)) }
+    ensures fault { IfErr result (λ flaw. (level : Level) → HasFlaw level (table_view table.now) flaw) }
+{
+    let Some(path) = text_at(table, key)? else {
+        return Ok(None);
+    };
+    if path.is_empty() {
+        return Err(Flaw::At(key, Trouble::Empty));
+    }
+    Ok(Some(path))
 }
 
 /// A number that has to lie in a range, if it does.
@@ -75,7 +89,7 @@ pub fn number_at(
     }
 }
 
-/// The address at a key, if there is one.
+/// The address at a key, if there is one. Its port is not 0.
 pub fn address_at(table: &Table, key: &'static str) -> Result<Option<SocketAddr>, Flaw>
     ensures ok { IfOk result (λ address. IsAddressAt key.now (table_view table.now) address) }
     ensures fault { IfErr result (λ flaw. (level : Level) → HasFlaw level (table_view table.now) flaw) }
@@ -84,6 +98,7 @@ pub fn address_at(table: &Table, key: &'static str) -> Result<Option<SocketAddr>
         return Ok(None);
     };
     match text.parse::<SocketAddr>() {
+        Ok(address) if address.port() == 0 => Err(Flaw::At(key, Trouble::NoPort)),
         Ok(address) => Ok(Some(address)),
         Err(_) => Err(Flaw::At(key, Trouble::NotAddress)),
     }

@@ -4,7 +4,7 @@ ghost use Rattle.toml.specs.Data.{Members, array, get_member};
 ghost use Rattle.toml.specs.View.{array_view, table_view};
 ghost use Rattle.fax_control.specs.Words.{leg_text};
 ghost use Rattle.fax_config.specs.declared.keys.Level.TheVariants as levels;
-ghost use Rattle.fax_config.specs.Members.{HasKnownKeys, IsNumberAt, IsTextAt};
+ghost use Rattle.fax_config.specs.Members.{HasKnownKeys, IsNumberAt, IsPathAt};
 ghost use Rattle.fax_config.specs.Configurations.{AreLines, AreLinesAt, AreUnlike, IsConfig, IsInRange, IsLeg, IsLegAt, IsLine, Tells, local_addresses, names_of};
 ghost use Rattle.fax_config.specs.Faults.{HasFlaw, HasMisfit, IsFaultOf, IsMisfitOf, IsToldAs, line_number};
 
@@ -14,7 +14,7 @@ use crate::config::{
 };
 use crate::fault::{ConfigFault, Flaw, LineName, Misfit, Trouble};
 use crate::keys::{Level, only_known_keys};
-use crate::member::{address_at, name_of, number_at, repeat_of, table_at, text_at, value_at};
+use crate::member::{address_at, name_of, number_at, path_at, repeat_of, table_at, value_at};
 use crate::unlike::{locals_unlike, names_unlike};
 use fax_control::Leg;
 use std::alloc::{AllocError, Global};
@@ -97,16 +97,16 @@ struct Service {
 /// What a document tells beside its lines.
 fn top_of(alloc: Global, table: &Table) -> Result<Service, Flaw>
     ensures keys { OnOk result (HasKnownKeys levels.Top (table_view table.now)) }
-    ensures control { IfOk result (λ top. IsTextAt (codes "control") (table_view table.now) (option_map (λ path. string_bytes path) top.control)) }
-    ensures spool { IfOk result (λ top. IsTextAt (codes "spool") (table_view table.now) (option_map (λ path. string_bytes path) top.spool)) }
+    ensures control { IfOk result (λ top. IsPathAt (codes "control") (table_view table.now) (option_map (λ path. string_bytes path) top.control)) }
+    ensures spool { IfOk result (λ top. IsPathAt (codes "spool") (table_view table.now) (option_map (λ path. string_bytes path) top.spool)) }
     ensures stop { IfOk result (λ top. IsNumberAt (codes "stop_seconds") (table_view table.now) 120 top.stop_seconds) }
     ensures stop_in_range { IfOk result (λ top. top.stop_seconds ≤ 86400) }
     ensures fault { IfErr result (HasFlaw levels.Top (table_view table.now)) }
 {
     only_known_keys(alloc, table, Level::Top)?;
     let stop_seconds = number_at(table, "stop_seconds", 120, 0, MOST_STOP_SECONDS)?;
-    let control = owned(alloc, text_at(table, "control")?)?;
-    let spool = owned(alloc, text_at(table, "spool")?)?;
+    let control = owned(alloc, path_at(table, "control")?)?;
+    let spool = owned(alloc, path_at(table, "spool")?)?;
     Ok(Service {
         control,
         spool,
@@ -236,10 +236,11 @@ fn leg_of(alloc: Global, table: &Table) -> Result<LegConfig, Flaw>
     let Some(local) = address_at(table, "local")? else {
         return Err(Flaw::At("local", Trouble::Absent));
     };
-    Ok(LegConfig {
-        local,
-        peer: address_at(table, "peer")?,
-    })
+    let peer = address_at(table, "peer")?;
+    if peer == Some(local) {
+        return Err(Flaw::OwnPeer);
+    }
+    Ok(LegConfig { local, peer })
 }
 
 /// How a line is told of in a fault.

@@ -5,8 +5,8 @@ use Rattle.fax_config.proofs.reading.top_of.Goals as goal
 pub returns-in_err-stop_seconds-clause-fault : goal.returns-in_err-stop_seconds-clause-fault
 returns-in_err-stop_seconds-clause-fault c = let here = c.in_err-stop_seconds.ensures.fault levels.Top in search rules
 
-pub returns-in_err-text_at-clause-fault : goal.returns-in_err-text_at-clause-fault
-returns-in_err-text_at-clause-fault c = let here = c.in_err-text_at.ensures.fault levels.Top in search rules
+pub returns-in_err-path_at-clause-fault : goal.returns-in_err-path_at-clause-fault
+returns-in_err-path_at-clause-fault c = let here = c.in_err-path_at.ensures.fault levels.Top in search rules
 
-pub returns-in_err-text_at-2-clause-fault : goal.returns-in_err-text_at-2-clause-fault
-returns-in_err-text_at-2-clause-fault c = let here = c.in_err-text_at-2.ensures.fault levels.Top in search rules
+pub returns-in_err-path_at-2-clause-fault : goal.returns-in_err-path_at-2-clause-fault
+returns-in_err-path_at-2-clause-fault c = let here = c.in_err-path_at-2.ensures.fault levels.Top in search rules
