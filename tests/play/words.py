@@ -54,17 +54,37 @@ class Words(Play):
         self.assertIsNone(first.line(within=0.1))
         self.assertIsNone(second.line(within=0.1))
 
-    def test_one_more_client_waits_until_one_goes(self):
-        """At most 64 clients are heard at one time."""
+    def test_for_one_more_client_the_silent_one_goes(self):
+        """At most 64 clients are connected at one time. Who has said nothing for longest goes, and who hears events last of all."""
         server = self.serve(self.line())
+        events = server.events()
+        clients = [server.client() for _ in range(63)]
+        for client in [*clients, clients[0]]:
+            self.assertEqual(client.say("report a1"), ["ok"])
+        more = [server.client() for _ in range(62)]
+        for client in more:
+            self.assertEqual(client.say("status"), IDLE)
+        for client in clients[1:]:
+            client.stream.settimeout(30)
+            self.assertEqual(client.stream.recv(1), b"")
+        self.assertEqual(clients[0].say("ring a1"), ["ok 0"])
+        events.event("rung", line="a1", call=0)
+        self.assertEqual(server.say("stop"), ["ok"])
+
+    def test_one_more_client_waits_while_none_is_silent(self):
+        """Nobody goes who is still to be told something."""
+        server = self.serve(*(self.line(f"a{i}") for i in range(100)))
         clients = [server.client() for _ in range(64)]
         for client in clients:
-            self.assertEqual(client.say("report a1"), ["ok"])
+            client.stream.setblocking(False)
+            with contextlib.suppress(BlockingIOError):
+                for _ in range(100_000):
+                    client.stream.send(b"status\n")
         more = server.client()
-        more.send(b"status\n")
+        more.send(b"report a1\n")
         self.assertIsNone(more.line(within=0.5))
         clients.pop().close()
-        self.assertEqual(more.answer(), IDLE)
+        self.assertEqual(more.answer(), ["ok"])
 
     def test_a_client_that_does_not_read_holds_up_itself_alone(self):
         server = self.serve(*(self.line(f"a{i}") for i in range(100)))

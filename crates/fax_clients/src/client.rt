@@ -18,6 +18,10 @@ pub(crate) struct Client<I: Read + Drop, O: Write + Drop> {
     stream: Stream<I, O>,
     inbox: Inbox,
     outbox: Outbox,
+    /// How many lines all clients had said when this one said its last, or came in.
+    last_line: u64,
+    /// Whether another one takes its place.
+    is_let_go: bool,
 }
 
 /// Contracts see what came of it, and what it is told.
@@ -30,15 +34,33 @@ impl<I: Read + Drop, O: Write + Drop> Model for Client<I, O> {
 }
 
 impl<I: Read + Drop, O: Write + Drop> Client<I, O> {
-    /// A client that said nothing.
-    pub(crate) fn new(alloc: Global, stream: Stream<I, O>) -> Self
+    /// A client that said nothing, which comes in behind so many lines of others.
+    pub(crate) fn new(alloc: Global, stream: Stream<I, O>, lines: u64) -> Self
         ensures { result ≡ silent }
     {
         Client {
             stream,
             inbox: Inbox::new(),
             outbox: Outbox::new(alloc),
+            last_line: lines,
+            is_let_go: false,
         }
+    }
+
+    /// Where nothing that it said waits and nothing is being written to it: how many lines all clients had said when it said its last.
+    pub(crate) fn silent_since(&self) -> Option<u64> {
+        if self.inbox.is_heard() && !self.outbox.is_writing() {
+            Some(self.last_line)
+        } else {
+            None
+        }
+    }
+
+    /// It goes, since another one takes its place.
+    pub(crate) fn let_go(&mut self)
+        ensures { self.new ≡ self.old }
+    {
+        self.is_let_go = true;
     }
 
     /// From now on it is told events.
@@ -104,15 +126,19 @@ impl<I: Read + Drop, O: Write + Drop> Client<I, O> {
         }
     }
 
-    /// The next line that it said. It is heard no further while a text is being written.
-    pub(crate) fn hear(&mut self) -> Option<Heard>
+    /// The next line that it said, behind so many of all clients. It is heard no further while a text is being written.
+    pub(crate) fn hear(&mut self, lines: u64) -> Option<Heard>
         ensures none { IfNone result (HearsNoLine self.old self.new) }
         ensures heard { IfSome result (λ heard. HearsLine heard self.old self.new) }
     {
         if self.outbox.is_writing() {
             return None;
         }
-        self.inbox.hear()
+        let heard = self.inbox.hear();
+        if heard.is_some() {
+            self.last_line = lines;
+        }
+        heard
     }
 
     /// It is answered.
@@ -144,9 +170,10 @@ impl<I: Read + Drop, O: Write + Drop> Client<I, O> {
         self.outbox.take_lost()
     }
 
-    /// Whether it is there still: it takes octets, and says more, or is told something.
+    /// Whether it is there still: it takes octets, and says more, or is told something; and it was not let go.
     pub(crate) fn stays(&self) -> bool {
-        self.outbox.is_open()
+        !self.is_let_go
+            && self.outbox.is_open()
             && (self.inbox.is_open()
                 || !self.inbox.is_heard()
                 || self.outbox.is_writing()

@@ -37,13 +37,16 @@ impl Model for Asker {
     ghost inverse = { λ n. record { 0 = n } };
 }
 
-/// The clients of a control socket, at most 64 at one time; or standard input and output alone.
+/// The clients of a control socket, at most 64 at one time; or standard input and output alone. Where one more comes, the one goes that
+/// has been silent longest, of those that want events only where there is no other.
 #[derive(Drop)]
 pub struct Clients<I: Read + Drop, O: Write + Drop> {
     alloc: Global,
     listener: Option<UnixListener>,
     clients: Vec<Client<I, O>>,
     ready: Ready,
+    /// How many lines were heard of all clients.
+    lines: u64,
     /// How many lines of events were lost by clients that are gone.
     lost: u64,
 }
@@ -65,7 +68,7 @@ impl<I: Read + Drop, O: Write + Drop> Clients<I, O> {
     pub fn standard(alloc: Global, input: I, output: O) -> Result<Self, NoMemory>
         ensures { IfOk result (λ clients. clients ≡ standard_alone) }
     {
-        let mut client = Client::new(alloc, Stream::Standard(input, output));
+        let mut client = Client::new(alloc, Stream::Standard(input, output), 0);
         client.want_events()?;
         let mut clients = Vec::new(alloc);
         clients.push(client)?;
@@ -74,6 +77,7 @@ impl<I: Read + Drop, O: Write + Drop> Clients<I, O> {
             listener: None,
             clients,
             ready: Ready::new(alloc)?,
+            lines: 0,
             lost: 0,
         })
     }
@@ -87,6 +91,7 @@ impl<I: Read + Drop, O: Write + Drop> Clients<I, O> {
             listener: Some(listener),
             clients: Vec::new(alloc),
             ready: Ready::new(alloc)?,
+            lines: 0,
             lost: 0,
         })
     }
@@ -128,7 +133,7 @@ impl<I: Read + Drop, O: Write + Drop> Clients<I, O> {
     /// The descriptor of the control socket, while more clients may come.
     fn door(&self) -> Option<i32> {
         match &self.listener {
-            Some(listener) if self.clients.len() < MOST_CLIENTS => Some(listener.as_raw_fd()),
+            Some(listener) if has_room(self.clients.as_slice()) => Some(listener.as_raw_fd()),
             _ => None,
         }
     }
@@ -156,11 +161,14 @@ impl<I: Read + Drop, O: Write + Drop> Clients<I, O> {
         let Some(listener) = &self.listener else {
             return;
         };
+        if self.clients.len() >= MOST_CLIENTS {
+            return;
+        }
         let Ok((stream, _)) = listener.accept() else {
             return;
         };
-        if self.clients.len() < MOST_CLIENTS && stream.set_nonblocking(true).is_ok() {
-            let client = Client::new(self.alloc, Stream::Socket(stream));
+        if stream.set_nonblocking(true).is_ok() {
+            let client = Client::new(self.alloc, Stream::Socket(stream), self.lines);
             let _ = self.clients.push(client);
         }
     }
@@ -173,7 +181,9 @@ impl<I: Read + Drop, O: Write + Drop> Clients<I, O> {
         ensures socket { self.new.has_socket ≡ self.old.has_socket }
         ensures lost { self.new.lost ≡ self.old.lost }
     {
-        hear(self.clients.as_mut_slice())
+        let heard = hear(self.clients.as_mut_slice(), self.lines);
+        self.lines = self.lines.saturating_add(u64::from(heard.is_some()));
+        heard
     }
 
     /// A client is answered.
@@ -230,7 +240,7 @@ impl<I: Read + Drop, O: Write + Drop> Clients<I, O> {
 }
 
 /// Waits until one of the clients has said something or takes more, at most so many milliseconds; reads and writes what can
-/// be.
+/// be. Where one more comes, and there is no place, one of them is let go.
 fn wait_for<I: Read + Drop, O: Write + Drop>(
     ready: &mut Ready,
     clients: &mut [Client<I, O>],
@@ -241,6 +251,9 @@ fn wait_for<I: Read + Drop, O: Write + Drop>(
     let is_waiting = ask(ready, clients);
     ready.wait(if is_waiting { 0 } else { most_ms });
     serve(ready, clients);
+    if ready.is_ready(0) {
+        make_room(clients);
+    }
 }
 
 /// What the clients are waited for. It answers whether a line may be there that one said.
@@ -279,13 +292,63 @@ fn take_lost<I: Read + Drop, O: Write + Drop>(clients: &mut [Client<I, O>]) -> u
     lost
 }
 
-/// The next line that one of the clients said, and which one.
-fn hear<I: Read + Drop, O: Write + Drop>(clients: &mut [Client<I, O>]) -> Option<(Asker, Heard)>
+/// Whether one more may come in: there is a place, or one of the clients can go.
+fn has_room<I: Read + Drop, O: Write + Drop>(clients: &[Client<I, O>]) -> bool {
+    clients.len() < MOST_CLIENTS || most_silent(clients).is_some()
+}
+
+/// Where there is no place for one more, a client goes.
+fn make_room<I: Read + Drop, O: Write + Drop>(clients: &mut [Client<I, O>])
+    ensures { clients.new ≡ clients.old }
+{
+    if clients.len() < MOST_CLIENTS {
+        return;
+    }
+    if let Some(place) = most_silent(clients)
+        && place < clients.len()
+    {
+        clients[place].let_go();
+    }
+}
+
+/// The client that has been silent longest, of those that want events only where there is no other; none where all are heard or told
+/// something now.
+fn most_silent<I: Read + Drop, O: Write + Drop>(clients: &[Client<I, O>]) -> Option<usize> {
+    match silent_longest(clients, false) {
+        Some(place) => Some(place),
+        None => silent_longest(clients, true),
+    }
+}
+
+/// Of the clients that want events, or of the others, the one that has been silent longest.
+fn silent_longest<I: Read + Drop, O: Write + Drop>(
+    clients: &[Client<I, O>],
+    wants_events: bool,
+) -> Option<usize> {
+    let mut least = u64::MAX;
+    let mut found = None;
+    for (place, client) in clients.iter().enumerate() {
+        if let Some(since) = client.silent_since()
+            && client.tells_events() == wants_events
+            && (since < least || found.is_none())
+        {
+            least = since;
+            found = Some(place);
+        }
+    }
+    found
+}
+
+/// The next line that one of the clients said, behind so many that all said, and which one.
+fn hear<I: Read + Drop, O: Write + Drop>(
+    clients: &mut [Client<I, O>],
+    lines: u64,
+) -> Option<(Asker, Heard)>
     ensures none { IfNone result (AllZip HearsNoLine clients.old clients.new) }
     ensures heard { IfSome result (λ said. Hears said.0 said.1 clients.old clients.new) }
 {
     for (i, client) in clients.iter_mut().enumerate() {
-        if let Some(heard) = client.hear() {
+        if let Some(heard) = client.hear(lines) {
             return Some((Asker(i), heard));
         }
     }
