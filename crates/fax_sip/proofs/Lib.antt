@@ -2,3 +2,4 @@ pub mod AnswerLemmas
 pub mod FieldLemmas
 pub mod PartLemmas
 pub mod TextLemmas
+pub mod WrittenLemmas

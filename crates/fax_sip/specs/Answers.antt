@@ -1,18 +1,16 @@
 -- The octets of an answer (RFC 3261, 8.2.6 and 12.1.1).
-use Rattle.std.specs.Prelude.{ℕ, ◌++◌, nat_lt, is_some, if◌then◌else◌, List, [], length, codes, decimal}
+use Rattle.std.specs.Prelude.{ℕ, ◌++◌, ◌||◌, not, nat_lt, is_some, if◌then◌else◌, List, [], length, codes, decimal, Option, Some}
 use Rattle.std.specs.List.{flat_map}
-use Rattle.fax_sip.specs.declared.answering.Field.{Field}
 use Rattle.fax_sip.specs.declared.answering.Reply.{Reply}
 use Rattle.fax_sip.specs.declared.name.Name.{Name}
 use Rattle.fax_sip.specs.declared.name.Name.TheVariants as name
-use Rattle.fax_sip.specs.Fields.{values_of}
+use Rattle.fax_sip.specs.declared.write_fault.WriteFault.{WriteFault}
+use Rattle.fax_sip.specs.declared.write_fault.WriteFault.TheVariants.{BadStatus, BadReason, BadTag}
+use Rattle.fax_sip.specs.Fields.{is_token, values_of}
 use Rattle.fax_sip.specs.Messages.{MessageText}
-use Rattle.fax_sip.specs.Names.{long}
 use Rattle.fax_sip.specs.Parameters.{parameter_of}
-
--- a header line, with its end
-abbrev pub header : Name → List ℕ → List ℕ
-header name value = long name ++ (codes ": " ++ (value ++ codes "\r\n"))
+use Rattle.fax_sip.specs.Permitted.{fields_fault, is_text}
+use Rattle.fax_sip.specs.Written.{field_octets, header, length_line}
 
 -- each header line of a name, as it came
 abbrev pub copied : Name → List (List ℕ) → List ℕ
@@ -33,16 +31,9 @@ kept_fields request tag =
 abbrev pub routes : ℕ → List (List ℕ) → List ℕ
 routes status lines = if nat_lt status 300 then copied name.RecordRoute lines else []
 
-abbrev pub field_octets : Field → List ℕ
-field_octets field = header field.name field.value.now
-
 -- the first line: the version, the status and its reason
 abbrev pub status_line : ℕ → List ℕ → List ℕ
 status_line status reason = codes "SIP/2.0 " ++ (decimal status ++ (codes " " ++ (reason ++ codes "\r\n")))
-
--- the length of the body, and the empty line
-abbrev pub length_line : ℕ → List ℕ
-length_line count = codes "Content-Length: " ++ (decimal count ++ codes "\r\n\r\n")
 
 -- An answer: its first line, what it has of the request, further header lines, the length of its body, an empty line, and the body.
 abbrev pub answer_octets : MessageText → Reply → List ℕ
@@ -53,3 +44,10 @@ answer_octets request reply =
     ++ (flat_map field_octets reply.fields.now
     ++ (length_line (length reply.body.now)
     ++ reply.body.now))))
+
+-- Why a reply is not written: the first fault of these, in this order.
+abbrev pub reply_fault : Reply → Option WriteFault
+reply_fault reply =
+    if nat_lt reply.status 100 || nat_lt 699 reply.status then Some BadStatus else
+    if not (is_text reply.reason.now) then Some BadReason else
+    if not (is_token reply.tag.now) then Some BadTag else fields_fault reply.fields.now

@@ -1,8 +1,13 @@
 pub mod Answers
 pub mod Fields
+pub mod Laws
 pub mod Lists
+pub mod Matching
 pub mod Messages
 pub mod Names
 pub mod Parameters
+pub mod Permitted
+pub mod Requests
 pub mod Starts
 pub mod Texts
+pub mod Written

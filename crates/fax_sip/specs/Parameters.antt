@@ -45,11 +45,11 @@ uri_in value (Some parts) = trimmed (before (Octet 62) parts.1)
 abbrev pub uri_of : List ℕ → List ℕ
 uri_of value = uri_in value (cut (Outside 60) value)
 
--- the user of a `sip` or `sips` address: behind the scheme, before `@` and its own parameters
+-- the user of a `sip` or `sips` address: behind the scheme, before `@`, a password and its own parameters (RFC 3261, 19.1.1)
 abbrev pub user_of : List ℕ → Option (List ℕ)
 user_of uri =
     option_and_then (λ parts.
-    if is_word parts.0 (codes "sip") || is_word parts.0 (codes "sips") then option_map (λ user. before (Octet 59) user.0) (cut (Octet 64) parts.1) else None)
+    if is_word parts.0 (codes "sip") || is_word parts.0 (codes "sips") then option_map (λ user. before (Octet 59) (before (Octet 58) user.0)) (cut (Octet 64) parts.1) else None)
     (cut (Octet 58) uri)
 
 -- a hop, apart from where its texts lie

@@ -1,43 +1,69 @@
 //! The octets of an answer to a request.
-ghost use Rattle.std.specs.Prelude.{◌≡◌, ◌++◌, IfOk, OnOk};
-ghost use Rattle.std.specs.List.{flat_map};
-ghost use Rattle.fax_sip.specs.Answers.{answer_octets, copied, field_octets, header, kept_fields, length_line, routes, status_line, to_header};
+ghost use Rattle.std.specs.Prelude.{◌≡◌, ◌++◌, IfErr, IfNone, IfOk, IfSome, OnOk};
+ghost use Rattle.fax_sip.specs.Answers.{answer_octets, copied, kept_fields, reply_fault, routes, status_line, to_header};
 ghost use Rattle.fax_sip.specs.Messages.{message_text};
 ghost use Rattle.fax_sip.specs.Texts.{lines_of};
 
-use crate::field::next_value;
+use crate::field::{is_token, next_value};
 use crate::message::Message;
 use crate::name::Name;
 use crate::parts::parameter;
+use crate::permitted::{fault_of_fields, is_text};
+use crate::write_fault::WriteFault;
+use crate::writing::{Field, put_fields, put_header, put_length};
 use std::alloc::{AllocError, Global};
-
-/// A header line that is told.
-#[derive(Clone, Copy)]
-pub struct Field<'a> {
-    /// Its name.
-    pub name: Name,
-    /// Its value, in one line.
-    pub value: &'a [u8],
-}
 
 /// What a request is answered.
 #[derive(Clone, Copy)]
 pub struct Reply<'a> {
-    /// The status, as 200.
+    /// The status, 100 to 699.
     pub status: u16,
-    /// What it means, in words.
+    /// What it means, in words; no control character but tabs.
     pub reason: &'a str,
-    /// Our tag, which `To` gets where it has none.
+    /// Our tag, which `To` gets where it has none: a token.
     pub tag: &'a str,
-    /// Further header lines.
+    /// Further header lines, whose values have no control character but tabs. None may be one that an answer has of itself.
     pub fields: &'a [Field<'a>],
     /// The body.
     pub body: &'a [u8],
 }
 
 /// The octets of an answer to a request (RFC 3261, 8.2.6): its `Via`, `From`, `To`, `Call-ID` and `CSeq` as they came, `To` with our
-/// tag, and `Record-Route` too where the answer may begin a dialog (12.1.1). `Err` means that memory was refused.
+/// tag, and `Record-Route` too where the answer may begin a dialog (12.1.1). `Err` means that a text of the reply may not stand where
+/// it is to, or that memory was refused.
 pub fn write_answer(
+    alloc: Global,
+    request: &Message<'_>,
+    reply: &Reply<'_>,
+) -> Result<Vec<u8>, WriteFault>
+    ensures ok { IfOk result (λ octets. octets.items ≡ answer_octets (message_text request.now) reply.now) }
+    ensures fails { IfSome (reply_fault reply.now) (λ fault. result ≡ Err fault) }
+    ensures memory { IfNone (reply_fault reply.now) (IfErr result (λ fault. fault ≡ WriteFault.NoMemory)) }
+{
+    if let Some(fault) = fault_of_reply(reply) {
+        return Err(fault);
+    }
+    let octets = octets_of_answer(alloc, request, reply)?;
+    Ok(octets)
+}
+
+/// Why a reply is not written.
+fn fault_of_reply(reply: &Reply<'_>) -> Option<WriteFault>
+    ensures { result ≡ reply_fault reply.now }
+{
+    if reply.status < 100 || reply.status > 699 {
+        Some(WriteFault::BadStatus)
+    } else if !is_text(reply.reason.as_bytes()) {
+        Some(WriteFault::BadReason)
+    } else if !is_token(reply.tag.as_bytes()) {
+        Some(WriteFault::BadTag)
+    } else {
+        fault_of_fields(reply.fields)
+    }
+}
+
+/// The octets of an answer.
+fn octets_of_answer(
     alloc: Global,
     request: &Message<'_>,
     reply: &Reply<'_>,
@@ -59,24 +85,6 @@ fn write_status_line(alloc: Global, status: u16, reason: &str) -> Result<Vec<u8>
 {
     let line = format!(in alloc; "SIP/2.0 {status} {reason}\r\n")?;
     Ok(line.into_bytes())
-}
-
-/// Writes the length of the body, and the empty line that ends the header lines.
-fn put_length(octets: &mut Vec<u8>, alloc: Global, length: usize) -> Result<(), AllocError>
-    ensures { OnOk result (octets.new.items ≡ octets.old.items ++ length_line length) }
-{
-    let line = format!(in alloc; "Content-Length: {length}\r\n\r\n")?;
-    octets.extend_from_slice(line.as_bytes())
-}
-
-/// Writes a header line.
-fn put_header(octets: &mut Vec<u8>, name: Name, value: &[u8]) -> Result<(), AllocError>
-    ensures { OnOk result (octets.new.items ≡ octets.old.items ++ header name value.now) }
-{
-    octets.extend_from_slice(name.long().as_bytes())?;
-    octets.extend_from_slice(b": ")?;
-    octets.extend_from_slice(value)?;
-    octets.extend_from_slice(b"\r\n")
 }
 
 /// Writes each header line of a name again.
@@ -125,14 +133,4 @@ fn put_routes(octets: &mut Vec<u8>, lines: &[u8], status: u16) -> Result<(), All
     } else {
         Ok(())
     }
-}
-
-/// Writes header lines that are told.
-fn put_fields(octets: &mut Vec<u8>, fields: &[Field<'_>]) -> Result<(), AllocError>
-    ensures { OnOk result (octets.new.items ≡ octets.old.items ++ flat_map field_octets fields.now) }
-{
-    for field in fields {
-        put_header(octets, field.name, field.value)?;
-    }
-    Ok(())
 }

@@ -115,7 +115,8 @@ pub fn uri_of(value: &[u8]) -> &[u8]
     }
 }
 
-/// The user of a `sip` or `sips` address: the number that is called.
+/// The user of a `sip` or `sips` address: the number that is called, without its own parameters and without a password (RFC 3261,
+/// 19.1.1).
 pub fn user_of(uri: &[u8]) -> Option<&[u8]>
     ensures { option_map (λ user. user.now) result ≡ user_in uri.now }
 {
@@ -124,6 +125,7 @@ pub fn user_of(uri: &[u8]) -> Option<&[u8]>
         return None;
     }
     let (user, _) = cut(rest, Mark::Octet(b'@'))?;
+    let user = before_mark(user, Mark::Octet(b':'));
     Some(before_mark(user, Mark::Octet(b';')))
 }
 

@@ -1,8 +1,9 @@
 use Rattle.std.proofs.Common.{flat_map, length}
-use Rattle.fax_sip.specs.Answers.{field_octets, kept_fields, length_line, routes, status_line}
+use Rattle.fax_sip.specs.Answers.{kept_fields, routes, status_line}
+use Rattle.fax_sip.specs.Written.{field_octets, length_line}
 use Rattle.fax_sip.specs.Messages.{message_text}
 use Rattle.fax_sip.proofs.AnswerLemmas.{answer_parts}
-use Rattle.fax_sip.proofs.answering.write_answer.Goals as goal
+use Rattle.fax_sip.proofs.answering.octets_of_answer.Goals as goal
 
 pub returns : goal.returns
 returns c =

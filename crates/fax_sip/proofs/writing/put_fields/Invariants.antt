@@ -1,6 +1,6 @@
 use Rattle.std.proofs.Common.{◌≡◌, ◌++◌, flat_map, take}
-use Rattle.fax_sip.specs.Answers.{field_octets}
-use Rattle.fax_sip.proofs.answering.put_fields.Given as goal
+use Rattle.fax_sip.specs.Written.{field_octets}
+use Rattle.fax_sip.proofs.writing.put_fields.Given as goal
 
 -- the header lines so far are written
 abbrev pub invariant-loop-field : goal.invariant-loop-field
