@@ -1,0 +1,5 @@
+pub mod ClientInviteProofs
+pub mod ClientRequestProofs
+pub mod RunProofs
+pub mod ServerInviteProofs
+pub mod ServerRequestProofs

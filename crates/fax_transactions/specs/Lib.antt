@@ -1,0 +1,10 @@
+pub mod ClientInviteLaws
+pub mod ClientInvites
+pub mod ClientRequestLaws
+pub mod ClientRequests
+pub mod Runs
+pub mod ServerInvites
+pub mod ServerLaws
+pub mod ServerRequests
+pub mod Servings
+pub mod Spans
