@@ -1,5 +1,4 @@
-//! Tests of what is coded: bits, code words, lines and pages, frames, packets, datagrams and session descriptions; and of timers. All through what
-//! these crates show.
+//! Tests of what is coded: bits, code words, lines and pages, frames, packets and datagrams; and of timers. All through what these crates show.
 #![tactic(auto)]
 
 #[cfg(test)]
@@ -18,10 +17,6 @@ mod mrcode;
 mod pagestore;
 #[cfg(test)]
 mod runcodes;
-#[cfg(test)]
-mod sdp;
-#[cfg(test)]
-mod sip;
 #[cfg(test)]
 mod timers;
 #[cfg(test)]

@@ -1,7 +1,7 @@
 //! SIP messages by hand, of the forms that RFC 3261 allows and RFC 4475 warns of.
 use fax_sip::{
-    Field, Method, Name, Reply, SipFault, Start, credential, parameter, read_message, read_via,
-    unquoted, uri_of, user_of, write_answer,
+    Field, Method, Name, Party, Reply, Request, SipFault, Start, WriteFault, credential, parameter,
+    read_message, read_via, unquoted, uri_of, user_of, write_answer, write_request,
 };
 use std::test::Fail;
 
@@ -81,6 +81,72 @@ const FAULTS: &[(&[u8], SipFault)] = &[
     ),
 ];
 
+/// A request that opens a dialog, with the header lines of RFC 3261, 8.1.1.
+const INVITE: &[u8] = b"INVITE sip:+4930123@gw.example SIP/2.0\r\n\
+Via: SIP/2.0/UDP 192.0.2.1:5080;branch=z9hG4bK7a\r\n\
+Max-Forwards: 70\r\n\
+From: <sip:fax@192.0.2.1>;tag=83f\r\n\
+To: <sip:+4930123@gw.example>\r\n\
+Call-ID: 5@192.0.2.1\r\n\
+CSeq: 1 INVITE\r\n\
+Contact: <sip:fax@192.0.2.1:5080>\r\n\
+Content-Length: 5\r\n\r\nv=0\r\n";
+
+/// Users of addresses: RFC 3261, 19.1.3, has some of these.
+const USERS: &[(&[u8], &[u8])] = &[
+    (b"sip:alice@atlanta.com", b"alice"),
+    (b"sip:alice:secretword@atlanta.com;transport=tcp", b"alice"),
+    (
+        b"sip:+1-212-555-1212:1234@gateway.com;user=phone",
+        b"+1-212-555-1212",
+    ),
+    (b"sip:1212;ext=3:4@gateway.com", b"1212"),
+];
+
+/// Names in full, as RFC 3261 (20) and RFC 4028 (4, 5) write them.
+const NAMES: &[(Name, &str)] = &[
+    (Name::Via, "Via"),
+    (Name::CallId, "Call-ID"),
+    (Name::CSeq, "CSeq"),
+    (Name::MaxForwards, "Max-Forwards"),
+    (Name::WwwAuthenticate, "WWW-Authenticate"),
+    (Name::SessionExpires, "Session-Expires"),
+    (Name::MinSe, "Min-SE"),
+];
+
+/// The request whose octets are [`INVITE`], with this header line further.
+fn invite<'a>(fields: &'a [Field<'a>]) -> Request<'a> {
+    Request {
+        method: b"INVITE",
+        uri: b"sip:+4930123@gw.example",
+        sent_by: b"192.0.2.1:5080",
+        branch: b"z9hG4bK7a",
+        from: Party {
+            uri: b"sip:fax@192.0.2.1",
+            tag: Some(b"83f"),
+        },
+        to: Party {
+            uri: b"sip:+4930123@gw.example",
+            tag: None,
+        },
+        call_id: b"5@192.0.2.1",
+        number: 1,
+        fields,
+        body: b"v=0\r\n",
+    }
+}
+
+/// What is answered that is fine.
+fn ok<'a>(fields: &'a [Field<'a>]) -> Reply<'a> {
+    Reply {
+        status: 200,
+        reason: "OK",
+        tag: "9f3",
+        fields,
+        body: b"",
+    }
+}
+
 /// Whether a text is the one that is there.
 fn is_text(found: Option<&[u8]>, text: &[u8]) -> bool {
     match found {
@@ -143,7 +209,7 @@ fn an_answer_has_the_hops_of_its_request(rt: HostRuntime) -> Result<(), Fail> {
         fields: &fields,
         body: b"",
     };
-    let octets = write_answer(rt.alloc(), &message, &reply)?;
+    let octets = write_answer(rt.alloc(), &message, &reply).map_err(|_| "an answer")?;
     assert!(rt; octets.as_slice() == BUSY);
     let read = read_message(octets.as_slice()).map_err(|_| "an answer")?;
     let status = match read.start {
@@ -167,7 +233,7 @@ fn a_request_without_a_tag_gets_one(rt: HostRuntime) -> Result<(), Fail> {
         fields: &[],
         body: b"v=0\r\n",
     };
-    let octets = write_answer(rt.alloc(), &request, &reply)?;
+    let octets = write_answer(rt.alloc(), &request, &reply).map_err(|_| "an answer")?;
     assert!(rt; octets.as_slice() == OPTIONS_OK);
     Ok(())
 }
@@ -206,5 +272,131 @@ fn a_challenge_is_taken_apart(rt: HostRuntime) -> Result<(), Fail> {
     assert!(rt; is_text(credential(challenge, "nonce"), b"\"f84f1c\""));
     assert!(rt; is_text(credential(challenge, "stale"), b"FALSE"));
     assert!(rt; credential(challenge, "domain").is_none());
+    Ok(())
+}
+
+#[test]
+fn a_user_has_no_password_and_no_parameters(rt: HostRuntime) {
+    for (uri, user) in USERS {
+        assert!(rt; is_text(user_of(uri), user));
+    }
+}
+
+#[test]
+fn names_are_those_of_the_standard(rt: HostRuntime) {
+    for (name, text) in NAMES {
+        assert!(rt; name.long() == *text);
+    }
+}
+
+#[test]
+fn a_request_is_written_and_read_back(rt: HostRuntime) -> Result<(), Fail> {
+    let fields = [Field {
+        name: Name::Contact,
+        value: b"<sip:fax@192.0.2.1:5080>",
+    }];
+    let octets = write_request(rt.alloc(), &invite(&fields)).map_err(|_| "a request")?;
+    assert!(rt; octets.as_slice() == INVITE);
+    let read = read_message(octets.as_slice()).map_err(|_| "a request")?;
+    let hop = read.value(Name::Via).ok_or("a hop")?;
+    assert!(rt; is_text(parameter(hop, "branch"), b"z9hG4bK7a"));
+    assert!(rt;
+        is_text(parameter(read.from, "tag"), b"83f") && parameter(read.to, "tag").is_none()
+    );
+    assert!(rt; read.sequence.number == 1 && is_text(Some(read.body), b"v=0\r\n"));
+    Ok(())
+}
+
+#[test]
+fn nobody_writes_a_header_line_of_their_own(rt: HostRuntime) -> Result<(), Fail> {
+    let request = read_message(OPTIONS).map_err(|_| "a request")?;
+    let split = [Field {
+        name: Name::Contact,
+        value: b"<sip:a>\r\nRecord-Route: <sip:evil.example;lr>",
+    }];
+    let own = [Field {
+        name: Name::ContentLength,
+        value: b"0",
+    }];
+    let reason = Reply {
+        reason: "OK\r\nx: y",
+        ..ok(&[])
+    };
+    let tag = Reply {
+        tag: "9f3\r\nx: y",
+        ..ok(&[])
+    };
+    let from = Request {
+        from: Party {
+            uri: b"sip:a>\r\nx: y",
+            tag: Some(b"83f"),
+        },
+        ..invite(&[])
+    };
+    let refused = |fault: Option<WriteFault>, wanted: WriteFault| fault == Some(wanted);
+    assert!(rt;
+        refused(
+            write_answer(rt.alloc(), &request, &ok(&split)).err(),
+            WriteFault::BadField(Name::Contact)
+        )
+    );
+    assert!(rt;
+        refused(
+            write_answer(rt.alloc(), &request, &ok(&own)).err(),
+            WriteFault::BadField(Name::ContentLength)
+        )
+    );
+    assert!(rt;
+        refused(
+            write_answer(rt.alloc(), &request, &reason).err(),
+            WriteFault::BadReason
+        )
+    );
+    assert!(rt;
+        refused(
+            write_answer(rt.alloc(), &request, &tag).err(),
+            WriteFault::BadTag
+        )
+    );
+    assert!(rt;
+        refused(
+            write_request(rt.alloc(), &invite(&split)).err(),
+            WriteFault::BadField(Name::Contact)
+        )
+    );
+    assert!(rt;
+        refused(
+            write_request(rt.alloc(), &from).err(),
+            WriteFault::BadAddress
+        )
+    );
+    Ok(())
+}
+
+/// A branch, as a request of RFC 2543 has one.
+const OLD: &[u8] =
+    b"BYE sip:a SIP/2.0\r\nVia: SIP/2.0/UDP 192.0.2.9;branch=1\r\nf: a;tag=1\r\nt: b;tag=2\r\ni: 1\r\nCSeq: 2 BYE\r\n\r\n";
+
+/// The ACK of a refusal of [`INVITE`], with its branch in other letters (RFC 3261, 17.1.1.3).
+const ACK: &[u8] = b"ACK sip:+4930123@gw.example SIP/2.0\r\n\
+Via: SIP/2.0/UDP 192.0.2.1:5080;branch=Z9HG4BK7A\r\n\
+From: <sip:fax@192.0.2.1>;tag=83f\r\n\
+To: <sip:+4930123@gw.example>;tag=9f3\r\n\
+Call-ID: 5@192.0.2.1\r\n\
+CSeq: 1 ACK\r\n\r\n";
+
+#[test]
+fn messages_find_their_transactions(rt: HostRuntime) -> Result<(), Fail> {
+    let invite = read_message(INVITE).map_err(|_| "a request")?;
+    let acknowledgement = read_message(ACK).map_err(|_| "an ACK")?;
+    let other = read_message(OPTIONS).map_err(|_| "another")?;
+    let old = read_message(OLD).map_err(|_| "an old one")?;
+    let invite = invite.key().ok_or("a key")?;
+    let acknowledgement = acknowledgement.key().ok_or("a key")?;
+    let other = other.key().ok_or("a key")?;
+    let old = old.key().ok_or("a key")?;
+    assert!(rt; invite.takes(&invite) && invite.takes(&acknowledgement) && !invite.takes(&other));
+    assert!(rt; !acknowledgement.takes(&invite) && !old.takes(&old));
+    assert!(rt; invite.is_answered_by(&invite) && !invite.is_answered_by(&acknowledgement));
     Ok(())
 }

@@ -1,0 +1,13 @@
+//! Tests of SIP messages, of transactions, of digests and of session descriptions, through what their crates show.
+#![tactic(auto)]
+
+#[cfg(test)]
+mod digests;
+#[cfg(test)]
+mod messages;
+#[cfg(test)]
+mod sdp;
+#[cfg(test)]
+mod serving;
+#[cfg(test)]
+mod transactions;
