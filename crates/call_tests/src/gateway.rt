@@ -1,9 +1,7 @@
 //! A whole call on both legs, and what is refused.
 mod asking;
 mod call;
-mod chain;
 mod driving;
-mod hostile;
 mod list_wire;
 mod restored;
 

@@ -1,10 +1,6 @@
-//! Tests of both sides of a call, the book of jobs, and the gateway with its engine, through what these crates show.
+//! Tests of the book of jobs, and of the gateway with its engine, through what these crates show: what no run of the program does.
 #![tactic(auto)]
 
-#[cfg(test)]
-mod answer;
-#[cfg(test)]
-mod caller;
 #[cfg(test)]
 mod gateway;
 #[cfg(test)]

@@ -164,18 +164,6 @@ impl Played {
             && self.report.is_none()
     }
 
-    /// Whether octets that came in place of a datagram did no harm: they were taken, which malformed ones are not; or
-    /// everything else was answered as to another, to which they did not come.
-    pub fn has_borne(&self, is_malformed: bool, other: &Played) -> bool {
-        if self.is_taken {
-            !is_malformed
-        } else {
-            self.ended == other.ended
-                && self.decided == other.decided
-                && self.has_given(other.given.as_slice(), other.report)
-        }
-    }
-
     /// Whether just these datagrams were given, in these turns, and this report.
     pub fn has_given(&self, given: &[OnWire], report: Option<Report>) -> bool {
         let mut all = self.given.len() == given.len() && self.report == report;

@@ -58,30 +58,6 @@ impl ShortOctets {
         }
     }
 
-    /// The first of these.
-    pub fn cut(&self, count: usize) -> Self {
-        ShortOctets {
-            octets: self.octets,
-            count: count.min(self.count),
-        }
-    }
-
-    /// These with one of them set.
-    pub fn with(&self, i: usize, octet: u8) -> Self {
-        let mut octets = self.octets;
-        if i < MOST_OCTETS {
-            octets[i] = octet;
-        }
-        ShortOctets {
-            octets,
-            count: self.count,
-        }
-    }
-
-    pub fn len(&self) -> usize {
-        self.count
-    }
-
     pub fn as_slice(&self) -> &[u8]
         ensures { result.now ≡ self.now }
     {
