@@ -1,7 +1,7 @@
-//! A spool over files of memory that a process left.
+//! A spool over files of memory that a process left, and what they tell while nobody opens them.
 use fax_restarts::open_again;
 use fax_runcodes::{Format, Width};
-use fax_spool::{Opened, PageRecord};
+use fax_spool::{Listing, Opened, PageRecord, list_spool};
 use sqlite_disk::Memory;
 use std::rt::HostRuntime;
 use std::test::Fail;
@@ -35,5 +35,31 @@ fn a_page_is_told_again(rt: HostRuntime) -> Result<(), Fail> {
     let opened = open_again(rt.alloc(), &PAGE)?;
     assert!(rt; tells_page(&opened));
     assert!(rt; opened.spool.epoch() == 2);
+    Ok(())
+}
+
+/// Whether this page alone is listed, closes its job, and nothing is harmed.
+fn lists_page(listing: &Listing) -> bool {
+    let is_whole = listing.one.damaged == 0 && listing.other.damaged == 0;
+    match listing.pages.as_slice() {
+        [page] => {
+            is_whole
+                && page.number == 1
+                && page.closes
+                && page.tag.as_slice() == PAGE.tag
+                && page.text.as_slice() == PAGE.text
+        }
+        _ => false,
+    }
+}
+
+/// What `list_spool` promises of an `Ok` is not empty: the files tell the page, whichever of them comes first.
+#[test]
+fn a_page_is_listed(rt: HostRuntime) -> Result<(), Fail> {
+    let (one, other) = open_again(rt.alloc(), &PAGE)?.spool.into_files();
+    let listing = list_spool(rt.alloc(), one.disk.bytes(), other.disk.bytes())?;
+    let turned = list_spool(rt.alloc(), other.disk.bytes(), one.disk.bytes())?;
+    assert!(rt; lists_page(&listing) && listing.torn.is_empty());
+    assert!(rt; lists_page(&turned) && turned.torn.is_empty());
     Ok(())
 }
