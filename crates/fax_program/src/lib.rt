@@ -3,7 +3,9 @@
 #![tactic(auto)]
 
 mod captures;
+mod descriptors;
 mod failures;
+mod looking;
 mod pictures;
 mod refusals;
 mod run;
@@ -12,6 +14,7 @@ mod serving;
 mod streams;
 mod terminals;
 
+pub use descriptors::most_descriptors;
 pub use failures::tell_loop;
 pub use run::{Ran, run_words};
 pub use serving::Service;

@@ -58,7 +58,7 @@ fn unread_word<R: Env>(rt: &R) -> Option<usize> {
 }
 
 /// Prints that memory was wanted and refused.
-fn tell_no_memory<R: Print + Eprint>(rt: &R) -> Status
+pub(crate) fn tell_no_memory<R: Print + Eprint>(rt: &R) -> Status
     ensures { IsToldAs Status.NoMemory result }
 {
     match rt.print("fault memory\n") {

@@ -1,9 +1,10 @@
 //! A run of the program.
 ghost use Rattle.fax_request.specs.Requests.{IsAllowed};
 
+use crate::looking::look_into_spool;
 use crate::refusals::{tell_refusal, tell_unread_words};
 use crate::saying::say_word;
-use crate::serving::{Service, service_of};
+use crate::serving::{Service, check, service_of};
 use crate::streams::{answer_capture, answer_explain, answer_loop, answer_page, answer_trace};
 use crate::terminals::{receive, send};
 use fax_request::{Request, request_of};
@@ -59,7 +60,9 @@ fn run_request<R: Print + Eprint + Input + AllocGlobal, N: Net + Files + Clock +
             Ok(service) => return Ran::Serves(service),
             Err(status) => status.code(),
         },
+        Request::Check(path) => check(rt, system, path).code(),
         Request::Say(path, saying) => say_word(rt, system, path, &saying).code(),
+        Request::Spool(options) => look_into_spool(rt, system, options).code(),
         Request::Send(options, files) => send(rt, system, options, files.as_slice()).code(),
         Request::Receive(options) => receive(rt, system, options).code(),
     };

@@ -1,6 +1,8 @@
 //! `faxgate serve`.
+ghost use Rattle.std.specs.Prelude.{◌≤◌, IfOk, length};
 ghost use Rattle.fax_program.specs.Statuses.{IsEndedBy, IsToldAs};
 
+use crate::descriptors::{descriptor_limit, most_descriptors};
 use crate::failures::tell_unprinted;
 use fax_command::Status;
 use fax_config::{Config, ConfigFault, Misfit, read_config};
@@ -113,21 +115,16 @@ impl Service {
     }
 }
 
-/// The lines of the configuration in the file at this path. An `Err` is the status behind a fault that was told.
+/// The lines of the configuration in the file at this path. An `Err` is the status after a fault that was told.
 pub(crate) fn service_of<R: Print + Eprint + AllocGlobal, N: Files + AllocGlobal>(
     rt: &R,
     system: &N,
     path: &str,
 ) -> Result<Service, Status> {
-    let text = match fs::read_to_string(system, path) {
-        Ok(text) => text,
-        Err(error) => return Err(tell(rt, path, error, Status::Stream)),
-    };
-    let config = match read_config(rt.alloc(), text.as_str()) {
-        Ok(config) => config,
-        Err(ConfigFault::Misfit(Misfit::NoMemory)) => return Err(tell_no_memory(rt, path)),
-        Err(fault) => return Err(tell(rt, path, fault, Status::Usage)),
-    };
+    let config = config_at(rt, system, path)?;
+    if let Some(status) = tell_too_few(rt, path, most_descriptors(&config)) {
+        return Err(status);
+    }
     if config.spool.is_none()
         && let Err(error) = rt.print("pages are kept in memory alone: no spool is set\n")
     {
@@ -142,6 +139,56 @@ pub(crate) fn service_of<R: Print + Eprint + AllocGlobal, N: Files + AllocGlobal
         }),
         Err(_) => Err(tell_no_memory(rt, path)),
     }
+}
+
+/// Reads the configuration at this path, and says how many lines it has, and how many descriptors its server wants.
+pub(crate) fn check<R: Print + Eprint + AllocGlobal, N: Files + AllocGlobal>(
+    rt: &R,
+    system: &N,
+    path: &str,
+) -> Status {
+    let config = match config_at(rt, system, path) {
+        Ok(config) => config,
+        Err(status) => return status,
+    };
+    let lines = config.lines.len();
+    let wanted = most_descriptors(&config);
+    if let Err(error) = rt.print(format_args!("lines {lines}\ndescriptors {wanted}\n")) {
+        return tell_unprinted(rt, error);
+    }
+    match tell_too_few(rt, path, wanted) {
+        Some(status) => status,
+        None => Status::Done,
+    }
+}
+
+/// The configuration in the file at this path. An `Err` is the status after a fault that was told.
+fn config_at<R: Eprint + AllocGlobal, N: Files + AllocGlobal>(
+    rt: &R,
+    system: &N,
+    path: &str,
+) -> Result<Config, Status>
+    ensures few { IfOk result (λ config. length config.lines.items ≤ 4000) }
+{
+    let text = match fs::read_to_string(system, path) {
+        Ok(text) => text,
+        Err(error) => return Err(tell(rt, path, error, Status::Stream)),
+    };
+    match read_config(rt.alloc(), text.as_str()) {
+        Ok(config) => Ok(config),
+        Err(ConfigFault::Misfit(Misfit::NoMemory)) => Err(tell_no_memory(rt, path)),
+        Err(fault) => Err(tell(rt, path, fault, Status::Usage)),
+    }
+}
+
+/// Where this process cannot open so many descriptors that is told, and the status that says it.
+fn tell_too_few<R: Eprint>(rt: &R, path: &str, wanted: usize) -> Option<Status> {
+    let most = descriptor_limit()?;
+    if wanted as u64 <= most {
+        return None;
+    }
+    let fault = format_args!("{wanted} descriptors are wanted, and {most} can be had (ulimit -n)");
+    Some(tell(rt, path, fault, Status::Stream))
 }
 
 /// A run of the configuration at this path has ended so, whose words come on a control socket or not: with which status the process

@@ -21,7 +21,8 @@ use Rattle.fax_machine.specs.declared.receiving.ReceiveOptions.{ReceiveOptions}
 use Rattle.fax_request.specs.declared.explain_options.ExplainOptions.{ExplainOptions}
 use Rattle.fax_request.specs.declared.machines.Machines.{Machines}
 use Rattle.fax_request.specs.declared.request.Request.{Request}
-use Rattle.fax_request.specs.declared.request.Request.TheVariants.{Page, Trace, Explain, Capture, Loop, Serve, Say, Send, Receive}
+use Rattle.fax_request.specs.declared.request.Request.TheVariants.{Page, Trace, Explain, Capture, Loop, Serve, Check, Say, Spool, Send, Receive}
+use Rattle.fax_request.specs.SpoolWords.{AreSpoolOptionsOf}
 use Rattle.fax_request.specs.Given.{IsNumberOf, IsFlagOf, IsFormatOf, AreSettingsOf, AreScriptSettingsOf, coding_named, repeat_named}
 
 -- what is made of the input: --back, --pbm
@@ -96,8 +97,10 @@ Asks command given (Explain options) = (command ≡ codes "explain") × AreExpla
 Asks command given (Capture machines) = (command ≡ codes "capture") × AreMachinesOf given machines
 Asks command given (Loop settings) = (command ≡ codes "loop") × AreSettingsOf given settings
 Asks command given (Serve path) = (command ≡ codes "serve") × (path.now ≡ text_given (codes "config") given)
+Asks command given (Check path) = (command ≡ codes "check") × (path.now ≡ text_given (codes "config") given)
 Asks command given (Say socket saying) =
     (command ≡ codes "say") × (socket.now ≡ text_given (codes "socket") given) × (saying ≡ words_said given)
+Asks command given (Spool options) = (command ≡ codes "spool") × AreSpoolOptionsOf given options
 Asks command given (Send options files) =
     (command ≡ codes "send") × AreSendOptionsOf given options × (map (λ file. file.now) files.items ≡ unwrap_or (all_of (codes "file") given) [])
 Asks command given (Receive options) = (command ≡ codes "receive") × AreReceiveOptionsOf given options

@@ -7,6 +7,7 @@ mod machines;
 mod page_words;
 mod request;
 mod say_words;
+mod spool_words;
 mod terminal_words;
 
 pub use explain_options::ExplainOptions;

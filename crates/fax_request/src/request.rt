@@ -8,10 +8,12 @@ use crate::given::{script_settings_of, settings_of, text_of};
 use crate::machines::{Machines, machines_of};
 use crate::page_words::page_options_of;
 use crate::say_words::saying_of;
+use crate::spool_words::spool_options_of;
 use crate::terminal_words::{receive_options_of, send_files_of, send_options_of};
 use clap::{ArgMatches, Error};
 use fax_command::PageOptions;
 use fax_gateway::Settings;
+use fax_listing::SpoolOptions;
 use fax_machine::{ReceiveOptions, SendOptions};
 use fax_say::Saying;
 use fax_words::{faxgate_command, refused_command};
@@ -33,8 +35,12 @@ pub enum Request<'a> {
     Loop(Settings),
     /// A server of the lines that the configuration at this path has.
     Serve(&'a str),
+    /// What the configuration at this path says, and its server wants.
+    Check(&'a str),
     /// A word that is said over the control socket at this path.
     Say(&'a str, Saying),
+    /// What waits in a spool.
+    Spool(SpoolOptions<'a>),
     /// A call of a machine, and the files whose pages are sent.
     Send(SendOptions<'a>, Vec<&'a str>),
     /// Calls that are answered.
@@ -82,9 +88,13 @@ fn request_by<'a>(
         Ok(Request::Loop(settings_of(given)))
     } else if command == "serve" {
         Ok(Request::Serve(text_of(given, "config").unwrap_or("")))
+    } else if command == "check" {
+        Ok(Request::Check(text_of(given, "config").unwrap_or("")))
     } else if command == "say" {
         let socket = text_of(given, "socket").unwrap_or("");
         Ok(Request::Say(socket, saying_of(alloc, given)?))
+    } else if command == "spool" {
+        Ok(Request::Spool(spool_options_of(given)))
     } else if command == "send" {
         Ok(Request::Send(send_options_of(given), send_files_of(alloc, given)?))
     } else if command == "receive" {

@@ -3,6 +3,7 @@ ghost use Rattle.std.specs.Prelude.{◌≡◌, ◌⊎◌, IfErr, IfOk};
 ghost use Rattle.clap.specs.Words.{kind_of};
 
 use crate::capture_line::capture_command;
+use crate::check_line::check_command;
 use crate::explain_line::explain_command;
 use crate::loop_line::loop_command;
 use crate::page_line::page_command;
@@ -10,6 +11,7 @@ use crate::receive_line::receive_command;
 use crate::say_line::say_command;
 use crate::send_line::send_command;
 use crate::serve_line::serve_command;
+use crate::spool_line::spool_command;
 use crate::trace_line::trace_command;
 use clap::error::ErrorKind;
 use clap::{Command, Error};
@@ -24,7 +26,7 @@ pub fn faxgate_command<'a>(alloc: Global) -> Result<Command<'a>, AllocError> {
         .bin_name("faxgate")?
         .version(VERSION)
         .about(
-            "Serves the lines of a fax gateway, reads and writes its pages, plays what came to one, from a capture too, sends a page through one, and sends and receives pages as a machine does",
+            "Serves the lines of a fax gateway, lists what waits in its spool, reads and writes its pages, plays what came to one, from a capture too, sends a page through one, and sends and receives pages as a machine does",
         )
         .subcommand_required(true);
     with_calls(alloc, with_inputs(alloc, command)?)
@@ -44,7 +46,9 @@ fn with_calls<'a>(alloc: Global, command: Command<'a>) -> Result<Command<'a>, Al
     command
         .subcommand(loop_command(alloc)?)?
         .subcommand(serve_command(alloc)?)?
+        .subcommand(check_command(alloc)?)?
         .subcommand(say_command(alloc)?)?
+        .subcommand(spool_command(alloc)?)?
         .subcommand(send_command(alloc)?)?
         .subcommand(receive_command(alloc)?)
 }

@@ -3,6 +3,7 @@
 
 mod building;
 mod capture_line;
+mod check_line;
 mod command_line;
 mod explain_line;
 mod loop_line;
@@ -12,6 +13,7 @@ mod receive_line;
 mod say_line;
 mod send_line;
 mod serve_line;
+mod spool_line;
 mod trace_line;
 
 pub use capture_line::{refused_address, refused_machines};

@@ -1,0 +1,17 @@
+-- What a server has open. (This project's profile.)
+use Rattle.std.specs.Prelude.{ℕ, ◌+◌, ◌*◌, Option, None, Some, length}
+use Rattle.fax_config.specs.declared.config.Config.{Config}
+
+-- a control socket, and 64 clients of it
+abbrev pub of_control : {Path : Type 0} → Option Path → ℕ
+of_control None = 0
+of_control (Some path) = 1 + 64
+
+-- the files of a spool
+abbrev pub of_spool : {Path : Type 0} → Option Path → ℕ
+of_spool None = 0
+of_spool (Some folder) = 2
+
+-- two sockets a line, and beside those the standard streams, what sockets are waited for by, and one to spare
+abbrev pub most_descriptors : Config → ℕ
+most_descriptors config = 2 * length config.lines.items + 5 + of_control config.control + of_spool config.spool

@@ -1,0 +1,159 @@
+//! `faxgate spool`.
+use crate::failures::tell;
+use crate::refusals::tell_no_memory;
+use fax_command::{Status, StdSink, StdSource, StreamFault, fault_of_streams};
+use fax_listing::{FileFault, PictureFiles, SpoolOptions, run_spool};
+use std::fs::OpenOptions;
+use std::io::{Read, Write};
+use std::rt::Files;
+use std::{fs, io};
+
+/// Lists what waits in a spool, and makes pictures of its pages where they are wanted. What is harmed, and what failed, is told on the
+/// standard error.
+pub(crate) fn look_into_spool<R: Print + Eprint + AllocGlobal, H: Files>(
+    rt: &R,
+    host: &H,
+    options: SpoolOptions<'_>,
+) -> Status {
+    let folder = options.folder;
+    let Ok(path) = format!(in rt.alloc(); "{folder}/pages") else {
+        return tell_no_memory(rt);
+    };
+    let Ok(other_path) = format!(in rt.alloc(); "{folder}/pages-wal") else {
+        return tell_no_memory(rt);
+    };
+    let Some((one, other)) = open_both(rt, host, path.as_str(), other_path.as_str()) else {
+        return Status::Stream;
+    };
+    let mut one = StdSource::new(one);
+    let mut other = StdSource::new(other);
+    let mut sink = StdSink::new(io::writer(rt));
+    let mut pictures = NewPictures::new(rt, host);
+    let looked = run_spool(
+        rt.alloc(),
+        &mut one,
+        &mut other,
+        &mut sink,
+        &mut pictures,
+        options,
+    );
+    let _ = rt.eprint(looked.told.as_str());
+    if looked.status == Status::Stream {
+        tell_unread(rt, path.as_str(), &one, &sink);
+        tell_unread(rt, other_path.as_str(), &other, &sink);
+        tell_unwritten(rt, &one, &sink);
+    }
+    looked.status
+}
+
+/// A file of a spool, or none.
+#[derive(Drop)]
+enum SpoolFile<F> {
+    There(F),
+    /// It is not there: as the system says it.
+    Absent(io::Error),
+}
+
+/// One that is absent is as an empty one.
+impl<F: Read> Read for SpoolFile<F> {
+    fn read(&mut self, octets: &mut [u8]) -> io::Result<usize> {
+        match self {
+            SpoolFile::There(file) => file.read(octets),
+            SpoolFile::Absent(_) => Ok(0),
+        }
+    }
+}
+
+/// Opens both files of a spool, of which one may be absent. Where that fails, it is told.
+fn open_both<E: Eprint, H: Files>(
+    rt: &E,
+    host: &H,
+    path: &str,
+    other_path: &str,
+) -> Option<(SpoolFile<H::File>, SpoolFile<H::File>)> {
+    let one = open_if_there(rt, host, path)?;
+    let other = open_if_there(rt, host, other_path)?;
+    if let (SpoolFile::Absent(error), SpoolFile::Absent(_)) = (&one, &other) {
+        tell(rt, format_args!("{path}: {error}"));
+        return None;
+    }
+    Some((one, other))
+}
+
+/// Opens a file, which may be absent. Where that fails, it is told.
+fn open_if_there<E: Eprint, H: Files>(rt: &E, host: &H, path: &str) -> Option<SpoolFile<H::File>> {
+    match fs::open(host, path) {
+        Ok(file) => Some(SpoolFile::There(file)),
+        Err(error) if error.kind() == io::ErrorKind::NotFound => Some(SpoolFile::Absent(error)),
+        Err(error) => {
+            tell(rt, format_args!("{path}: {error}"));
+            None
+        }
+    }
+}
+
+/// Tells why a file could not be read, where that is so.
+fn tell_unread<E: Eprint, R: Read, W: Write>(
+    rt: &E,
+    path: &str,
+    source: &StdSource<R>,
+    sink: &StdSink<W>,
+) {
+    if let Some(StreamFault::Unread(error)) = fault_of_streams(source, sink) {
+        tell(rt, format_args!("{path}: {error}"));
+    }
+}
+
+/// Tells why the standard output failed, where it did and the source did not.
+fn tell_unwritten<E: Eprint, R: Read, W: Write>(rt: &E, source: &StdSource<R>, sink: &StdSink<W>) {
+    if let Some(StreamFault::Unwritten(error)) = fault_of_streams(source, sink) {
+        tell(rt, StreamFault::Unwritten(error));
+    }
+}
+
+/// Makes files of the system, none over one that is there, and tells where that fails.
+#[derive(Drop)]
+struct NewPictures<'a, E: Eprint, H: Files> {
+    stderr: &'a E,
+    host: &'a H,
+    failed: bool,
+}
+
+impl<'a, E: Eprint, H: Files> NewPictures<'a, E, H> {
+    /// None was made.
+    fn new(stderr: &'a E, host: &'a H) -> Self {
+        NewPictures {
+            stderr,
+            host,
+            failed: false,
+        }
+    }
+
+    /// Makes a file of the system.
+    fn write(&self, name: &str, octets: &[u8]) -> io::Result<()> {
+        let mut file = OpenOptions::new()
+            .write(true)
+            .create_new(true)
+            .open(self.host, name)?;
+        file.write_all(octets)
+    }
+}
+
+impl<E: Eprint, H: Files> PictureFiles for NewPictures<'_, E, H> {
+    ghost use Rattle.std.specs.Prelude.{None};
+
+    ghost made = { λ pictures. None };
+
+    ghost failed = { λ pictures. pictures.failed };
+
+    fn make(&mut self, name: &str, octets: &[u8]) -> Result<(), FileFault> {
+        match self.write(name, octets) {
+            Ok(()) => Ok(()),
+            Err(error) => {
+                tell(self.stderr, format_args!("{name}: {error}"));
+                self.failed = true;
+                Err(FileFault)
+            }
+        }
+    }
+}

@@ -1,0 +1,33 @@
+//! What `faxgate spool` is asked for.
+ghost use Rattle.clap.specs.Words.{found_of, rows_of};
+ghost use Rattle.fax_request.specs.SpoolWords.{AreSpoolOptionsOf, IsChoiceOf};
+
+use crate::given::{number_of, text_of};
+use clap::ArgMatches;
+use fax_listing::{Choice, SpoolOptions};
+
+/// The options that were given to `faxgate spool`.
+pub(crate) fn spool_options_of<'a>(given: &ArgMatches<'a>) -> SpoolOptions<'a>
+    ensures { AreSpoolOptionsOf (rows_of (found_of given.now)) result }
+{
+    SpoolOptions {
+        folder: text_of(given, "folder").unwrap_or(""),
+        pages: text_of(given, "pages"),
+        choice: choice_of(given),
+    }
+}
+
+/// The job that is chosen, where a line was given.
+fn choice_of<'a>(given: &ArgMatches<'a>) -> Option<Choice<'a>>
+    ensures { IsChoiceOf (rows_of (found_of given.now)) result }
+{
+    let most = u64::from(u32::MAX);
+    let Some(line) = text_of(given, "line") else {
+        return None;
+    };
+    Some(Choice {
+        line,
+        life: number_of(given, "life", 0, most, 0) as u32,
+        call: number_of(given, "call", 0, most, 0) as u32,
+    })
+}
