@@ -44,9 +44,9 @@ format:
 	for crate in crates/*/; do (cd "$$crate" && $(RT) fmt) || exit 1; done
 
 # Refuses each allocation of a run in turn, both ways and in both codings, of scripts, of a page over sockets, and each of a
-# page that is read and written in pieces, of faults that the calls for C tell without memory, of a whole call of the
-# answering and of the calling side, of one through the gateway, and of one that is driven over a wire. It wants a C
-# compiler, and a minute at most behind the proofs of the crates.
+# page that is read and written in pieces, of faults that the calls for C tell without memory, of a whole call through the
+# gateway, and of one that is driven over a wire. It wants a C compiler, and a minute at most behind the proofs of the
+# crates.
 memory: all bench/c_tests
 	tools/refuse-memory $(PROGRAM) samples/hello.hex page
 	tools/refuse-memory $(PROGRAM) samples/hello.hex page --pbm
@@ -61,8 +61,6 @@ memory: all bench/c_tests
 	tools/refuse-test-memory crates/codec_tests/out/codec_tests_tests pagestore::memory::a_page_that_is_refused_memory
 	tools/refuse-test-memory bench/c_tests faults_that_want_no_memory_are_told
 	cd crates/call_tests && $(RT) test > /dev/null
-	tools/refuse-test-memory crates/call_tests/out/call_tests_tests answer::memory::a_call_that_is_refused_memory
-	tools/refuse-test-memory crates/call_tests/out/call_tests_tests caller::memory::a_call_that_is_refused_memory
 	tools/refuse-test-memory crates/call_tests/out/call_tests_tests gateway::a_page_goes_through_the_gateway
 	tools/refuse-test-memory crates/call_tests/out/call_tests_tests gateway::driving::a_run_that_is_refused_memory
 
